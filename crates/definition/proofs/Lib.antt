@@ -1,0 +1,4 @@
+pub mod Basics
+pub mod Table
+pub mod Cases
+pub mod Departures

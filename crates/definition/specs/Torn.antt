@@ -1,0 +1,259 @@
+-- 01's torn sheet, "Torn unless all hold": each sentence is a test of its own over the world, and `Sound` has a field for each. A later call on a
+-- torn world is refused 6 and changes nothing; on a sound one it is the step of the store that the world stands for.
+use Prim.Native.Nat.{ℕ, zero, suc, _+_, _-_, _*_, _/_, _%_}
+use mathlib.Core.Bool.{Bool, true, false, not, cond, _&&_, _||_}
+use mathlib.Core.List.{List, [], _∷_, _++_}
+use mathlib.Core.Option.{Option, none, some}
+use mathlib.Core.Path.{_≡_}
+use lib.Dec.{leb, ltb, eqb}
+use lib.ListN.{length, getD, drop}
+use Rattle.definition.specs.declared.Record.{Record}
+use Rattle.definition.specs.declared.Links.{Links}
+use Rattle.definition.specs.declared.Row.{Row}
+use Rattle.definition.specs.declared.MemoryRegion.{MemoryRegion}
+use Rattle.definition.specs.declared.Refusal.{Refusal}
+use Rattle.definition.specs.declared.Refusal.the-variants.{Torn}
+use Rattle.definition.specs.Board.{Board}
+use Rattle.definition.specs.Basics.{all, sum, range, member, bit}
+use Rattle.definition.specs.Frame.{size, levels, slot}
+use Rattle.definition.specs.Allocator.{AllocationRegion, tablePages, first, managed, end, total}
+use Rattle.definition.specs.Boot.{managedPages, overlap, mostRows, highestAddress, mostPages, recordSize, bootSheet, keptRegions, boot}
+use Rattle.definition.specs.Refusal.{lowest}
+use Rattle.definition.specs.Calls.{Call, Answer, Refused, Done, Outcome, step}
+use Rattle.definition.specs.World.{World, recordAt, isAdmitted, noLinks, pagesOf, usedRows, bareRegion, memoryOf, decode, encode}
+
+-- ---- "the rows' starts and pages are such as boot makes"
+
+abbrev pub isNoLinks : Links → Bool
+isNoLinks l = eqb (l .front) 0 && (eqb (l .back) 0 && eqb (l .count) 0)
+
+abbrev pub isNoRow : Row → Bool
+isNoRow row = eqb (row .start .0) 0 && (eqb (row .pages) 0 && all isNoLinks (row .lists))
+
+unfoldable pub bareRegions : Board → List Row → List AllocationRegion
+bareRegions b [] = []
+bareRegions b (row ∷ rows) = bareRegion b row ∷ bareRegions b rows
+
+-- the regions of a world
+abbrev pub regionsOf : Board → World → List AllocationRegion
+regionsOf b w = bareRegions b (usedRows (w .rows))
+
+-- a page edge, more than one page and more than the tables, an end by 2^40
+abbrev pub rowAsBoot : Board → Row → Bool
+rowAsBoot b row =
+    eqb (row .start .0 % b .page) 0
+    && (ltb 1 (row .pages) && (ltb (tablePages b (row .pages)) (row .pages) && leb (row .start .0 + b .page * row .pages) highestAddress))
+
+abbrev pub sixLists : Row → Bool
+sixLists row = eqb (length (row .lists)) (slot levels false)
+
+unfoldable pub rowsAsBoot : Board → World → Bool
+rowsAsBoot b w =
+    eqb (length (w .rows)) mostRows
+    && (all sixLists (w .rows)
+    && (all isNoRow (drop (length (usedRows (w .rows))) (w .rows))
+    && (all (rowAsBoot b) (usedRows (w .rows)) && (not (overlap b (regionsOf b w)) && leb (total (regionsOf b w)) mostPages))))
+
+-- ---- "and the loans long enough"
+
+unfoldable pub loansLong : Board → World → Bool
+loansLong b w =
+    leb (recordSize * managedPages b (regionsOf b w)) (length (w .records)) && leb (b .page * managedPages b (regionsOf b w)) (length (w .memory))
+
+-- ---- a row with the page number of its first managed page
+
+pub record Placed : Type 0 where
+  pub base : ℕ
+  pub row : Row
+
+unfoldable pub placedFrom : Board → ℕ → List Row → List Placed
+placedFrom b base [] = []
+placedFrom b base (row ∷ rows) = record { base = base; row = row } ∷ placedFrom b (base + managed b (bareRegion b row)) rows
+
+abbrev pub placed : Board → World → List Placed
+placed b w = placedFrom b 0 (usedRows (w .rows))
+
+-- the page number behind its last
+abbrev pub past : Board → Placed → ℕ
+past b x = x .base + managed b (bareRegion b (x .row))
+
+abbrev pub Records : Type 0
+Records = ℕ → Record
+
+abbrev pub isHeldRecord : Record → Bool
+isHeldRecord r = eqb (r .marks / 2 % 2) 1
+
+-- a frame's pages by its record; of a level that is none, 1, so that the stepping goes on
+abbrev pub pagesOfRecord : Record → ℕ
+pagesOfRecord r = cond (ltb (r .level) levels) (size (r .level)) 1
+
+-- ---- "stepping by frame size from each region's first managed page meets ADMITTED, aligned heads of level 0 to 2 with no mark bits but those
+-- named, ending at its end, zeros inside"
+
+unfoldable pub headsFrom : Records → ℕ → ℕ → ℕ → List ℕ
+headsFrom f zero at past = []
+headsFrom f (suc fuel) at past = cond (leb past at) [] (at ∷ headsFrom f fuel (at + pagesOfRecord (f at)) past)
+
+abbrev pub heads : Board → Records → Placed → List ℕ
+heads b f x = headsFrom f (past b x - x .base) (x .base) (past b x)
+
+abbrev pub isBlank : Record → Bool
+isBlank r = eqb (r .marks) 0 && (eqb (r .level) 0 && (eqb (r .earlier) 0 && eqb (r .later) 0))
+
+-- the page frame number of the page h
+abbrev pub frameNumber : Board → Placed → ℕ → ℕ
+frameNumber b x h = first b (bareRegion b (x .row)) + (h - x .base)
+
+abbrev pub isHead : Board → Records → Placed → ℕ → Bool
+isHead b f x h =
+    isAdmitted (f h)
+    && (ltb (f h .marks) 16
+    && (ltb (f h .level) levels
+    && (eqb (frameNumber b x h % size (f h .level)) 0
+    && (leb (h + size (f h .level)) (past b x) && all (λ q. isBlank (f q)) (range (h + 1) (size (f h .level) - 1))))))
+
+unfoldable pub tiled : Board → Records → List Placed → Bool
+tiled b f xs = all (λ x. all (isHead b f x) (heads b f x)) xs
+
+-- ---- "held heads have neighbours 0"
+
+abbrev pub aloneIfHeld : Record → Bool
+aloneIfHeld r = not (isHeldRecord r) || (eqb (r .earlier) 0 && eqb (r .later) 0)
+
+unfoldable pub heldAlone : Board → Records → List Placed → Bool
+heldAlone b f xs = all (λ x. all (λ h. aloneIfHeld (f h)) (heads b f x)) xs
+
+-- ---- "each list walks front to back in its count, both ways, over unheld frames of its region, level and mark"
+
+-- the list that an unheld head belongs on
+abbrev pub classOf : Record → ℕ
+classOf r = r .level * 2 + r .marks / 4 % 2
+
+-- the number x names an unheld frame of the region and the list k, whose earlier neighbour is prev
+abbrev pub isNode : Board → Records → Placed → ℕ → ℕ → ℕ → Bool
+isNode b f x k prev at =
+    ltb (x .base) at
+    && (leb at (past b x)
+    && (isAdmitted (f (at - 1))
+    && (not (isHeldRecord (f (at - 1))) && (eqb (classOf (f (at - 1))) k && eqb (f (at - 1) .earlier) prev))))
+
+unfoldable pub walks : Board → Records → Placed → ℕ → (count prev at last : ℕ) → Bool
+walks b f x k zero prev at last = eqb at 0 && eqb prev last
+walks b f x k (suc n) prev at last = isNode b f x k prev at && walks b f x k n at (f (at - 1) .later) last
+
+abbrev pub linksAt : Placed → ℕ → Links
+linksAt x k = getD (x .row .lists) k noLinks
+
+abbrev pub listWalks : Board → Records → Placed → ℕ → Bool
+listWalks b f x k = walks b f x k (linksAt x k .count) 0 (linksAt x k .front) (linksAt x k .back)
+
+unfoldable pub listsWalk : Board → Records → List Placed → Bool
+listsWalk b f xs = all (λ x. all (listWalks b f x) (range 0 (slot levels false))) xs
+
+-- ---- "every unheld head is on a list"
+
+abbrev pub onItsList : Records → Placed → ℕ → Bool
+onItsList f x h = isHeldRecord (f h) || member h (pagesOf f (linksAt x (classOf (f h))))
+
+unfoldable pub unheldListed : Board → Records → List Placed → Bool
+unheldListed b f xs = all (λ x. all (onItsList f x) (heads b f x)) xs
+
+-- ---- "idle, total, kernel and page counts equal those of the rows and records, as demand 3 says, but with held and KERNEL read off the heads' marks"
+
+-- the pages on the list k of a row
+abbrev pub listedOn : Placed → ℕ → ℕ
+listedOn x k = size (k / 2) * linksAt x k .count
+
+abbrev pub listedPages : Placed → ℕ
+listedPages x = sum (listedOn x) (range 0 (slot levels false))
+
+abbrev pub tablesOf : Board → Placed → ℕ
+tablesOf b x = tablePages b (x .row .pages)
+
+-- the pages of a head where it is held, with KERNEL or without as asked
+abbrev pub heldAs : Bool → Record → ℕ
+heldAs kernel r = cond (isHeldRecord r && eqb (r .marks / 8 % 2) (bit kernel)) (pagesOfRecord r) 0
+
+unfoldable pub heldPages : Board → Records → Bool → List Placed → ℕ
+heldPages b f kernel xs = sum (λ x. sum (λ h. heldAs kernel (f h)) (heads b f x)) xs
+
+abbrev pub idleCounts : Board → World → Bool
+idleCounts b w = eqb (w .counters .idle) (sum (λ x. listedPages x + tablesOf b x) (placed b w))
+
+abbrev pub totalCounts : Board → World → Bool
+totalCounts b w = eqb (w .counters .total) (total (regionsOf b w))
+
+abbrev pub kernelCounts : Board → World → Bool
+kernelCounts b w = eqb (w .counters .«kernel_used») (heldPages b (recordAt (w .records)) true (placed b w))
+
+abbrev pub pageCounts : Board → World → Bool
+pageCounts b w = eqb (w .counters .«page_data») (heldPages b (recordAt (w .records)) false (placed b w))
+
+-- ---- "`waiting` is 0; the queue's count is within its loan; pass rounds are at most 1,001 and freed at most 100 × rounds"
+
+abbrev pub noneWaiting : World → Bool
+noneWaiting w = eqb (w .counters .waiting) 0
+
+abbrev pub queueWithin : World → Bool
+queueWithin w = leb (w .queued) (length (w .queue))
+
+abbrev pub passWithin : Board → World → Bool
+passWithin b w = leb (w .pass .rounds) (b .maxRounds + 1) && leb (w .pass .freed) (b .perRound * w .pass .rounds)
+
+-- ---- the sheet
+
+pub record Sound (b : Board) (w : World) : Type 0 where
+  pub rows : rowsAsBoot b w ≡ true
+  pub loans : loansLong b w ≡ true
+  pub tiling : tiled b (recordAt (w .records)) (placed b w) ≡ true
+  pub alone : heldAlone b (recordAt (w .records)) (placed b w) ≡ true
+  pub lists : listsWalk b (recordAt (w .records)) (placed b w) ≡ true
+  pub listed : unheldListed b (recordAt (w .records)) (placed b w) ≡ true
+  pub idle : idleCounts b w ≡ true
+  pub totals : totalCounts b w ≡ true
+  pub kernel : kernelCounts b w ≡ true
+  pub page : pageCounts b w ≡ true
+  pub waiting : noneWaiting w ≡ true
+  pub queue : queueWithin w ≡ true
+  pub pass : passWithin b w ≡ true
+
+-- the same as one test
+unfoldable pub sound : Board → World → Bool
+sound b w =
+    rowsAsBoot b w
+    && (loansLong b w
+    && (tiled b (recordAt (w .records)) (placed b w)
+    && (heldAlone b (recordAt (w .records)) (placed b w)
+    && (listsWalk b (recordAt (w .records)) (placed b w)
+    && (unheldListed b (recordAt (w .records)) (placed b w)
+    && (idleCounts b w && (totalCounts b w && (kernelCounts b w && (pageCounts b w && (noneWaiting w && (queueWithin w && passWithin b w)))))))))))
+
+-- ---- what a call leaves and answers
+
+pub record Left : Type 0 where
+  pub world : World
+  pub answer : Answer
+
+abbrev pub untouched : World → Refusal → Left
+untouched w r = record { world = w; answer = Refused r }
+
+abbrev pub written : Board → World → Outcome → Left
+written b w o = record { world = encode b (o .store) w; answer = o .answer }
+
+-- a later call
+unfoldable pub call : Board → World → Call → Left
+call b w c = cond (sound b w) (written b w (step b (decode b w) c)) (untouched w Torn)
+
+abbrev pub booted : Board → List MemoryRegion → World → Left
+booted b map w =
+    record {
+      world = encode b (boot b map (memoryOf b (w .memory) (keptRegions b map)) (length (w .queue))) w;
+      answer = Done 0 (b .page * managedPages b (keptRegions b map));
+    }
+
+abbrev pub unlessRefused : World → Option Refusal → Left → Left
+unlessRefused w refusal l = elim refusal [ some r ↦ untouched w r | none ↦ l ]
+
+-- a boot, which looks at nothing of the world but the lengths of its loans
+unfoldable pub bootCall : Board → List MemoryRegion → World → Left
+bootCall b map w = unlessRefused w (lowest (bootSheet b map (length (w .records)) (length (w .memory)))) (booted b map w)
