@@ -2,7 +2,7 @@
 //! before it left in the reference, so that it is on common ground and meets
 //! frames that are held, queued or marked.
 
-use oracle::Call;
+use oracle::{Answer, Call};
 
 use crate::{
     map::{self, PAGE},
@@ -96,15 +96,20 @@ struct Maker<'a> {
 }
 
 impl Maker<'_> {
-    /// A frame that was zeroed is often freed next, as that fills the zeroed
-    /// lists.
+    /// A large frame is often zeroed once it is granted, and a zeroed frame
+    /// freed, as that fills the zeroed lists.
     fn follow(&mut self) -> Option<Call> {
-        let &Call::Zero(address) = self.recorder.calls.last()? else {
-            return None;
-        };
-        let frame = self.one_of(|frame| frame.address == address && !frame.queued)?;
-        let share = if frame.size > SMALL { 60 } else { 35 };
-        self.random.percent(share).then_some(Call::Free(frame.address))
+        match (self.recorder.calls.last()?, self.recorder.answers.last()?) {
+            (Call::Alloc { .. }, &Answer::Done { address, bytes }) if bytes > SMALL => {
+                self.random.percent(35).then_some(Call::Zero(address))
+            }
+            (&Call::Zero(address), &Answer::Done { bytes, .. }) => {
+                let share = if bytes > SMALL { 65 } else { 35 };
+                let queued = self.recorder.dump.queue.contains(&address);
+                (!queued && self.random.percent(share)).then_some(Call::Free(address))
+            }
+            _ => None,
+        }
     }
 
     /// None where the state has nothing that the call could name.
@@ -112,8 +117,11 @@ impl Maker<'_> {
         Some(match op {
             Op::Alloc => {
                 let share = if self.view.medium_listed { 20 } else { 3 };
-                let size = self.size(share);
-                Call::Alloc { size, align: self.align(size), options: self.options() }
+                // A small grant then splits the large frame.
+                let split = self.view.zeroed_medium_listed && self.random.percent(40);
+                let size = if split { SMALL } else { self.size(share) };
+                let options = if split { ZEROED } else { self.options() };
+                Call::Alloc { size, align: self.align(size), options }
             }
             Op::Take => {
                 let share = if self.view.medium_listed { 70 } else { 10 };

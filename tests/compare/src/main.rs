@@ -24,7 +24,7 @@ use std::process::ExitCode;
 use options::{Options, USAGE};
 use record::Recorded;
 use report::grouped;
-use scratch::{Failure, Scratch};
+use scratch::Scratch;
 use statistics::Statistics;
 
 fn main() -> ExitCode {
@@ -56,41 +56,40 @@ fn compare(options: &Options) -> Result<bool, String> {
     let counts = format!("{} lists, {} calls", grouped(lists.len() as u64), grouped(calls));
     let failing =
         scratch.failing(lists.iter().map(|(name, run)| antt::whole(name, run)).collect())?;
-    let (differing, untold): (Vec<_>, Vec<_>) = failing.iter().partition(|it| it.is_difference());
-    let names = |failures: &[&Failure]| {
-        report::some_of(&failures.iter().map(|it| it.name.as_str()).collect::<Vec<_>>())
+    let failed = |name: &str, difference: bool| {
+        failing.iter().any(|it| it.name == name && it.is_difference() == difference)
     };
+    let (differing, others): (Vec<_>, Vec<_>) = lists.iter().partition(|it| failed(&it.0, true));
+    let untold: Vec<_> = others.into_iter().filter(|it| failed(&it.0, false)).collect();
 
-    // The one that is checked soonest is shortened soonest.
-    let differs = |name: &str| differing.iter().any(|failure| failure.name == name);
-    let soonest =
-        lists.iter().filter(|(name, _)| differs(name)).min_by_key(|(_, run)| antt::cost(run));
-    if let Some((name, run)) = soonest {
-        println!("these lists differ: {}", names(&differing));
+    // The list that is checked soonest is shortened soonest.
+    if let Some((name, run)) = differing.iter().min_by_key(|(_, run)| antt::cost(run)) {
+        println!("these lists differ: {}", report::names(&differing));
         println!("{name}, made as short as it goes:");
         let shortest = shrink::shortest(&scratch, run.clone())?;
         print!("{}", report::script(&shortest));
-        for failure in scratch.failing(antt::parts("shortest", &shortest))? {
-            print!("{}", report::difference(&failure));
+        let parts = scratch.failing(antt::parts("shortest", &shortest))?;
+        for part in parts.iter().filter(|it| it.is_difference()) {
+            print!("{}", report::difference(part));
         }
         println!("compare: {counts}, {} differ", grouped(differing.len() as u64));
         return Ok(false);
     }
     if !untold.is_empty() {
-        return Err(format!("{counts}, too much for the checker in {}", names(&untold)));
+        return Err(format!("{counts}, too much for the checker in {}", report::names(&untold)));
     }
     println!("compare: {counts}, no difference");
     Ok(true)
 }
 
-/// Lists with the names of their theorems.
-type Named = Vec<(String, Recorded)>;
+/// A list with the name of its theorem.
+type Named = (String, Recorded);
 
-fn fixed_lists() -> Named {
+fn fixed_lists() -> Vec<Named> {
     fixed::lists().into_iter().map(|(name, run)| (format!("fixed-{name}"), run)).collect()
 }
 
-fn random_lists(options: &Options) -> Named {
+fn random_lists(options: &Options) -> Vec<Named> {
     let list = |index| {
         let name = format!("seed-{}-list-{index}", options.seed);
         (name, generate::list(options.seed, index, options.calls))

@@ -30,13 +30,11 @@ pub fn random(random: &mut Random) -> Vec<Entry> {
     let mut map = Vec::new();
     if random.percent(97) {
         let kept = random.weighted(&[(1, 40), (2, 35), (3, 25)]);
-        // Large frames take the checker long: about a third of the lists has
-        // them, mostly in the first region, whose small frames are soon granted.
-        let large = random.percent(35).then(|| random.within(0..=2) * random.within(0..=1) % kept);
+        let large = large_regions(random, kept);
         let mut free = base(random);
         for region in 0..kept {
             let shape =
-                if large == Some(region) { large_shape(random) } else { small_shape(random) };
+                if large.contains(&region) { large_shape(random) } else { small_shape(random) };
             let first = place(random, &shape, free);
             map.push(kept_entry(random, first, shape.pages));
             free = first + shape.pages;
@@ -46,11 +44,23 @@ pub fn random(random: &mut Random) -> Vec<Entry> {
             random.shuffle(&mut map);
         }
     }
-    for _ in 0..random.weighted(&[(0, 55), (1, 30), (2, 15)]) {
+    for _ in 0..random.weighted(&[(0, 55), (1, 25), (2, 15), (5, 5)]) {
         let place = random.within(0..=map.len() as u64) as usize;
         map.insert(place, skipped_entry(random));
     }
     map
+}
+
+/// The regions with large frames. These take the checker long: about a third of
+/// the lists has any, mostly the first region, whose small frames are soon
+/// granted, now and then two.
+fn large_regions(random: &mut Random, kept: u64) -> Vec<u64> {
+    if !random.percent(35) {
+        return Vec::new();
+    }
+    let count = random.weighted(&[(1, 85), (2, 15)]);
+    let first = random.within(0..=2) * random.within(0..=1);
+    (first..first + count).map(|region| region % kept).collect()
 }
 
 /// The first page from which regions are placed.

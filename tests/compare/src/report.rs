@@ -1,7 +1,7 @@
 //! What is printed of a list that differs: its script with the reference's
 //! answers, and which parts the definitions give otherwise.
 
-use crate::{record::Recorded, scratch::Failure};
+use crate::{record::Recorded, scratch::Failure, Named};
 
 /// Of more equal lines, the ones in the middle are left out.
 const MOST_EQUAL: usize = 6;
@@ -56,14 +56,14 @@ fn first_difference(message: &str) -> Option<(&str, &str)> {
     Some((expected, found))
 }
 
-/// Some names, and how many more there are.
-pub fn some_of(names: &[&str]) -> String {
-    let shown = names.len().min(MOST_NAMES);
-    let more = match names.len() - shown {
-        0 => String::new(),
-        more => format!(" and {} more", grouped(more as u64)),
-    };
-    names[..shown].join(", ") + &more
+/// The names of lists, or of the first of them.
+pub fn names(lists: &[&Named]) -> String {
+    let first = lists.iter().take(MOST_NAMES).map(|(name, _)| name.as_str());
+    let text = first.collect::<Vec<_>>().join(", ");
+    match lists.len().saturating_sub(MOST_NAMES) {
+        0 => text,
+        more => format!("{text} and {} more", grouped(more as u64)),
+    }
 }
 
 /// A number with commas between its thousands.

@@ -36,8 +36,9 @@ pub struct View {
     pub held: Vec<Held>,
     /// Whether a 2 MiB frame is on a list.
     pub medium_listed: bool,
-    /// Whether a zeroed frame is on a list.
+    /// Whether a zeroed frame is on a list, and one of 2 MiB.
     pub zeroed_listed: bool,
+    pub zeroed_medium_listed: bool,
     pub total: u64,
     pub outstanding: u64,
 }
@@ -61,6 +62,7 @@ impl View {
                 .collect(),
             medium_listed: is_listed(&[2, 3]),
             zeroed_listed: is_listed(&[1, 3, 5]),
+            zeroed_medium_listed: is_listed(&[3]),
             total: dump.counters[TOTAL],
             outstanding: dump.counters[OUTSTANDING],
         }

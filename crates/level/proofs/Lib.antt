@@ -1,0 +1,4 @@
+pub mod Ranks
+pub mod Sizes
+pub mod Choice
+pub mod PowerOfTwo

@@ -1,0 +1,21 @@
+-- `record::earlier` meets its contract: it reads the third number of the record.
+use borrow.Author.Needs.{needs}
+use Rattle.definition.specs.World.{recordAt}
+use Rattle.record.proofs.earlier.Statement.{statement}
+use Rattle.record.proofs.earlier.Tie as tie
+
+mul-get : tie.Need-mul-get
+mul-get c = search needs
+
+add-get : tie.Need-add-get
+add-get c = search needs
+
+get-requires : tie.Need-get-requires
+get-requires c κs = search needs
+
+returns : tie.Need-returns
+unfolding recordAt
+returns c = c .get .ensures
+
+pub earlier-spec : {M : Type 1} → statement M
+earlier-spec = tie.close (tie.spec mul-get add-get get-requires returns)

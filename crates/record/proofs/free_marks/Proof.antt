@@ -1,0 +1,26 @@
+use mathlib.Core.Path.{_≡_, refl}
+use native.Mathlib.Omega.{arith}
+use Prim.Native.Nat.{ℕ}
+use Rattle.record.proofs.free_marks.Statement.{statement}
+use Rattle.record.proofs.free_marks.Tie as tie
+use Rattle.record.proofs.free_marks.Reads as reads
+use Rattle.record.proofs.free_marks.Lts as lts
+
+-- src/lib.rt:73:1
+returns : tie.Need-returns
+returns c = rw (c .before .if1 .taken, c .if2 .taken) refl
+
+-- src/lib.rt:73:1
+returns-2 : tie.Need-returns-2
+returns-2 c = rw (c .before .if1 .taken, c .if2 .left) refl
+
+-- src/lib.rt:73:1
+returns-3 : tie.Need-returns-3
+returns-3 c = rw (c .before .if1 .left, c .if3 .taken) refl
+
+-- src/lib.rt:73:1
+returns-4 : tie.Need-returns-4
+returns-4 c = rw (c .before .if1 .left, c .if3 .left) refl
+
+pub free-marks-spec : {M : Type 1} → statement M
+free-marks-spec = tie.close (tie.spec returns returns-2 returns-3 returns-4)

@@ -1,0 +1,65 @@
+-- A held frame goes back on its list.
+use Prim.Native.Nat.{ℕ, _/_, _%_, _<_}
+use mathlib.Core.Bool.{Bool, true, false}
+use mathlib.Core.Option.{Option, none, some}
+use mathlib.Core.Path.{_≡_, refl, sym, ap, _∙_}
+use native.Mathlib.Decide.{decLt}
+use native.Mathlib.Omega.{arith}
+use lib.Dec.{eqb}
+use Rattle.definition.specs.Frame.{Frame, Levels, free, freed, isAllocated, isZeroed}
+use Rattle.definition.specs.World.{levelOf, marksOf, slotOf}
+use Rattle.definition.specs.declared.Record.{Record}
+use Rattle.definition.specs.declared.Row.{Row}
+use Rattle.list.proofs.Laws.{all-map}
+use Rattle.list.specs.Linked.{Out}
+use Rattle.list.specs.Linked.All.{all-none}
+use Rattle.region.specs.Rep.{Held, Rep, Whole, listUp}
+use Rattle.region.proofs.Splitting.{zeroed-mark}
+
+abbrev isKernel : Option Frame → Bool
+isKernel none = false
+isKernel (some a) = a .kernel
+
+kernel-of : (x : Option Frame) → eqb (marksOf x / 8 % 2) 1 ≡ isKernel x
+kernel-of none = refl
+kernel-of (some a) = bits (a .allocated) (a .zeroed) (a .kernel)
+  where
+    bits : (x y z : Bool) → eqb (marksOf (some (record { level = 0; allocated = x; zeroed = y; kernel = z })) / 8 % 2) 1 ≡ z
+    bits true true true = refl
+    bits true true false = refl
+    bits true false true = refl
+    bits true false false = refl
+    bits false true true = refl
+    bits false true false = refl
+    bits false false true = refl
+    bits false false false = refl
+
+held-slot : (x : Option Frame) → isAllocated x ≡ true → slotOf x ≡ 6
+held-slot none h = refl
+held-slot (some a) h = rw h refl
+
+held-free : (s : Levels) (p : ℕ) (x : Option Frame) → isAllocated x ≡ true → listUp s p (levelOf x) (isZeroed x) (isKernel x) ≡ freed s p x
+held-free s p none h = let z : _≡_ {A = ℕ} 0 1 = cc in absurd (omega arith)
+held-free s p (some a) h = refl
+
+module _ {f : ℕ → Record} {n first : ℕ} {row : Row} {s : Levels} {p : ℕ} (R : Rep f n first row s) (H : Held s first (row .pages) p) where
+  pub held-page : p < n
+  held-page = omega (arith, H .inside .high, R .fits)
+
+  pub held-out : (k : ℕ) → Out p (s .free k)
+  held-out k = go (decLt k 6)
+    where
+      go : Dec (k < 6) → Out p (s .free k)
+      go (yes d) = all-map (λ q a e. absurd (omega (arith, sym (a .slotted) ∙ ap (λ (x : ℕ). slotOf (s .frames x)) (sym e) ∙ held-slot (s .frames p) (H .held)))) (R .listed k)
+      go (no d) = rw (R .beyond k (omega arith)) all-none
+
+  pub held-level : {loose : Option ℕ} {from : ℕ} → Whole s loose from first (row .pages) → f p .level < 3
+  held-level {loose} {from} Wh = rw (R .level p (H .inside)) (go (s .frames p) refl)
+    where
+      go : (x : Option Frame) → s .frames p ≡ x → levelOf x < 3
+      go none e = omega arith
+      go (some a) e = Wh .tile p a (H .inside) e .level
+
+  pub free-is : listUp s p (f p .level) (eqb (f p .marks / 4 % 2) 1) (eqb (f p .marks / 8 % 2) 1) ≡ free s p
+  unfolding free
+  free-is = rw (zeroed-mark p (H .inside) R, R .marks p (H .inside), kernel-of (s .frames p), R .level p (H .inside)) (held-free s p (s .frames p) (H .held))

@@ -1,0 +1,71 @@
+-- A frame that was found is held.
+use Prim.Native.Nat.{ℕ, _+_, _-_, _*_, _≤_, _<_}
+use mathlib.Core.Bool.{Bool, true, false}
+use mathlib.Core.Option.{none, some}
+use mathlib.Core.Path.{_≡_, refl, sym, ap, _∙_}
+use native.Mathlib.Omega.{arith}
+use Rattle.definition.specs.Basics.{bit}
+use Rattle.definition.specs.Frame.{Found, Levels, allocate, changed, doAllocate, kept, setAllocated, withAllocated}
+use Rattle.definition.specs.World.{levelOf, marksOf}
+use Rattle.definition.specs.declared.Record.{Record}
+use Rattle.definition.specs.declared.Row.{Row}
+use Rattle.record.specs.Records.{withMarks}
+use Rattle.region.specs.Rep.{Answers, Inside, Rep, Whole, fromOf, holdAt, pageOf}
+use Rattle.region.specs.declared.FoundPage.the-variants.{At, Nothing}
+use Rattle.region.specs.declared.Got.{Got}
+use Rattle.region.proofs.Laws.{then, marked-as}
+use Rattle.region.proofs.Tiling.{Ready, rep-kept, fine-do}
+
+bit-small : (b : Bool) → bit b ≤ 1
+bit-small true = omega arith
+bit-small false = omega arith
+
+pub granted-none : (a : Found) → a .page ≡ none → setAllocated a ≡ a
+granted-none a e = rw e refl
+
+pub granted-page : (a : Found) (p : ℕ) → a .page ≡ some p → setAllocated a ≡ record { levels = holdAt (a .levels) p; page = some p }
+granted-page a p e = rw e refl
+
+module _
+    {f g : ℕ → Record} {n m first : ℕ} {row : Row} {r : Got} (s : Levels) (l : ℕ) (t o : Bool) (R : Rep f n first row s) (T : Whole s none (fromOf row) first (row .pages))
+    (h : l < 3) (A : Answers f first row g m r (doAllocate (3 - l) l s t o))
+  where
+    abbrev a : Found
+    a = doAllocate (3 - l) l s t o
+
+    pub not-granted : r .found ≡ Nothing → Answers f first row g m r (allocate l s t o)
+    unfolding allocate
+    not-granted e = rw (granted-none a (sym (A .found) ∙ ap pageOf e)) A
+
+    module _ (p : ℕ) (e : r .found ≡ At p) where
+      paged : a .page ≡ some p
+      paged = sym (A .found) ∙ ap pageOf e
+
+      y : Ready (a .levels) first (row .pages) l p false
+      y = fine-do (3 - l) l t o (record { kept = rep-kept R; whole = T }) (omega arith) .ready p paged
+
+      inside : Inside first (r .row .pages) p
+      inside = rw (A .became .pages) (y .inside)
+
+      pub grant-inside : p < m
+      grant-inside = omega (arith, inside .high, A .became .rep .fits)
+
+      marks : g p .marks ≡ 1 + 2 * 0 + 4 * bit (y .frame .zeroed) + 8 * bit (y .frame .kernel)
+      marks = A .became .rep .marks p inside ∙ ap marksOf (y .here) ∙ rw (y .held-so) refl
+
+      pub grant-small : g p .marks < 16
+      grant-small = omega (arith, marks, bit-small (y .frame .zeroed), bit-small (y .frame .kernel))
+
+      pub grant : Answers f first row (withMarks g p (g p .marks + 2)) m r (allocate l s t o)
+      unfolding allocate
+      grant =
+          rw (granted-page a p paged)
+          (record {
+            became =
+                then (A .became)
+                (rw (y .here)
+                (marked-as (changed (withAllocated true) (some (y .frame))) (A .became .rep) inside (y .out) (omega (arith, marks))
+                (A .became .rep .level p inside ∙ ap levelOf (y .here))
+                (let z = A .became .rep .loose p inside (y .out) in record { earlier = z .earlier; later = z .later })));
+            found = ap pageOf e;
+          })

@@ -1,0 +1,13 @@
+pub mod Laws
+pub mod Splitting
+pub mod Tiling
+pub mod Searching
+pub mod Exact
+pub mod Granting
+pub mod Freeing
+pub mod Keeping
+pub mod Beside
+pub mod Holding
+pub mod Laying
+pub mod Addresses
+pub mod Beginning

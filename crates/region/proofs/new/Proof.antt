@@ -1,0 +1,64 @@
+-- The cleared records and the empty row are a sound region in which no frame starts.
+use borrow.Author.Needs.{needs}
+use mathlib.Core.Path.{refl}
+use native.Mathlib.Omega.{arith}
+use Rattle.definition.specs.World.{recordAt}
+use Rattle.region.proofs.Beginning.{count-is, begins-at, ends-low, blank-sound, blank, begun}
+use Rattle.region.proofs.new.Statement.{statement}
+use Rattle.region.proofs.new.Tie as tie
+
+table-pages-requires : tie.Need-table-pages-requires
+table-pages-requires c κs = search needs
+
+sub-count : tie.Need-sub-count
+sub-count c = search needs
+
+clear-requires : tie.Need-clear-requires
+clear-requires c κs =
+    let s = c .before .before .before in
+    rw (count-is (s .args .start) (s .args .pages) (c .before .table-pages .ensures)) (s .pre .2)
+
+page-number-requires : tie.Need-page-number-requires
+page-number-requires c κs = search needs
+
+add-organize : tie.Need-add-organize
+add-organize c = search needs
+
+organize-requires : tie.Need-organize-requires
+organize-requires c κs =
+    let s = c .before .before .before .before .before .before .before .before in
+    let k = c .before .before .before .before .clear in
+    let t = c .before .before .before .before .before .before .table-pages .ensures in
+    let e = count-is (s .args .start) (s .args .pages) t in
+    let d = begins-at (s .args .start) (s .args .pages) t _ (c .page-number .ensures) in
+    let low = ends-low (s .args .start) (s .args .pages) t (c .page-number .result) (omega (arith, c .page-number .ensures)) (s .pre .0) in
+    rw (k .ensures .1, k .kept .0, e, d) (
+      blank-sound (recordAt (s .args .records .now)) _ (s .args .first) (s .args .start) (s .args .pages) (s .pre .1) (s .pre .2),
+      ((refl, refl, rw (e, d) at low), blank (recordAt (s .args .records .now)) _ (s .args .first) (s .args .start) (s .args .pages) (s .pre .1) (s .pre .2)),
+    )
+
+same-length : tie.Need-same-length
+same-length c = search needs
+
+returns : tie.Need-returns
+returns c =
+    let s = c .before .before .before .before .before .before .before .before .before .before .before in
+    let k = c .before .before .before .before .before .before .before .clear in
+    let t = c .before .before .before .before .before .before .before .before .before .table-pages .ensures in
+    let o = c .before .before .organize in
+    let e = count-is (s .args .start) (s .args .pages) t in
+    let d = begins-at (s .args .start) (s .args .pages) t _ (c .before .before .before .page-number .ensures) in
+    (begun (recordAt (s .args .records .now)) _ (s .args .first) (s .args .start) (s .args .pages) (s .pre .1) (s .pre .2) (rw (k .ensures .1, e, d) at (o .ensures .0)), o .ensures .1)
+
+pub new-spec : {M : Type 1} → statement M
+new-spec =
+    tie.close
+    (tie.spec
+    table-pages-requires
+    sub-count
+    clear-requires
+    page-number-requires
+    add-organize
+    organize-requires
+    same-length
+    returns)
