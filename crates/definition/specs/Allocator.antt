@@ -25,7 +25,7 @@ pub record PhysicalFrameAllocator : Type 0 where
 
 -- ---- 277, AllocationRegion::new
 
--- 284, array_pages: what the tables of so many pages take
+-- 285, array_pages: what the tables of so many pages take
 abbrev pub tablePages : Board → ℕ → ℕ
 tablePages b pages = (b .recordBytes * pages + (b .page - 1)) / b .page
 
@@ -33,7 +33,7 @@ tablePages b pages = (b .recordBytes * pages + (b .page - 1)) / b .page
 abbrev pub startPage : Board → MemoryRegion → ℕ
 startPage b m = (m .start .0 + (b .page - 1)) / b .page
 
--- 279, nr_pages: the whole pages left, none where the entry is shorter than the rounding gap
+-- 280, nr_pages: the whole pages left, none where the entry is shorter than the rounding gap
 abbrev pub nrPages : Board → MemoryRegion → ℕ
 nrPages b m = (m .length - (startPage b m * b .page - m .start .0)) / b .page
 
@@ -42,7 +42,7 @@ isUsable UsableRam = true
 isUsable Reserved = false
 isUsable BootloaderReserved = false
 
--- 281 and 286: entries with 1 page or less, or whose tables reach their pages, are skipped; 569, and those of another kind
+-- 281 and 286: entries with 1 page or less, or whose tables reach their pages, are skipped; 570, and those of another kind
 abbrev pub isKept : Board → MemoryRegion → Bool
 isKept b m = isUsable (m .kind) && (ltb 1 (nrPages b m) && ltb (tablePages b (nrPages b m)) (nrPages b m))
 
@@ -73,7 +73,7 @@ abbrev pub admitRegion : Board → AllocationRegion → PhysicalFrameAllocator �
 admitRegion b r a =
     laidOut r (a .regions) (organize (managed b r) (levelsOf (a .frames) r) (first b r) (first b r) (managed b r))
 
--- ---- 561, PhysicalFrameAllocator
+-- ---- 562, PhysicalFrameAllocator
 
 -- 563, new: the kept entries in map order
 unfoldable pub newAllocator : Board → List MemoryRegion → PhysicalFrameAllocator

@@ -34,7 +34,7 @@ abbrev pub sizeOf : Option Frame → ℕ
 sizeOf none = 0
 sizeOf (some f) = size (f .level)
 
--- 425, Frame::size in bytes
+-- 423, Frame::size in bytes
 abbrev pub frameBytes : Board → Store → ℕ → ℕ
 frameBytes b s p = b .page * sizeOf (s .allocator .frames p)
 

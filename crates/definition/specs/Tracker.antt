@@ -19,7 +19,7 @@ use Rattle.definition.specs.Text.{bytesOf, digitsOf}
 abbrev pub wrap : ℕ → ℕ
 wrap n = n % 2 ^ 64
 
--- 71 to 86: so many pages were granted, for the kernel or not
+-- 69 to 80: so many pages were granted, for the kernel or not
 unfoldable pub countAlloc : ℕ → Bool → Counters → Counters
 countAlloc n kernel c =
     record {
@@ -107,7 +107,7 @@ pub record Granted : Type 0 where
 abbrev pub zeroIfAsked : Board → Bool → Store → ℕ → Store
 zeroIfAsked b zeroed s p = cond (zeroed && not (isZeroedAt s p)) (zeroFrame b s p) s
 
--- frame.rs 715, raw_alloc_frame, clears the ZEROED mark; 75 to 86 set KERNEL as asked, and count so many pages
+-- frame.rs 715, raw_alloc_frame, clears the ZEROED mark; 73 to 80 set KERNEL as asked, and count so many pages
 abbrev pub handOver : Board → ℕ → FrameAllocFlags → Store → ℕ → Store
 handOver b pages flags s p =
     withCounters (mark (withKernel (flags .kernel)) (setNotZero (zeroIfAsked b (flags .zeroed) s p) p) p)

@@ -2,14 +2,14 @@
 // Nothing here computes; what the types mean stands in specs/.
 use address::PhysAddr;
 
-// memory/mod.rs 22: what an entry of the boot map is for.
+// memory/mod.rs 21: what an entry of the boot map is for.
 pub enum MemoryRegionKind {
     UsableRam,
     Reserved,
     BootloaderReserved,
 }
 
-// memory/mod.rs 29: an entry of the boot map.
+// memory/mod.rs 28: an entry of the boot map.
 pub struct MemoryRegion {
     pub start: PhysAddr,
     pub length: usize,
@@ -37,7 +37,7 @@ pub enum Refusal {
     BadLine,
 }
 
-// tracker.rs 379: what a grant asks for.
+// tracker.rs 376: what a grant asks for.
 pub struct FrameAllocFlags {
     pub zeroed: bool,
     pub kernel: bool,
@@ -79,7 +79,7 @@ pub struct Counters {
     pub pager_outstanding: usize,
 }
 
-// tracker.rs 423: the reclaim pass under way, its worked rounds and the frames that it freed so far.
+// tracker.rs 417: the reclaim pass under way, its worked rounds and the frames that it freed so far.
 pub struct Pass {
     pub rounds: usize,
     pub freed: usize,

@@ -302,7 +302,7 @@ fn organize(records: &mut [u8], first: usize, row: Row, from: usize, count: usiz
     r
 }
 
-// array_pages, frame.rs 284: what the tables of so many pages take. 01 has no more than 1,048,576.
+// array_pages, frame.rs 285: what the tables of so many pages take. 01 has no more than 1,048,576.
 pub fn table_pages(pages: usize) -> usize
     requires { ⌜ pages ≤ 1048576 ⌝ }
     ensures { λ r. ⌜ r ≡ tablePages standard pages ⌝ }
