@@ -8,6 +8,7 @@
 mod antt;
 mod fixed;
 mod generate;
+mod maker;
 mod map;
 mod options;
 mod random;
