@@ -278,8 +278,10 @@ impl Maker<'_> {
         let target = self.held()?;
         let regions = managed(&self.recorder.dump);
         let region = self.random.pick(&regions)?;
-        let written = self.random.pick(&self.recorder.written).map(|range| range.start);
-        let source = match written.filter(|at| region.contains(at)) {
+        let before = self.random.within(0..=8);
+        let written = self.random.pick(&self.recorder.written);
+        let near = written.map(|range| range.start.saturating_sub(before));
+        let source = match near.filter(|at| region.contains(at)) {
             Some(at) if self.random.percent(50) => at,
             _ => self.random.within(region.start..=region.end - 1),
         };

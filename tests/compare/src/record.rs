@@ -12,6 +12,9 @@ use crate::{random::Random, statistics::Statistics};
 /// what was written.
 const RANDOM_PLACES: u64 = 6;
 
+/// Of what lay in a copy's source, only so many ends are looked at in its target.
+const COPIED_ENDS: usize = 12;
+
 /// A run under way.
 pub struct Recorder {
     run: Run,
@@ -22,6 +25,8 @@ pub struct Recorder {
     pub dump: Dump,
     /// The addresses that calls wrote to, in their order.
     pub written: Vec<Range<u64>>,
+    /// Addresses on both sides of the ends of these, and where copies took them.
+    ends: BTreeSet<u64>,
     statistics: Statistics,
 }
 
@@ -52,6 +57,7 @@ impl Recorder {
             calls: Vec::new(),
             answers: Vec::new(),
             written: Vec::new(),
+            ends: BTreeSet::new(),
             statistics: Statistics::default(),
         })
     }
@@ -63,7 +69,10 @@ impl Recorder {
         if let Answer::Off(reason) = answer {
             return Err(format!("{call}: {reason}"));
         }
-        self.written.extend(written_by(&call, &answer));
+        if let Some(range) = written_by(&call, &answer).filter(|range| !range.is_empty()) {
+            self.note_ends(&call, &range);
+            self.written.push(range);
+        }
         let before = std::mem::replace(&mut self.dump, self.run.dump());
         self.statistics.count(&before, &call, &answer, &self.dump);
         self.calls.push(call);
@@ -88,15 +97,20 @@ impl Recorder {
         }
     }
 
-    /// The first and last byte of each range that was written, the bytes next
-    /// to it, and some others, as far as they are managed.
+    fn note_ends(&mut self, call: &Call, written: &Range<u64>) {
+        let Range { start, end } = *written;
+        if let Some(source) = source_of(call) {
+            let copied = self.ends.range(source..source + (end - start)).take(COPIED_ENDS);
+            let copies: Vec<u64> = copied.map(|at| at - source + start).collect();
+            self.ends.extend(copies);
+        }
+        self.ends.extend([start.wrapping_sub(1), start, end - 1, end]);
+    }
+
+    /// The managed addresses among the ends, and some others.
     fn places(&self) -> BTreeSet<u64> {
         let managed = managed(&self.dump);
-        let mut places = BTreeSet::new();
-        for range in self.written.iter().filter(|range| !range.is_empty()) {
-            let Range { start, end } = *range;
-            places.extend([start.wrapping_sub(1), start, end - 1, end]);
-        }
+        let mut places = self.ends.clone();
         // The same for the same map, so that a run can be repeated.
         let mut random = Random::of_list(0, self.map.len() as u64);
         for region in &managed {
@@ -140,6 +154,15 @@ fn written_by(call: &Call, answer: &Answer) -> Option<Range<u64>> {
         Call::Copy { target_offset, .. } | Call::Pcopy { target_offset, .. } => {
             from(address + target_offset)
         }
+        _ => None,
+    }
+}
+
+/// Where a copy takes its bytes from.
+fn source_of(call: &Call) -> Option<u64> {
+    match *call {
+        Call::Copy { source, source_offset, .. } => Some(source + source_offset),
+        Call::Pcopy { source, .. } => Some(source),
         _ => None,
     }
 }

@@ -14,6 +14,7 @@
 extern crate alloc;
 
 mod answer;
+pub mod bare;
 mod call;
 mod coroutine;
 mod dump;

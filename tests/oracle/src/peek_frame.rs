@@ -1,5 +1,5 @@
 // What follows is not the kernel's: it is appended to the text of frame.rs to
-// read what is private there, and changes nothing.
+// read what is private there, and changes nothing; `BareRegion` calls it.
 
 // The share of a region that its table takes rests on this size.
 const _: () = assert!(size_of::<Frame>() == 32);
@@ -72,5 +72,30 @@ impl Frame {
         .filter(|(flag, _)| flags.contains(*flag))
         .map(|(_, mark)| mark)
         .sum()
+    }
+}
+
+/// See `bare`. Dropping the lists would walk them, so they are not dropped.
+pub struct BareRegion(core::mem::ManuallyDrop<AllocationRegion>);
+
+impl BareRegion {
+    pub fn new(start: u64, pages: usize) -> Option<Self> {
+        let region = AllocationRegion::new(&MemoryRegion {
+            start: PhysAddr::new(start).ok()?,
+            length: pages * FRAME_SIZE,
+            kind: MemoryRegionKind::UsableRam,
+        })?;
+        Some(Self(core::mem::ManuallyDrop::new(region)))
+    }
+
+    /// The address of a frame of the level, which is no longer free.
+    pub fn allocate(&mut self, level: usize) -> Option<u64> {
+        let frame = self.0.allocate(false, false, PHYS_LEVEL_LAYOUTS[level])?;
+        Some(frame.start_address().raw())
+    }
+
+    /// How many free frames of a level are listed.
+    pub fn free(&self, level: usize) -> usize {
+        self.0.levels[level].free
     }
 }

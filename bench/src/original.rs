@@ -1,0 +1,66 @@
+//! The kernel's own allocator of one region, where its sources were at hand for
+//! the build, with its atomic marks and its tests as they stand. Its calls are
+//! timed one by one, and the best of all turns counts.
+
+use crate::regions::{Region, Times};
+
+#[cfg(feature = "original")]
+mod built {
+    use std::{hint::black_box, time::Instant};
+
+    use oracle::bare::{self, BareRegion};
+
+    use super::{Region, Times};
+    use crate::clock::best;
+
+    pub fn set_up() {
+        bare::set_up(0..1 << 32);
+    }
+
+    pub fn grants(region: &Region, turns: usize) -> Option<Times> {
+        let &Region { start, pages, level } = region;
+        let mut least = [f64::INFINITY; 3];
+        let mut take = |which: usize, time: f64| least[which] = least[which].min(time);
+        for _ in 0..turns {
+            let began = Instant::now();
+            let mut region = black_box(BareRegion::new(black_box(start), pages)).unwrap();
+            take(0, since(began));
+            let mut grant = || assert!(black_box(region.allocate(black_box(level))).is_some());
+            let began = Instant::now();
+            grant();
+            take(1, since(began));
+            let began = Instant::now();
+            (0..511).for_each(|_| grant());
+            take(2, since(began) / 511.0);
+            assert_eq!(region.free(level), 0, "pieces that were not granted");
+        }
+        let [layout, split, listed] = least;
+        Some(Times { layout, split, listed })
+    }
+
+    fn since(began: Instant) -> f64 {
+        began.elapsed().as_nanos() as f64
+    }
+
+    pub fn layout(start: u64, pages: usize) -> Option<f64> {
+        let mut new = || assert!(black_box(BareRegion::new(black_box(start), pages)).is_some());
+        let [time] = best(10, 1, [&mut new]);
+        Some(time)
+    }
+}
+
+#[cfg(feature = "original")]
+pub use built::*;
+
+#[cfg(not(feature = "original"))]
+pub fn set_up() {}
+
+#[cfg(not(feature = "original"))]
+pub fn grants(_: &Region, _: usize) -> Option<Times> {
+    None
+}
+
+#[cfg(not(feature = "original"))]
+pub fn layout(_: u64, _: usize) -> Option<f64> {
+    None
+}
