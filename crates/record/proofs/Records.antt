@@ -71,7 +71,7 @@ module _ (bs : List ℕ) (first count : ℕ) (fits : first + count ≤ pagesIn b
 
 -- ---- records decide bytes
 
-quarters : (P : ℕ → Type 0) → ((p : ℕ) → P (p * 4) × P (p * 4 + 1) × P (p * 4 + 2) × P (p * 4 + 3)) → (m : ℕ) → P m
+pub quarters : (P : ℕ → Type 0) → ((p : ℕ) → P (p * 4) × P (p * 4 + 1) × P (p * 4 + 2) × P (p * 4 + 3)) → (m : ℕ) → P m
 quarters P h m = go (ℕ-discrete (m % 4) 0) (ℕ-discrete (m % 4) 1) (ℕ-discrete (m % 4) 2)
   where
     go : Dec (m % 4 ≡ 0) → Dec (m % 4 ≡ 1) → Dec (m % 4 ≡ 2) → P m

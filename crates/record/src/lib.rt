@@ -7,7 +7,8 @@ ghost use mathlib.Core.List.{_++_};
 ghost use Prim.Native.Nat.{_+_, _*_, _/_, _%_, _<_, _≤_};
 ghost use lib.Dec.{eqb};
 ghost use lib.ListN.{length, replicate};
-ghost use Rattle.definition.specs.Basics.{upd, bit};
+ghost use Rattle.definition.specs.Basics.{upd, bit, all, range};
+ghost use Rattle.definition.specs.Torn.{isBlank};
 ghost use Rattle.definition.specs.World.{wordAt, recordAt, wordBytes, recordBytes};
 ghost use Rattle.record.specs.Records.{pagesIn, withBytes, withMarks, withEarlier, withLater, withLinks, cleared};
 
@@ -147,6 +148,24 @@ pub fn clear(records: &mut [u8], first: usize, count: usize)
         records[at + i] = 0;
         i += 1;
     }
+}
+
+// Whether the records of `count` pages, from `first` on, are four zeros each. No early exit: LLVM turns the loop into vector code.
+pub fn is_clear(records: &[u8], first: usize, count: usize) -> bool
+    requires { ⌜ first + count ≤ pagesIn (now records) ⌝ }
+    ensures { λ r. ⌜ r ≡ all (λ q. isBlank (recordAt (now (records .entry)) q)) (range first count) ⌝ }
+{
+    let start = first * 16;
+    let bytes = count * 16;
+    let mut blank = true;
+    let mut i: usize = 0;
+    while i < bytes {
+        if records[start + i] != 0 {
+            blank = false;
+        }
+        i += 1;
+    }
+    blank
 }
 
 // The marks, taken apart and put together in this one place: 1 ADMITTED, 2 ALLOCATED, 4 ZEROED, 8 KERNEL.

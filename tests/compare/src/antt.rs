@@ -12,6 +12,9 @@ const MOST_PAGES: usize = 4096;
 pub const PARTS: [&str; 8] =
     ["answers", "rows", "marks", "lists", "counters", "queue", "pass", "bytes"];
 
+// The templates fill the memory with this number.
+const _: () = assert!(oracle::FILLER == 165);
+
 const KINDS: [&str; 3] = ["UsableRam", "Reserved", "BootloaderReserved"];
 
 pub struct Theorem {

@@ -39,11 +39,7 @@ pub fn lists() -> Vec<(&'static str, Recorded)> {
         ("zeroed-split", MEDIUM, zeroed_split()),
         ("queued-split", MEDIUM, queued_split()),
         ("held-1gib", LARGE, held_1gib()),
-        (
-            "split-1gib",
-            LARGE,
-            calls("3*alloc,4096,4096,1 alloc,4096,4096,0 2*alloc,2097152,4096,2"),
-        ),
+        ("split-1gib", LARGE, split_1gib()),
     ]
     .map(|(name, map, calls)| {
         let map: Vec<Entry> = map.split_whitespace().map(|line| line.parse().unwrap()).collect();
@@ -109,11 +105,17 @@ fn queued_split() -> Vec<Call> {
     )
 }
 
+/// A frame of 1 GiB becomes 512 of 2 MiB, one of which a small grant splits.
 fn held_1gib() -> Vec<Call> {
     calls(
         "alloc,1073741824,1073741824,2 find,1073741824 find,1075838976 low \
          free,1073741824 take,1073741824,4096,0 free,1075838976 free,1077936128 \
-         3*alloc,4096,4096,0 zero,1073741824 \
-         copy,1082130432,0,1073741824,0,2097152 alloc,2097152,2097152,0 alloc,4096,4096,1 find,1075843072 stats",
+         3*alloc,4096,4096,0 zero,1073741824 copy,1082130432,0,1073741824,0,2097152 \
+         alloc,2097152,2097152,0 alloc,4096,4096,1 find,1075843072 stats",
     )
+}
+
+/// A small grant splits a frame of 1 GiB, and a frame of 2 MiB out of it.
+fn split_1gib() -> Vec<Call> {
+    calls("3*alloc,4096,4096,1 alloc,4096,4096,0 2*alloc,2097152,4096,2")
 }
