@@ -36,13 +36,16 @@ module _ (test : ℕ → Bool) where
   in-all [] h = refl
   in-all (y ∷ ys) h = and-true (h y (inl refl)) (in-all ys (λ x m. h x (inr m)))
 
-pub all-both : (a b : ℕ → Bool) (xs : List ℕ) → all (λ x. a x && b x) xs ≡ (all a xs && all b xs)
-all-both a b xs =
-    same-test
-    (λ e. and-true
-    (in-all a xs (λ x m. and-left _ _ (all-in (λ x. a x && b x) xs e x m)))
-    (in-all b xs (λ x m. and-right (a x) _ (all-in (λ x. a x && b x) xs e x m))))
-    (λ e. in-all (λ x. a x && b x) xs (λ x m. and-true (all-in a xs (and-left _ _ e) x m) (all-in b xs (and-right (all a xs) _ e) x m)))
+and-pairs : (a b c d : Bool) → ((a && b) && (c && d)) ≡ ((a && c) && (b && d))
+and-pairs true true c d = refl
+and-pairs true false true d = refl
+and-pairs true false false d = refl
+and-pairs false b c d = refl
+
+pub all-both : {A : Type 0} (a b : A → Bool) (xs : List A) → all (λ x. a x && b x) xs ≡ (all a xs && all b xs)
+unfolding all
+all-both a b [] = refl
+all-both a b (x ∷ xs) = ap (λ (t : Bool). (a x && b x) && t) (all-both a b xs) ∙ and-pairs (a x) (b x) (all a xs) (all b xs)
 
 pub sum-same : (v w : ℕ → ℕ) (xs : List ℕ) → ((x : ℕ) → Mem x xs → v x ≡ w x) → sum v xs ≡ sum w xs
 unfolding sum

@@ -30,6 +30,7 @@ use Rattle.audit.specs.Sheet.{
   Tallied,
   Audited,
 }
+use Rattle.audit.proofs.Members.{all-both}
 use Rattle.audit.proofs.Listings.{listed-full}
 
 -- ---- the world's clauses, row by row
@@ -54,6 +55,14 @@ module _ (f : Records) (xs : List Placed) where
   pub held-rows : (kernel : Bool) → heldPages standard f kernel xs ≡ sum (heldRow kernel f) xs
   unfolding heldPages
   held-rows kernel = refl
+
+  -- the four clauses together
+  pub whole-rows : all (wholeRow f) xs ≡ (tiled standard f xs && (heldAlone standard f xs && (listsWalk standard f xs && unheldListed standard f xs)))
+  whole-rows =
+      all-both (tiledRow f) (λ x. aloneRow f x && (walksRow f x && listedRow f x)) xs
+      ∙ ap (λ (t : Bool). all (tiledRow f) xs && t) (all-both (aloneRow f) (λ x. walksRow f x && listedRow f x) xs)
+      ∙ ap (λ (t : Bool). all (tiledRow f) xs && (all (aloneRow f) xs && t)) (all-both (walksRow f) (listedRow f) xs)
+      ∙ rw (tiled-rows, alone-rows, walks-rows, listed-rows)
 
 -- ---- a row's clauses by numbers
 
