@@ -14,7 +14,8 @@ use Rattle.definition.specs.declared.Row.{Row}
 use Rattle.list.specs.Linked.{In}
 use Rattle.region.specs.Rep.{Becomes, Held, Inside, Rep, Splits, Whole, keptLevels}
 use Rattle.region.proofs.Laws.{then, stays, marked-as}
-use Rattle.region.proofs.Splitting.{child-inside, child-ends, size-some}
+use Rattle.level.proofs.Sizes.{size-positive}
+use Rattle.region.proofs.Splitting.{child-inside, child-ends}
 use Rattle.region.proofs.Tiling.{Good, Ready, At, all-parts, rep-kept, splits, aligned, clear, followed, whole-parts}
 use Rattle.region.proofs.Tiling.At.{hit, miss}
 use Rattle.region.proofs.Freeing.{held-out}
@@ -80,7 +81,7 @@ module _
           let B = keep-many i (omega arith) in
           then B
           (marked-as (some c) (B .rep) (child-inside keep-splits true (suc i) (omega arith))
-          (keep-splits .out (p + suc i * size l) (omega arith) (omega (arith, child-ends (suc i) (size l) (omega arith), size-some l (omega (arith, keep-splits .small)))))
+          (keep-splits .out (p + suc i * size l) (omega arith) (omega (arith, child-ends (suc i) (size l) (omega arith), size-positive l)))
           marks refl (record { earlier = refl; later = refl }))
 
       pub keep-last : Becomes f first row (upd (many 511 f p (size l) v) p v) n row (keptLevels s p)

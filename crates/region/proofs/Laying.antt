@@ -1,15 +1,14 @@
 -- A region is laid out.
 use Prim.Native.Nat.{ℕ, zero, suc, _+_, _-_, _%_, _≤_, _<_, _^_}
-use mathlib.Core.Bool.{Bool, true, false, _&&_}
+use mathlib.Core.Bool.{false}
 use mathlib.Core.List.{[], _∷_}
 use mathlib.Core.Logic.{_≢_}
 use mathlib.Core.Option.{none, some}
 use mathlib.Core.Path.{_≡_, refl, sym, ap, _∙_, subst}
 use native.Mathlib.Decide.{ℕ-discrete, decLt}
 use native.Mathlib.Omega.{arith}
-use lib.Dec.{eqb, leb}
 use lib.ListN.{getD}
-use borrow.Author.Tests.{eq-eqb, ne-eqb, eqb-true, leb-true}
+use borrow.Author.Tests.{eq-eqb, ne-eqb}
 use Rattle.definition.proofs.Basics.{upd-other, upd-same}
 use Rattle.definition.specs.Frame.{Frame, Levels, admitOne, free, highest, organize, size}
 use Rattle.definition.specs.World.{frameOf, levelOf, noLinks, slotOf}
@@ -18,48 +17,22 @@ use Rattle.definition.specs.declared.Row.{Row}
 use Rattle.list.proofs.Laws.{all-map, linked-empty}
 use Rattle.list.specs.Linked.{In, Linked, Out}
 use Rattle.list.specs.Linked.All.{all-none}
+use Rattle.level.proofs.Choice.{highest-within, highest-aligned, highest-room}
 use Rattle.region.specs.Rep.{Becomes, Best, Blank, Inside, Rep, SoundRow, Starts, Tile, Whole, WholeRow, fromOf, listUp, managed, stateOf}
-use mathlib.Core.Bool.{cond}
-use Rattle.region.proofs.Splitting.{size-some, ready, next}
+use Rattle.level.proofs.Sizes.{size-positive}
+use Rattle.region.proofs.Splitting.{ready, next}
 use Rattle.region.proofs.Laws.{stays}
 use Rattle.region.proofs.Keeping.{row-whole}
 use Rattle.region.proofs.Tiling.{none-some, up-has, up-grows}
 
 -- ---- the highest level that fits
 
--- the level l, at most k, fits at a page frame number where so many pages are left
-record Fits (pfn left k l : ℕ) : Type 0 where
-  small : l ≤ k
-  fits : size l ≤ left
-  aligned : pfn % size l ≡ 0
-
-weaker : {pfn left k l : ℕ} → Fits pfn left k l → Fits pfn left (suc k) l
-weaker F = record { small = omega (arith, F .small); fits = F .fits; aligned = F .aligned }
-
-highest-fits : (pfn left k : ℕ) → 0 < left → Fits pfn left k (highest k pfn left)
-unfolding highest
-highest-fits pfn left zero h = record { small = omega arith; fits = omega arith; aligned = omega arith }
-highest-fits pfn left (suc k) h = go (eqb (pfn % size (suc k)) 0) (leb (size (suc k)) left) refl refl (highest-fits pfn left k h)
-  where
-    go : (a b : Bool) → eqb (pfn % size (suc k)) 0 ≡ a → leb (size (suc k)) left ≡ b → Fits pfn left k (highest k pfn left)
-        → Fits pfn left (suc k) (cond (a && b) (suc k) (highest k pfn left))
-    go true true e f F = record { small = omega arith; fits = leb-true (size (suc k)) left f; aligned = eqb-true (pfn % size (suc k)) 0 e }
-    go true false e f F = weaker F
-    go false b e f F = weaker F
+level-small : (pfn left : ℕ) → highest 2 pfn left < 3
+level-small pfn left = omega (arith, highest-within pfn left 2)
 
 pub best : (pfn left l : ℕ) → l ≡ highest 2 pfn left → 0 < left → Best pfn left l
 best pfn left l e h =
-    let F = highest-fits pfn left 2 h in
-    record { is = e; small = rw e (omega (arith, F .small)); fits = rw e (F .fits); aligned = rw e (F .aligned) }
-
-level-small : (pfn left : ℕ) → highest 2 pfn left < 3
-unfolding highest
-level-small pfn left = go (eqb (pfn % size 2) 0 && leb (size 2) left) (eqb (pfn % size 1) 0 && leb (size 1) left)
-  where
-    go : (a b : Bool) → cond a 2 (cond b 1 0) < 3
-    go true b = omega arith
-    go false true = omega arith
-    go false false = omega arith
+    record { is = e; small = rw e (level-small pfn left); fits = rw e (highest-room pfn left h 2); aligned = rw e (highest-aligned pfn left 2) }
 
 -- ---- as much fuel as pages is enough
 
@@ -83,7 +56,7 @@ enough (suc a) (suc b) s page pfn left x y = go (enough a b) (ℕ-discrete left 
         → Dec (left ≡ 0) → organize (suc a) s page pfn left ≡ organize (suc b) s page pfn left
     go ih (yes e) = stop (suc a) s page pfn left e ∙ sym (stop (suc b) s page pfn left e)
     go ih (no m) =
-        let n = size-some (highest 2 pfn left) (level-small pfn left) in
+        let n = size-positive (highest 2 pfn left) in
         more a s page pfn left m ∙ ih _ _ _ _ (omega arith) (omega arith) ∙ sym (more b s page pfn left m)
 
 pub lay-step : (s : Levels) (page pfn left l : ℕ) → 0 < left → Best pfn left l
@@ -93,7 +66,7 @@ lay-step s page pfn left l h B = rw (B .is) (go left refl)
     go : (a : ℕ) → a ≡ left → organize left s page pfn left ≡ organize (left - size (highest 2 pfn left)) (admitOne s page (highest 2 pfn left) false) (page + size (highest 2 pfn left)) (pfn + size (highest 2 pfn left)) (left - size (highest 2 pfn left))
     go zero e = absurd (omega arith)
     go (suc a) e =
-        let n = size-some (highest 2 pfn left) (level-small pfn left) in
+        let n = size-positive (highest 2 pfn left) in
         enough left (suc a) s page pfn left (omega arith) (omega arith) ∙ more a s page pfn left (omega arith)
         ∙ enough a (left - size (highest 2 pfn left)) _ _ _ _ (omega arith) (omega arith)
 
@@ -125,7 +98,7 @@ module _ {s : Levels} {from first x end : ℕ} (l : ℕ) (U : Upto s from first 
   t = admitOne s x l false
 
   n : 0 < size l
-  n = size-some l h
+  n = size-positive l
 
   here : t .frames x ≡ some c
   here = upd-same (s .frames) x (some c)

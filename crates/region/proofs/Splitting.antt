@@ -16,14 +16,9 @@ use Rattle.definition.specs.declared.Row.{Row}
 use Rattle.list.proofs.Laws.{all-append}
 use Rattle.list.specs.Linked.{Out}
 use Rattle.list.specs.Linked.All.{all-more, all-none}
+use Rattle.level.proofs.Sizes.{size-positive}
 use Rattle.region.specs.Rep.{Becomes, Inside, Rep, SoundRow, Splits, listUp, stateOf}
 use Rattle.region.proofs.Laws.{rep-state, rep-sound, then}
-
-pub size-some : (l : ℕ) → l < 3 → 0 < size l
-size-some zero h = omega arith
-size-some (suc zero) h = omega arith
-size-some (suc (suc zero)) h = omega arith
-size-some (suc (suc (suc l))) h = absurd (omega arith)
 
 -- whether a record's frame is zeroed
 pub zeroed-mark : {f : ℕ → Record} {n first : ℕ} {row : Row} {s : Levels} (p : ℕ) → Inside first (row .pages) p → Rep f n first row s → eqb (f p .marks / 4 % 2) 1 ≡ isZeroed (s .frames p)
@@ -85,23 +80,23 @@ module _ {s : Levels} {first pages page l : ℕ} (S : Splits s first pages page 
   child-inside i h =
       record {
         low = omega (arith, S .low);
-        high = omega (arith, S .high, child-ends i (size l) h, size-some l (omega (arith, S .small)));
+        high = omega (arith, S .high, child-ends i (size l) h, size-positive l);
       }
 
   pub page-inside : Inside first pages page
-  page-inside = record { low = S .low; high = omega (arith, S .high, size-some l (omega (arith, S .small))) }
+  page-inside = record { low = S .low; high = omega (arith, S .high, size-positive l) }
 
   pub child-out : (i : ℕ) → i < 511 → (k : ℕ) → Out (page + suc i * size l) (children i s page l z .free k)
   child-out i h =
       children-out s page l z i (page + suc i * size l)
-      (λ j a b e. absurd (omega (arith, child-after (suc i) j (size l) (omega arith), size-some l (omega (arith, S .small)))))
-      (S .out (page + suc i * size l) (omega arith) (omega (arith, child-ends (suc i) (size l) (omega arith), size-some l (omega (arith, S .small)))))
+      (λ j a b e. absurd (omega (arith, child-after (suc i) j (size l) (omega arith), size-positive l)))
+      (S .out (page + suc i * size l) (omega arith) (omega (arith, child-ends (suc i) (size l) (omega arith), size-positive l)))
 
   pub page-out : (k : ℕ) → Out page (children 511 s page l z .free k)
   page-out =
       children-out s page l z 511 page
-      (λ j a b e. absurd (omega (arith, child-after j 0 (size l) (omega arith), size-some l (omega (arith, S .small)))))
-      (S .out page (omega arith) (omega (arith, size-some l (omega (arith, S .small)))))
+      (λ j a b e. absurd (omega (arith, child-after j 0 (size l) (omega arith), size-positive l)))
+      (S .out page (omega arith) (omega (arith, size-positive l)))
 
 -- all children, and then the first
 pub whole

@@ -8,7 +8,7 @@ use lib.ListN.{length}
 use Rattle.definition.specs.World.{recordAt}
 use Rattle.definition.specs.declared.Row.{Row}
 use Rattle.record.specs.Records.{pagesIn}
-use Rattle.region.proofs.Splitting.{size-some}
+use Rattle.level.proofs.Sizes.{size-positive}
 use Rattle.region.proofs.Laying.{best, Laid, laid-none, laid-asks, laid-step, laid-done}
 use Rattle.region.proofs.organize.Statement.{statement}
 use Rattle.region.proofs.organize.Tie as tie
@@ -63,7 +63,7 @@ loop-less c =
     let k = c .before .before .before .before .before .before .before .loop in
     let b = c .before .before .before .before .before .level-at in
     let B = best _ _ _ (b .ensures) (omega arith) in
-    rw (c .pages-at .ensures) (omega (arith, B .fits, size-some (b .result) (B .small), c .before .before .before .before .before .before .loop-test .taken))
+    rw (c .pages-at .ensures) (omega (arith, B .fits, size-positive (b .result), c .before .before .before .before .before .before .loop-test .taken))
 
 loop-again : tie.Need-loop-again Inv-loop μ-loop
 loop-again c =
