@@ -1,8 +1,8 @@
-pub mod Pigeon
-pub mod Members
-pub mod Heads
-pub mod Nodes
-pub mod Tallies
-pub mod Scanning
-pub mod Listings
-pub mod Rows
+pub mod Onward
+pub mod Arrays
+pub mod Used
+pub mod Booted
+pub mod Bare
+pub mod Counting
+pub mod Regions
+pub mod Sheets

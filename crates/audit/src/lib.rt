@@ -1,221 +1,74 @@
-// The torn sheet of one region's records, tested on bytes of which nothing is known (01, "Torn unless all hold"). Each function ends and reads nothing
-// outside the loan on every input, and says exactly whether its clause of the sheet holds. `from` is the page frame number of the region's
-// first managed page, `base` that page's number in the records, `past` the number behind its last.
+// The torn sheet of all that a later call is given (01, "Torn unless all hold"), a function for each sentence, and `audit`, which is true exactly
+// where every sentence holds: on any rows, numbers and bytes whatever, reading nothing outside the loans.
+use definition::Counters;
 use definition::Links;
+use definition::Pass;
 use definition::Row;
-ghost use mathlib.Core.Bool.{_&&_};
+use scan::Whole;
+ghost use mathlib.Core.Bool.{true, _&&_};
 ghost use mathlib.Core.Path.{_≡_};
-ghost use Prim.Native.Nat.{_+_, _-_, _*_, _/_, _%_, _≤_, _<_, _^_};
+ghost use Prim.Native.Nat.{ℕ, _+_, _≤_, _<_, _^_};
 ghost use lib.Dec.{eqb};
+ghost use lib.ListN.{length, drop};
 ghost use Rattle.definition.specs.Board.{standard};
-ghost use Rattle.definition.specs.Basics.{all, range};
-ghost use Rattle.definition.specs.Frame.{levels};
-ghost use Rattle.definition.specs.Allocator.{first};
-ghost use Rattle.definition.specs.World.{recordAt, bareRegion};
-ghost use Rattle.definition.specs.Torn.{past as pastOf, aloneIfHeld};
-ghost use Rattle.record.specs.Records.{pagesIn};
-ghost use Rattle.audit.specs.Sheet.{
-  placedAt,
-  headAt,
-  nodeAt,
-  walksAt,
-  placeOf,
-  shareOf,
-  fullAt,
-  Tallied,
-  Audited,
+ghost use Rattle.definition.specs.Basics.{all, any};
+ghost use Rattle.definition.specs.Allocator.{total};
+ghost use Rattle.definition.specs.Boot.{
+  managedPages,
+  overlap,
+  shares as «shares_def»,
 };
+ghost use Rattle.definition.specs.World.{recordAt, bareRegion, usedRows};
+ghost use Rattle.definition.specs.Torn.{
+  isNoLinks,
+  isNoRow,
+  bareRegions,
+  regionsOf,
+  rowAsBoot,
+  rowsAsBoot,
+  loansLong,
+  placed,
+  listedPages,
+  idlePages,
+  idleCounts,
+  totalCounts,
+  noneWaiting,
+  queueWithin,
+  passWithin,
+};
+ghost use Rattle.record.specs.Records.{pagesIn};
+ghost use Rattle.scan.specs.Sheet.{placedAt};
+ghost use Rattle.audit.specs.Sheet.{rowAt, AllAudited, Exact};
 
-// ---- the heads
+// ---- "the rows' starts and pages are such as boot makes"
 
-// "ADMITTED, aligned heads of level 0 to 2 with no mark bits but those named, .. zeros inside".
-fn is_head(records: &[u8], from: usize, base: usize, past: usize, h: usize) -> bool
-    requires { ⌜ (base ≤ h) × (h < past) × (past ≤ pagesIn (now records)) × (from + (past - base) < 2 ^ 64) ⌝ }
-    ensures { λ r. ⌜ r ≡ headAt (recordAt (now (records .entry))) from base past h ⌝ }
+fn is_no_links(l: Links) -> bool
+    ensures { λ r. ⌜ r ≡ isNoLinks l ⌝ }
 {
-    let marks = record::marks(records, h);
-    if !record::is_admitted(marks) {
+    if l.front != 0 {
         return false;
     }
-    if 16 <= marks {
+    if l.back != 0 {
         return false;
     }
-    let level = record::level(records, h);
-    if 3 <= level {
-        return false;
-    }
-    let pages = level::pages_at(level as usize);
-    if (from + (h - base)) % pages != 0 {
-        return false;
-    }
-    if past - h < pages {
-        return false;
-    }
-    record::is_clear(records, h + 1, pages - 1)
+    l.count == 0
 }
 
-// "held heads have neighbours 0".
-fn is_alone(records: &[u8], h: usize) -> bool
-    requires { ⌜ h < pagesIn (now records) ⌝ }
-    ensures { λ r. ⌜ r ≡ aloneIfHeld (recordAt (now (records .entry)) h) ⌝ }
+// An unused row is all zeros.
+fn is_no_row(row: Row) -> bool
+    ensures { λ r. ⌜ r ≡ isNoRow row ⌝ }
 {
-    let marks = record::marks(records, h);
-    if !record::is_allocated(marks) {
-        return true;
-    }
-    let earlier = record::earlier(records, h);
-    if earlier != 0 {
+    let start = row.start;
+    if start.raw() != 0 {
         return false;
     }
-    let later = record::later(records, h);
-    later == 0
-}
-
-// Both tests of a head.
-fn is_good(records: &[u8], from: usize, base: usize, past: usize, h: usize) -> bool
-    requires { ⌜ (base ≤ h) × (h < past) × (past ≤ pagesIn (now records)) × (from + (past - base) < 2 ^ 64) ⌝ }
-    ensures { λ r. ⌜ r ≡ headAt (recordAt (now (records .entry))) from base past h && aloneIfHeld (recordAt (now (records .entry)) h) ⌝ }
-{
-    if is_head(records, from, base, past, h) {
-        return is_alone(records, h);
-    }
-    false
-}
-
-// The list that an unheld head belongs on.
-fn class(marks: u32, level: u32) -> usize
-    ensures { λ r. ⌜ r ≡ level * 2 + marks / 4 % 2 ⌝ }
-{
-    let dirty = (level as usize) * 2;
-    if record::is_zeroed(marks) {
-        dirty + 1
-    } else {
-        dirty
-    }
-}
-
-// The place of a head in a tally: that of its list where it is unheld, else 6, or 7 with KERNEL.
-fn place(marks: u32, level: u32) -> usize
-    requires { ⌜ level < levels ⌝ }
-    ensures { λ r. ⌜ (r ≡ placeOf marks level) × (r < 8) ⌝ }
-{
-    if record::is_allocated(marks) {
-        return if record::is_kernel(marks) { 7 } else { 6 };
-    }
-    class(marks, level)
-}
-
-// What a head adds there: 1 where it is unheld, else its pages.
-fn share(marks: u32, pages: usize) -> usize
-    ensures { λ r. ⌜ r ≡ shareOf marks pages ⌝ }
-{
-    if record::is_allocated(marks) {
-        pages
-    } else {
-        1
-    }
-}
-
-pub struct Scanned {
-    pub ok: bool,
-    pub tally: [usize; 8],
-}
-
-// "stepping by frame size from each region's first managed page": the heads, tested and tallied. At the first that is bad it stops.
-fn scan(records: &[u8], from: usize, base: usize, past: usize) -> Scanned
-    requires { ⌜ (base ≤ past) × (past ≤ pagesIn (now records)) × (from + (past - base) < 2 ^ 64) ⌝ }
-    ensures { λ r. ⌜ Tallied (recordAt (now (records .entry))) from base past r ⌝ }
-{
-    let mut tally = [0usize; 8];
-    let mut at = base;
-    while at < past {
-        if is_good(records, from, base, past, at) {
-            let marks = record::marks(records, at);
-            let level = record::level(records, at);
-            let pages = level::pages_at(level as usize);
-            let k = place(marks, level);
-            tally[k] = tally[k] + share(marks, pages);
-            at = at + pages;
-        } else {
-            return Scanned { ok: false, tally };
-        }
-    }
-    Scanned { ok: true, tally }
-}
-
-// ---- the lists
-
-// Whether the number `at` names an unheld frame of the region and the list `k`, whose earlier neighbour is `prev`.
-fn is_node(records: &[u8], base: usize, past: usize, k: usize, prev: u32, at: u32) -> bool
-    requires { ⌜ past ≤ pagesIn (now records) ⌝ }
-    ensures { λ r. ⌜ r ≡ nodeAt (recordAt (now (records .entry))) base past k prev at ⌝ }
-{
-    let number = at as usize;
-    if number <= base {
+    if row.pages != 0 {
         return false;
     }
-    if past < number {
-        return false;
-    }
-    let page = number - 1;
-    let marks = record::marks(records, page);
-    if !record::is_admitted(marks) {
-        return false;
-    }
-    if record::is_allocated(marks) {
-        return false;
-    }
-    let level = record::level(records, page);
-    if class(marks, level) != k {
-        return false;
-    }
-    let earlier = record::earlier(records, page);
-    earlier == prev
-}
-
-// "each list walks front to back in its count, both ways, over unheld frames of its region, level and mark".
-fn walk(records: &[u8], base: usize, past: usize, k: usize, links: Links) -> bool
-    requires { ⌜ past ≤ pagesIn (now records) ⌝ }
-    ensures { λ r. ⌜ r ≡ walksAt (recordAt (now (records .entry))) base past k (links .count) 0 (links .front) (links .back) ⌝ }
-{
-    let mut prev: u32 = 0;
-    let mut at = links.front;
-    let mut left = links.count;
-    while 0 < left {
-        if is_node(records, base, past, k, prev, at) {
-            prev = at;
-            at = record::later(records, (at - 1) as usize);
-            left -= 1;
-        } else {
-            return false;
-        }
-    }
-    if at != 0 {
-        return false;
-    }
-    prev == links.back
-}
-
-// Whether a list walks, and has as many nodes as there are heads that belong on it.
-fn is_full(records: &[u8], base: usize, past: usize, k: usize, links: Links, heads: usize) -> bool
-    requires { ⌜ past ≤ pagesIn (now records) ⌝ }
-    ensures { λ r. ⌜ r ≡ walksAt (recordAt (now (records .entry))) base past k (links .count) 0 (links .front) (links .back) && eqb (links .count) heads ⌝ }
-{
-    if walk(records, base, past, k, links) {
-        return (links.count as usize) == heads;
-    }
-    false
-}
-
-fn are_full(records: &[u8], base: usize, past: usize, row: Row, scanned: Scanned) -> bool
-    requires { ⌜ past ≤ pagesIn (now records) ⌝ }
-    ensures { λ r. ⌜ r ≡ all (fullAt (recordAt (now (records .entry))) base past (row .lists) (scanned .tally)) (range 0 6) ⌝ }
-{
     let lists = row.lists;
-    let tally = scanned.tally;
     let mut k: usize = 0;
     while k < 6 {
-        if is_full(records, base, past, k, lists[k], tally[k]) {
+        if is_no_links(lists[k]) {
             k += 1;
         } else {
             return false;
@@ -224,36 +77,314 @@ fn are_full(records: &[u8], base: usize, past: usize, row: Row, scanned: Scanned
     true
 }
 
-// ---- the region
-
-pub struct Whole {
-    pub ok: bool,
-    pub page: usize,
-    pub kernel: usize,
+// How many rows are in use: those before the first that has no pages.
+fn used_rows(rows: [Row; 8]) -> usize
+    ensures { λ r. ⌜ (r ≡ length (usedRows rows)) × (r ≤ 8) ⌝ }
+{
+    let mut i: usize = 0;
+    while i < 8 {
+        let row = rows[i];
+        if row.pages == 0 {
+            return i;
+        }
+        i += 1;
+    }
+    8
 }
 
-// Whether a region's heads and lists are as the sheet says, and if so the pages that it holds without KERNEL and with it. The nodes of lists that walk
-// are unheld heads, each once: that there are as many of both says that "every unheld head is on a list".
-pub fn region_whole(records: &[u8], from: usize, base: usize, past: usize, row: Row) -> Whole
-    requires { ⌜ (from ≡ first standard (bareRegion standard row)) × (past ≡ pastOf standard (placedAt base row)) ⌝ }
-    requires { ⌜ (past ≤ pagesIn (now records)) × (from + (past - base) < 2 ^ 64) ⌝ }
-    ensures { λ r. ⌜ Audited (recordAt (now (records .entry))) (placedAt base row) r ⌝ }
+// The rows behind those in use are unused.
+fn rest_unused(rows: [Row; 8], used: usize) -> bool
+    requires { ⌜ used ≤ 8 ⌝ }
+    ensures { λ r. ⌜ r ≡ all isNoRow (drop used rows) ⌝ }
 {
-    let scanned = scan(records, from, base, past);
-    let ok = scanned.ok;
-    if ok {
-        if are_full(records, base, past, row, scanned) {
-            let tally = scanned.tally;
-            return Whole {
-                ok: true,
-                page: tally[6],
-                kernel: tally[7],
-            };
+    let mut i = used;
+    while i < 8 {
+        if is_no_row(rows[i]) {
+            i += 1;
+        } else {
+            return false;
         }
     }
-    Whole {
-        ok: false,
-        page: 0,
-        kernel: 0,
+    true
+}
+
+// A page edge, more than one page, an end by 2^40, which is the page 2^28. The sheet also asks for more pages than the tables take: so it is with
+// any number of pages past one.
+fn row_as_boot(row: Row) -> bool
+    ensures { λ r. ⌜ r ≡ rowAsBoot standard row ⌝ }
+{
+    let start = row.start;
+    let pages = row.pages;
+    if !start.is_aligned_to(4096) {
+        return false;
     }
+    if pages <= 1 {
+        return false;
+    }
+    if 268435456 < pages {
+        return false;
+    }
+    if 268435456 - pages < start.page_number() {
+        return false;
+    }
+    true
+}
+
+fn each_as_boot(rows: [Row; 8], used: usize) -> bool
+    requires { ⌜ used ≡ length (usedRows rows) ⌝ }
+    ensures { λ r. ⌜ r ≡ all (rowAsBoot standard) (usedRows rows) ⌝ }
+{
+    let mut i: usize = 0;
+    while i < used {
+        if row_as_boot(rows[i]) {
+            i += 1;
+        } else {
+            return false;
+        }
+    }
+    true
+}
+
+// Two rows share a page.
+fn shares(r: Row, t: Row) -> bool
+    requires { ⌜ (rowAsBoot standard r ≡ true) × (rowAsBoot standard t ≡ true) ⌝ }
+    ensures { λ b. ⌜ b ≡ «shares_def» standard (bareRegion standard r) (bareRegion standard t) ⌝ }
+{
+    let r_start = r.start;
+    let t_start = t.start;
+    let r_first = r_start.page_number();
+    let t_first = t_start.page_number();
+    if r_first < t_first + t.pages {
+        return t_first < r_first + r.pages;
+    }
+    false
+}
+
+// The row i shares a page with a used one behind it.
+fn shares_behind(rows: [Row; 8], used: usize, i: usize) -> bool
+    requires { ⌜ (used ≡ length (usedRows rows)) × (i < used) × (all (rowAsBoot standard) (usedRows rows) ≡ true) ⌝ }
+    ensures { λ r. ⌜ r ≡ any («shares_def» standard (bareRegion standard (rowAt rows i))) (bareRegions standard (drop (i + 1) (usedRows rows))) ⌝ }
+{
+    let row = rows[i];
+    let mut j = i + 1;
+    while j < used {
+        if shares(row, rows[j]) {
+            return true;
+        }
+        j += 1;
+    }
+    false
+}
+
+fn overlaps(rows: [Row; 8], used: usize) -> bool
+    requires { ⌜ (used ≡ length (usedRows rows)) × (all (rowAsBoot standard) (usedRows rows) ≡ true) ⌝ }
+    ensures { λ r. ⌜ r ≡ overlap standard (regionsOf standard rows) ⌝ }
+{
+    let mut i: usize = 0;
+    while i < used {
+        if shares_behind(rows, used, i) {
+            return true;
+        }
+        i += 1;
+    }
+    false
+}
+
+// The pages of the rows in use, tables included.
+fn total_pages(rows: [Row; 8], used: usize) -> usize
+    requires { ⌜ (used ≡ length (usedRows rows)) × (all (rowAsBoot standard) (usedRows rows) ≡ true) ⌝ }
+    ensures { λ r. ⌜ r ≡ total (regionsOf standard rows) ⌝ }
+{
+    let mut pages: usize = 0;
+    let mut i: usize = 0;
+    while i < used {
+        let row = rows[i];
+        pages += row.pages;
+        i += 1;
+    }
+    pages
+}
+
+fn rows_as_boot(rows: [Row; 8], used: usize) -> bool
+    requires { ⌜ used ≡ length (usedRows rows) ⌝ }
+    ensures { λ r. ⌜ r ≡ rowsAsBoot standard rows ⌝ }
+{
+    if !rest_unused(rows, used) {
+        return false;
+    }
+    if !each_as_boot(rows, used) {
+        return false;
+    }
+    if overlaps(rows, used) {
+        return false;
+    }
+    total_pages(rows, used) <= 1048576
+}
+
+// ---- "and the loans long enough"
+
+// The managed pages of the rows in use.
+fn managed_pages(rows: [Row; 8], used: usize) -> usize
+    requires { ⌜ (used ≡ length (usedRows rows)) × (rowsAsBoot standard rows ≡ true) ⌝ }
+    ensures { λ r. ⌜ (r ≡ managedPages standard (regionsOf standard rows)) × (r ≤ 1048576) ⌝ }
+{
+    let mut pages: usize = 0;
+    let mut i: usize = 0;
+    while i < used {
+        let row = rows[i];
+        pages += row.pages - region::table_pages(row.pages);
+        i += 1;
+    }
+    pages
+}
+
+fn loans_long(rows: [Row; 8], used: usize, records: usize, memory: usize) -> bool
+    requires { ⌜ (used ≡ length (usedRows rows)) × (rowsAsBoot standard rows ≡ true) ⌝ }
+    ensures { λ r. ⌜ r ≡ loansLong standard rows records memory ⌝ }
+{
+    let pages = managed_pages(rows, used);
+    if records < 16 * pages {
+        return false;
+    }
+    4096 * pages <= memory
+}
+
+// ---- the regions' records: heads and lists
+
+fn regions_whole(records: &[u8], rows: [Row; 8], used: usize) -> Whole
+    requires { ⌜ (used ≡ length (usedRows rows)) × (rowsAsBoot standard rows ≡ true) ⌝ }
+    requires { ⌜ managedPages standard (regionsOf standard rows) ≤ pagesIn (now records) ⌝ }
+    ensures { λ r. ⌜ AllAudited (recordAt (now (records .entry))) (placed standard rows) r ⌝ }
+{
+    let mut base: usize = 0;
+    let mut page: usize = 0;
+    let mut kernel: usize = 0;
+    let mut i: usize = 0;
+    while i < used {
+        let row = rows[i];
+        let start = row.start;
+        let tables = region::table_pages(row.pages);
+        let past = base + (row.pages - tables);
+        let whole = scan::region_whole(records, start.page_number() + tables, base, past, row);
+        if !whole.ok {
+            return Whole {
+                ok: false,
+                page: 0,
+                kernel: 0,
+            };
+        }
+        page += whole.page;
+        kernel += whole.kernel;
+        base = past;
+        i += 1;
+    }
+    Whole {
+        ok: true,
+        page,
+        kernel,
+    }
+}
+
+// ---- "idle, total, kernel and page counts equal those of the rows and records"
+
+// The pages on the lists of a row.
+fn listed_pages(row: Row) -> usize
+    ensures { λ r. ⌜ ((base : ℕ) → r ≡ listedPages (placedAt base row)) × (r < 2 ^ 56) ⌝ }
+{
+    let lists = row.lists;
+    let mut pages: usize = 0;
+    let mut k: usize = 0;
+    while k < 6 {
+        let l = lists[k];
+        pages += level::pages_at(k / 2) * (l.count as usize);
+        k += 1;
+    }
+    pages
+}
+
+// The pages that nobody holds, tables among them.
+fn idle_pages(rows: [Row; 8], used: usize) -> usize
+    requires { ⌜ (used ≡ length (usedRows rows)) × (rowsAsBoot standard rows ≡ true) ⌝ }
+    ensures { λ r. ⌜ r ≡ idlePages standard (placed standard rows) ⌝ }
+{
+    let mut pages: usize = 0;
+    let mut i: usize = 0;
+    while i < used {
+        let row = rows[i];
+        pages += listed_pages(row) + region::table_pages(row.pages);
+        i += 1;
+    }
+    pages
+}
+
+// Whether the counters are those of the rows, and of the pages that the regions were found to hold.
+fn counted(rows: [Row; 8], used: usize, counters: Counters, whole: Whole) -> bool
+    requires { ⌜ (used ≡ length (usedRows rows)) × (rowsAsBoot standard rows ≡ true) ⌝ }
+    ensures { λ r. ⌜ r ≡ idleCounts standard rows counters && (totalCounts standard rows counters && (eqb (counters .«kernel_used») (whole .kernel) && eqb (counters .«page_data») (whole .page))) ⌝ }
+{
+    if counters.idle != idle_pages(rows, used) {
+        return false;
+    }
+    if counters.total != total_pages(rows, used) {
+        return false;
+    }
+    if counters.kernel_used != whole.kernel {
+        return false;
+    }
+    counters.page_data == whole.page
+}
+
+// ---- "`waiting` is 0; the queue's count is within its loan; pass rounds are at most 1,001 and freed at most 100 × rounds"
+
+fn pass_within(pass: Pass) -> bool
+    ensures { λ r. ⌜ r ≡ passWithin standard pass ⌝ }
+{
+    if 1001 < pass.rounds {
+        return false;
+    }
+    pass.freed <= 100 * pass.rounds
+}
+
+fn within(counters: Counters, queued: usize, room: usize, pass: Pass) -> bool
+    ensures { λ r. ⌜ r ≡ noneWaiting counters && (queueWithin queued room && passWithin standard pass) ⌝ }
+{
+    if counters.waiting != 0 {
+        return false;
+    }
+    if room < queued {
+        return false;
+    }
+    pass_within(pass)
+}
+
+// ---- the sheet
+
+// Whether all that a later call is given is as the sheet says. The memory's bytes and the queue's places are not read: any loans of `memory_len` bytes
+// and `queue_len` places do.
+pub fn audit(
+    rows: [Row; 8],
+    counters: Counters,
+    queued: usize,
+    pass: Pass,
+    records: &[u8],
+    memory_len: usize,
+    queue_len: usize,
+) -> bool
+    ensures { λ r. ⌜ Exact rows counters queued pass (now (records .entry)) «memory_len» «queue_len» r ⌝ }
+{
+    let used = used_rows(rows);
+    if !rows_as_boot(rows, used) {
+        return false;
+    }
+    if !loans_long(rows, used, records.len(), memory_len) {
+        return false;
+    }
+    let whole = regions_whole(records, rows, used);
+    if !whole.ok {
+        return false;
+    }
+    if !counted(rows, used, counters, whole) {
+        return false;
+    }
+    within(counters, queued, queue_len, pass)
 }

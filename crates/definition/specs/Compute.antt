@@ -56,7 +56,7 @@ unfolding World.wordAt World.recordAt World.frameOf World.walk World.pagesOf Wor
 worlds = tt
 
 unfoldable pub torn : Unit {0}
-unfolding Torn.bareRegions Torn.rowsAsBoot Torn.loansLong Torn.placedFrom Torn.headsFrom Torn.tiled Torn.heldAlone Torn.walks Torn.listsWalk Torn.unheldListed Torn.heldPages Torn.sound Torn.call Torn.bootCall
+unfolding Torn.bareRegions Torn.rowsAsBoot Torn.loansLong Torn.placedFrom Torn.headsFrom Torn.tiled Torn.heldAlone Torn.walks Torn.listsWalk Torn.unheldListed Torn.heldPages Torn.idlePages Torn.sound Torn.call Torn.bootCall
 torn = tt
 
 unfoldable pub books : Unit {0}

@@ -10,6 +10,8 @@ use lib.ListN.{length, getD, drop}
 use Rattle.definition.specs.declared.Record.{Record}
 use Rattle.definition.specs.declared.Links.{Links}
 use Rattle.definition.specs.declared.Row.{Row}
+use Rattle.definition.specs.declared.Counters.{Counters}
+use Rattle.definition.specs.declared.Pass.{Pass}
 use Rattle.definition.specs.declared.MemoryRegion.{MemoryRegion}
 use Rattle.definition.specs.declared.Refusal.{Refusal}
 use Rattle.definition.specs.declared.Refusal.the-variants.{Torn}
@@ -34,9 +36,9 @@ unfoldable pub bareRegions : Board → List Row → List AllocationRegion
 bareRegions b [] = []
 bareRegions b (row ∷ rows) = bareRegion b row ∷ bareRegions b rows
 
--- the regions of a world
-abbrev pub regionsOf : Board → World → List AllocationRegion
-regionsOf b w = bareRegions b (usedRows (w .rows))
+-- the regions of the rows in use
+abbrev pub regionsOf : Board → List Row → List AllocationRegion
+regionsOf b rows = bareRegions b (usedRows rows)
 
 -- a page edge, more than one page and more than the tables, an end by 2^40
 abbrev pub rowAsBoot : Board → Row → Bool
@@ -47,18 +49,19 @@ rowAsBoot b row =
 abbrev pub sixLists : Row → Bool
 sixLists row = eqb (length (row .lists)) (slot levels false)
 
-unfoldable pub rowsAsBoot : Board → World → Bool
-rowsAsBoot b w =
-    eqb (length (w .rows)) mostRows
-    && (all sixLists (w .rows)
-    && (all isNoRow (drop (length (usedRows (w .rows))) (w .rows))
-    && (all (rowAsBoot b) (usedRows (w .rows)) && (not (overlap b (regionsOf b w)) && leb (total (regionsOf b w)) mostPages))))
+unfoldable pub rowsAsBoot : Board → List Row → Bool
+rowsAsBoot b rows =
+    eqb (length rows) mostRows
+    && (all sixLists rows
+    && (all isNoRow (drop (length (usedRows rows)) rows)
+    && (all (rowAsBoot b) (usedRows rows) && (not (overlap b (regionsOf b rows)) && leb (total (regionsOf b rows)) mostPages))))
 
 -- ---- "and the loans long enough"
 
-unfoldable pub loansLong : Board → World → Bool
-loansLong b w =
-    leb (recordSize * managedPages b (regionsOf b w)) (length (w .records)) && leb (b .page * managedPages b (regionsOf b w)) (length (w .memory))
+-- of loans of so many bytes
+unfoldable pub loansLong : Board → List Row → (records memory : ℕ) → Bool
+loansLong b rows records memory =
+    leb (recordSize * managedPages b (regionsOf b rows)) records && leb (b .page * managedPages b (regionsOf b rows)) memory
 
 -- ---- a row with the page number of its first managed page
 
@@ -70,8 +73,8 @@ unfoldable pub placedFrom : Board → ℕ → List Row → List Placed
 placedFrom b base [] = []
 placedFrom b base (row ∷ rows) = record { base = base; row = row } ∷ placedFrom b (base + managed b (bareRegion b row)) rows
 
-abbrev pub placed : Board → World → List Placed
-placed b w = placedFrom b 0 (usedRows (w .rows))
+abbrev pub placed : Board → List Row → List Placed
+placed b rows = placedFrom b 0 (usedRows rows)
 
 -- the page number behind its last
 abbrev pub past : Board → Placed → ℕ
@@ -177,56 +180,67 @@ heldAs kernel r = cond (isHeldRecord r && eqb (r .marks / 8 % 2) (bit kernel)) (
 unfoldable pub heldPages : Board → Records → Bool → List Placed → ℕ
 heldPages b f kernel xs = sum (λ x. sum (λ h. heldAs kernel (f h)) (heads b f x)) xs
 
-abbrev pub idleCounts : Board → World → Bool
-idleCounts b w = eqb (w .counters .idle) (sum (λ x. listedPages x + tablesOf b x) (placed b w))
+unfoldable pub idlePages : Board → List Placed → ℕ
+idlePages b xs = sum (λ x. listedPages x + tablesOf b x) xs
 
-abbrev pub totalCounts : Board → World → Bool
-totalCounts b w = eqb (w .counters .total) (total (regionsOf b w))
+abbrev pub idleCounts : Board → List Row → Counters → Bool
+idleCounts b rows c = eqb (c .idle) (idlePages b (placed b rows))
 
-abbrev pub kernelCounts : Board → World → Bool
-kernelCounts b w = eqb (w .counters .«kernel_used») (heldPages b (recordAt (w .records)) true (placed b w))
+abbrev pub totalCounts : Board → List Row → Counters → Bool
+totalCounts b rows c = eqb (c .total) (total (regionsOf b rows))
 
-abbrev pub pageCounts : Board → World → Bool
-pageCounts b w = eqb (w .counters .«page_data») (heldPages b (recordAt (w .records)) false (placed b w))
+abbrev pub kernelCounts : Board → Records → List Row → Counters → Bool
+kernelCounts b f rows c = eqb (c .«kernel_used») (heldPages b f true (placed b rows))
+
+abbrev pub pageCounts : Board → Records → List Row → Counters → Bool
+pageCounts b f rows c = eqb (c .«page_data») (heldPages b f false (placed b rows))
 
 -- ---- "`waiting` is 0; the queue's count is within its loan; pass rounds are at most 1,001 and freed at most 100 × rounds"
 
-abbrev pub noneWaiting : World → Bool
-noneWaiting w = eqb (w .counters .waiting) 0
+abbrev pub noneWaiting : Counters → Bool
+noneWaiting c = eqb (c .waiting) 0
 
-abbrev pub queueWithin : World → Bool
-queueWithin w = leb (w .queued) (length (w .queue))
+-- of a loan of so many places
+abbrev pub queueWithin : (queued room : ℕ) → Bool
+queueWithin queued room = leb queued room
 
-abbrev pub passWithin : Board → World → Bool
-passWithin b w = leb (w .pass .rounds) (b .maxRounds + 1) && leb (w .pass .freed) (b .perRound * w .pass .rounds)
+abbrev pub passWithin : Board → Pass → Bool
+passWithin b p = leb (p .rounds) (b .maxRounds + 1) && leb (p .freed) (b .perRound * p .rounds)
 
 -- ---- the sheet
 
+abbrev pub recordsOf : World → Records
+recordsOf w = recordAt (w .records)
+
 pub record Sound (b : Board) (w : World) : Type 0 where
-  pub rows : rowsAsBoot b w ≡ true
-  pub loans : loansLong b w ≡ true
-  pub tiling : tiled b (recordAt (w .records)) (placed b w) ≡ true
-  pub alone : heldAlone b (recordAt (w .records)) (placed b w) ≡ true
-  pub lists : listsWalk b (recordAt (w .records)) (placed b w) ≡ true
-  pub listed : unheldListed b (recordAt (w .records)) (placed b w) ≡ true
-  pub idle : idleCounts b w ≡ true
-  pub totals : totalCounts b w ≡ true
-  pub kernel : kernelCounts b w ≡ true
-  pub page : pageCounts b w ≡ true
-  pub waiting : noneWaiting w ≡ true
-  pub queue : queueWithin w ≡ true
-  pub pass : passWithin b w ≡ true
+  pub rows : rowsAsBoot b (w .rows) ≡ true
+  pub loans : loansLong b (w .rows) (length (w .records)) (length (w .memory)) ≡ true
+  pub tiling : tiled b (recordsOf w) (placed b (w .rows)) ≡ true
+  pub alone : heldAlone b (recordsOf w) (placed b (w .rows)) ≡ true
+  pub lists : listsWalk b (recordsOf w) (placed b (w .rows)) ≡ true
+  pub listed : unheldListed b (recordsOf w) (placed b (w .rows)) ≡ true
+  pub idle : idleCounts b (w .rows) (w .counters) ≡ true
+  pub totals : totalCounts b (w .rows) (w .counters) ≡ true
+  pub kernel : kernelCounts b (recordsOf w) (w .rows) (w .counters) ≡ true
+  pub page : pageCounts b (recordsOf w) (w .rows) (w .counters) ≡ true
+  pub waiting : noneWaiting (w .counters) ≡ true
+  pub queue : queueWithin (w .queued) (length (w .queue)) ≡ true
+  pub pass : passWithin b (w .pass) ≡ true
 
 -- the same as one test
 unfoldable pub sound : Board → World → Bool
 sound b w =
-    rowsAsBoot b w
-    && (loansLong b w
-    && (tiled b (recordAt (w .records)) (placed b w)
-    && (heldAlone b (recordAt (w .records)) (placed b w)
-    && (listsWalk b (recordAt (w .records)) (placed b w)
-    && (unheldListed b (recordAt (w .records)) (placed b w)
-    && (idleCounts b w && (totalCounts b w && (kernelCounts b w && (pageCounts b w && (noneWaiting w && (queueWithin w && passWithin b w)))))))))))
+    rowsAsBoot b (w .rows)
+    && (loansLong b (w .rows) (length (w .records)) (length (w .memory))
+    && (tiled b (recordsOf w) (placed b (w .rows))
+    && (heldAlone b (recordsOf w) (placed b (w .rows))
+    && (listsWalk b (recordsOf w) (placed b (w .rows))
+    && (unheldListed b (recordsOf w) (placed b (w .rows))
+    && (idleCounts b (w .rows) (w .counters)
+    && (totalCounts b (w .rows) (w .counters)
+    && (kernelCounts b (recordsOf w) (w .rows) (w .counters)
+    && (pageCounts b (recordsOf w) (w .rows) (w .counters)
+    && (noneWaiting (w .counters) && (queueWithin (w .queued) (length (w .queue)) && passWithin b (w .pass))))))))))))
 
 -- ---- what a call leaves and answers
 

@@ -52,7 +52,9 @@ holes (suc m) xs d a =
     let r = holes m (without m xs) (distinct-without m d) (all-without m (λ x k h. omega arith) a) in
     omega (arith, length-without m d)
 
--- a list that lacks a page that has a record has fewer
-pub push-fits : {f : ℕ → Record} {n : ℕ} {l : Links} {xs : List ℕ} {p : ℕ} → Linked f n l xs → p < n → Out p xs → l .count < n
-push-fits {n = n} {xs = xs} {p = p} k i o =
-    omega (arith, k .counted, length-append xs (p ∷ []), holes n (xs ++ (p ∷ [])) (distinct-snoc (k .distinct) o) (all-append (k .inside) (all-more i all-none)))
+-- a list of pages below m that lacks one of those has fewer
+pub push-fits
+    : {f : ℕ → Record} {n m : ℕ} {l : Links} {xs : List ℕ} {p : ℕ}
+    → Linked f n l xs → All (λ (x : ℕ). x < m) xs → p < m → Out p xs → l .count < m
+push-fits {m = m} {xs = xs} {p = p} k a i o =
+    omega (arith, k .counted, length-append xs (p ∷ []), holes m (xs ++ (p ∷ [])) (distinct-snoc (k .distinct) o) (all-append a (all-more i all-none)))

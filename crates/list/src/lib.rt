@@ -6,7 +6,7 @@ ghost use mathlib.Core.Path.{_≡_};
 ghost use mathlib.Core.Bool.{cond};
 ghost use mathlib.Core.List.{[], _∷_};
 ghost use mathlib.Core.Logic.{_≢_};
-ghost use Prim.Native.Nat.{_-_, _<_, _^_};
+ghost use Prim.Native.Nat.{_+_, _-_, _<_, _^_};
 ghost use lib.Dec.{eqb};
 ghost use Rattle.definition.specs.World.{recordAt, pagesOf};
 ghost use Rattle.record.specs.Records.{pagesIn};
@@ -42,7 +42,7 @@ pub fn push_back(records: &mut [u8], list: Links, page: usize) -> Links
     requires { ⌜ Sound (recordAt (now records)) (pagesIn (now records)) list ⌝ }
     requires { ⌜ page < pagesIn (now records) ⌝ }
     requires { ⌜ Out page (pagesOf (recordAt (now records)) list) ⌝ }
-    requires { ⌜ pagesIn (now records) < 2 ^ 32 ⌝ }
+    requires { ⌜ (page + 1 < 2 ^ 32) × (list .count + 1 < 2 ^ 32) ⌝ }
     ensures { λ r. ⌜ Pushed (recordAt (now (records .entry))) list (page ∷ []) (recordAt (now (records .exit))) (pagesIn (now (records .exit))) r ⌝ }
 {
     let code = (page + 1) as u32;

@@ -42,7 +42,7 @@ no-list (suc (suc (suc (suc zero)))) = refl
 no-list (suc (suc (suc (suc (suc zero))))) = refl
 no-list (suc (suc (suc (suc (suc (suc k)))))) = refl
 
-module _ (f : ℕ → Record) (n first : ℕ) (start : PhysAddr) (pages : ℕ) (small : n < 2 ^ 32) (fits : first + managed pages ≤ n) where
+module _ (f : ℕ → Record) (n first : ℕ) (start : PhysAddr) (pages : ℕ) (small : first + managed pages < 2 ^ 32) (fits : first + managed pages ≤ n) where
   abbrev g : ℕ → Record
   g = cleared f first (managed pages)
 

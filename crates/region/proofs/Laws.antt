@@ -1,5 +1,5 @@
 -- What stands for a state, and how it changes.
-use Prim.Native.Nat.{ℕ, _+_, _*_, _<_}
+use Prim.Native.Nat.{ℕ, _+_, _*_, _<_, _^_}
 use mathlib.Core.Bool.{Bool, true, false}
 use mathlib.Core.List.{List, [], _∷_, _++_}
 use mathlib.Core.Logic.{_≢_}
@@ -16,6 +16,7 @@ use Rattle.definition.specs.World.{frameOf, levelOf, marksOf, noLinks, pagesOf,
 use Rattle.definition.specs.declared.Links.{Links}
 use Rattle.definition.specs.declared.Record.{Record}
 use Rattle.definition.specs.declared.Row.{Row}
+use Rattle.list.proofs.Count.{push-fits}
 use Rattle.list.proofs.Laws.{all-append, all-head, all-left, all-map, all-right, all-zip, linked-frame, linked-pages, out-last, pushed-linked}
 use Rattle.list.specs.Linked.{All, Apart, Linked, Out, Pushed, Taken}
 use Rattle.list.specs.Linked.All.{all-more, all-none}
@@ -271,6 +272,13 @@ module _
 
     pub up-inside : p < n
     up-inside = omega (arith, R .fits, i .high)
+
+    pub up-small : (p + 1 < 2 ^ 32) × (getD (row .lists) (slot l z) noLinks .count + 1 < 2 ^ 32)
+    up-small = (
+      omega (arith, R .small, i .high),
+      omega
+          (arith, R .small, push-fits (R .lists (slot l z) h) (all-map (λ q a. a .inside .high) (R .listed (slot l z))) (i .high) (o (slot l z))),
+    )
 
     pub up-out : Out p (pagesOf f1 (getD (row .lists) (slot l z) noLinks))
     up-out = rw (linked-pages up-linked) (o (slot l z))

@@ -231,7 +231,7 @@ laid-done {f} {g} {n} {first} {row} {r} {from} {count} {at} L a e d =
 
 -- records that are all zero in the region, and a row of empty lists, stand for a region with no frame yet
 pub blank-rep
-    : (f : ℕ → Record) (n first : ℕ) (row : Row) → n < 2 ^ 32 → first + managed (row .pages) ≤ n
+    : (f : ℕ → Record) (n first : ℕ) (row : Row) → first + managed (row .pages) < 2 ^ 32 → first + managed (row .pages) ≤ n
     → ((q : ℕ) → Inside first (row .pages) q → f q ≡ record { marks = 0; level = 0; earlier = 0; later = 0 })
     → row .lists ≡ noLinks ∷ noLinks ∷ noLinks ∷ noLinks ∷ noLinks ∷ noLinks ∷ []
     → Rep f n first row (record { frames = λ q. frameOf (f q); free = λ k. [] })

@@ -49,7 +49,7 @@ pub record Loose (r : Record) : Type 0 where
 
 -- the records f, of n pages, and the row stand for the state s
 pub record Rep (f : ℕ → Record) (n first : ℕ) (row : Row) (s : Levels) : Type 0 where
-  pub small : n < 2 ^ 32
+  pub small : first + managed (row .pages) < 2 ^ 32
   pub fits : first + managed (row .pages) ≤ n
   pub six : length (row .lists) ≡ 6
   pub lists : (k : ℕ) → k < 6 → Linked f n (getD (row .lists) k noLinks) (s .free k)

@@ -302,9 +302,9 @@ fn organize(records: &mut [u8], first: usize, row: Row, from: usize, count: usiz
     r
 }
 
-// array_pages, frame.rs 285: what the tables of so many pages take. 01 has no more than 1,048,576.
+// array_pages, frame.rs 285: what the tables of so many pages take.
 pub fn table_pages(pages: usize) -> usize
-    requires { ⌜ pages ≤ 1048576 ⌝ }
+    requires { ⌜ pages ≤ 2 ^ 32 ⌝ }
     ensures { λ r. ⌜ r ≡ tablePages standard pages ⌝ }
 {
     (32 * pages + 4095) / 4096
@@ -312,7 +312,7 @@ pub fn table_pages(pages: usize) -> usize
 
 // AllocationRegion::new, frame.rs 277, of a map entry that is kept: whatever stood in its records, they become its frames, all free.
 pub fn new(records: &mut [u8], first: usize, start: PhysAddr, pages: usize) -> Row
-    requires { ⌜ (pages ≤ 1048576) × (pagesIn (now records) < 2 ^ 32) × (first + managed pages ≤ pagesIn (now records)) ⌝ }
+    requires { ⌜ (pages ≤ 1048576) × (first + managed pages < 2 ^ 32) × (first + managed pages ≤ pagesIn (now records)) ⌝ }
     ensures { λ r. ⌜ Becomes (recordAt (now (records .entry))) first (emptyRow start pages) (recordAt (now (records .exit))) (pagesIn (now (records .exit))) r (newState (recordAt (now (records .entry))) first start pages) ⌝ }
     ensures { λ r. ⌜ WholeRow (recordAt (now (records .exit))) first r ⌝ }
 {

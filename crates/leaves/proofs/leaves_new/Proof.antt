@@ -26,7 +26,8 @@ new-requires c κs = search needs
 new-requires-2 : tie.Need-new-requires-2
 new-requires-2 c κs =
     let s = c .before .before .before .before .before .before .before in
-    (omega arith, omega arith, omega (arith, count-is (record { 0 = s .args .start }) (s .args .pages) (c .before .before .before .before .table-pages .ensures)))
+    let e = count-is (record { 0 = s .args .start }) (s .args .pages) (c .before .before .before .before .table-pages .ensures) in
+    (omega arith, omega (arith, e), omega (arith, e))
 
 element-copy-out-small : tie.Need-element-copy-out-small
 element-copy-out-small c = search needs

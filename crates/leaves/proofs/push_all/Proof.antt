@@ -40,7 +40,7 @@ loop-holds c =
 push-back-requires : tie.Need-push-back-requires Inv-loop μ-loop
 push-back-requires c κs =
     let k = c .before .before .loop in
-    (k .inv .sound, (omega arith, (all-map (λ x h. omega arith) (k .inv .below), omega arith)))
+    (k .inv .sound, (omega arith, (all-map (λ x h. omega arith) (k .inv .below), (omega arith, omega (arith, k .inv .counted)))))
 
 add-i : tie.Need-add-i Inv-loop μ-loop
 add-i c = omega arith

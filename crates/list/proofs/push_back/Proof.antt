@@ -1,7 +1,5 @@
 -- `list::push_back` meets its contract: the page is put behind the old back, which, where there is one, is followed by it.
-use native.Mathlib.Omega.{arith}
 use borrow.Author.Needs.{needs}
-use Rattle.list.proofs.Count.{push-fits}
 use Rattle.list.proofs.Laws.{back-of}
 use Rattle.list.proofs.Pushing.{pushed}
 use Rattle.list.proofs.push_back.Statement.{statement}
@@ -25,9 +23,7 @@ either-requires : tie.Need-either-requires
 either-requires c κs = search needs
 
 add-t13 : tie.Need-add-t13
-add-t13 c =
-    let s = c .before .before .before .before .before .before .before .before .before .before .before in
-    omega (arith, push-fits (s .pre .0) (s .pre .1 .0) (s .pre .1 .1 .0))
+add-t13 c = search needs
 
 same-length : tie.Need-same-length
 same-length c = search needs

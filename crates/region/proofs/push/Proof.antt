@@ -3,7 +3,7 @@ use Prim.Native.Nat.{_<_}
 use borrow.Author.Needs.{needs}
 use Rattle.definition.specs.Frame.{slot}
 use Rattle.list.proofs.Laws.{linked-sound}
-use Rattle.region.proofs.Laws.{up-linked, up-inside, up-out, up}
+use Rattle.region.proofs.Laws.{up-linked, up-inside, up-small, up-out, up}
 use Rattle.region.proofs.push.Statement.{statement}
 use Rattle.region.proofs.push.Tie as tie
 
@@ -37,7 +37,7 @@ push-back-requires c κs =
       linked-sound (up-linked (a .level) (a .zeroed) (a .kernel) (s .pre .0) (s .pre .1 .0 .1) h (s .pre .1 .1)),
       (
         up-inside (a .level) (a .zeroed) (a .kernel) (s .pre .0) (s .pre .1 .0 .1) h (s .pre .1 .1),
-        (up-out (a .level) (a .zeroed) (a .kernel) (s .pre .0) (s .pre .1 .0 .1) h (s .pre .1 .1), s .pre .0 .small),
+        (up-out (a .level) (a .zeroed) (a .kernel) (s .pre .0) (s .pre .1 .0 .1) h (s .pre .1 .1), up-small (a .level) (a .zeroed) (a .kernel) (s .pre .0) (s .pre .1 .0 .1) h (s .pre .1 .1)),
       ),
     )
 

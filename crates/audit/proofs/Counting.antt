@@ -1,0 +1,129 @@
+-- Sums over the rows in use, as a loop over them adds them up: of managed pages, of idle pages, and within a row of the pages on its lists. What a region
+-- holds is bounded by the heads that it can have, so that no sum of held pages wraps.
+use Prim.Native.Nat.{ℕ, zero, suc, _+_, _-_, _*_, _/_, _%_, _^_, _≤_, _<_}
+use mathlib.Core.Bool.{Bool, true, false, cond, _&&_}
+use mathlib.Core.List.{List, [], _∷_}
+use mathlib.Core.Path.{_≡_, refl, ap}
+use native.Mathlib.Nat.{mul-le-mul-right}
+use native.Mathlib.Omega.{arith}
+use borrow.Author.Tests.{ltb-true}
+use lib.Dec.{leb, ltb, eqb}
+use lib.ListN.{length, getD, drop}
+use Rattle.definition.specs.declared.Record.{Record}
+use Rattle.definition.specs.declared.Links.{Links}
+use Rattle.definition.specs.declared.Row.{Row}
+use Rattle.definition.specs.Board.{standard}
+use Rattle.definition.specs.Basics.{sum, range, bit}
+use Rattle.definition.specs.Frame.{size, levels}
+use Rattle.definition.specs.Allocator.{tablePages, managed}
+use Rattle.definition.specs.Boot.{managedPages}
+use Rattle.definition.specs.World.{noLinks, bareRegion, usedRows}
+use Rattle.definition.specs.Torn.{
+  Records,
+  bareRegions,
+  regionsOf,
+  placed,
+  placedFrom,
+  isHeldRecord,
+  pagesOfRecord,
+  headsFrom,
+  listedPages,
+  heldAs,
+  idlePages,
+}
+use Rattle.level.proofs.Sizes.{size-most}
+use Rattle.scan.specs.Sheet.{placedAt, heldRow}
+use Rattle.audit.specs.Sheet.{rowAt}
+use Rattle.audit.proofs.Onward.{drop-past, sum-on}
+use Rattle.audit.proofs.Used.{used-at}
+
+-- ---- the rows in use
+
+module _ (w : Row → ℕ) (rows : List Row) where
+  -- what the rows from i on add up to
+  unfoldable pub leftOf : ℕ → ℕ
+  leftOf i = sum w (drop i (usedRows rows))
+
+  pub left-more : (i : ℕ) → i < length (usedRows rows) → leftOf i ≡ w (rowAt rows i) + leftOf (i + 1)
+  unfolding leftOf
+  left-more i h = sum-on w (used-at rows i h)
+
+  pub left-none : (i : ℕ) → length (usedRows rows) ≤ i → leftOf i ≡ 0
+  unfolding leftOf sum
+  left-none i h = ap (sum w) (drop-past (usedRows rows) i h)
+
+abbrev pub managedRow : Row → ℕ
+managedRow row = managed standard (bareRegion standard row)
+
+managed-rows : (rows : List Row) → managedPages standard (bareRegions standard rows) ≡ sum managedRow rows
+unfolding sum bareRegions
+managed-rows [] = refl
+managed-rows (row ∷ rows) = ap (λ (n : ℕ). managedRow row + n) (managed-rows rows)
+
+pub managed-all : (rows : List Row) → managedPages standard (regionsOf standard rows) ≡ leftOf managedRow rows 0
+unfolding leftOf
+managed-all rows = managed-rows (usedRows rows)
+
+-- a row's lists and tables, wherever its pages are numbered from
+abbrev pub idleRow : Row → ℕ
+idleRow row = listedPages (placedAt 0 row) + tablePages standard (row .pages)
+
+idle-rows : (base : ℕ) (rows : List Row) → idlePages standard (placedFrom standard base rows) ≡ sum idleRow rows
+unfolding sum idlePages placedFrom
+idle-rows base [] = refl
+idle-rows base (row ∷ rows) = ap (λ (n : ℕ). idleRow row + n) (idle-rows (base + managedRow row) rows)
+
+pub idle-all : (rows : List Row) → idlePages standard (placed standard rows) ≡ leftOf idleRow rows 0
+unfolding leftOf
+idle-all rows = idle-rows 0 (usedRows rows)
+
+-- ---- the lists of a row
+
+pub sum-last : (w : ℕ → ℕ) (a n : ℕ) → sum w (range a (n + 1)) ≡ sum w (range a n) + w (a + n)
+unfolding sum range
+sum-last w a zero = let e : a + 0 ≡ a = omega arith in rw e (omega arith)
+sum-last w a (suc n) =
+    let e : a + 1 + n ≡ a + suc n = omega arith in
+    let s : suc n + 1 ≡ suc (n + 1) = omega arith in
+    rw s (omega (arith, rw e at (sum-last w (a + 1) n)))
+
+-- the pages on the list k of six, which is of the level k / 2
+abbrev pub listWeight : List Links → ℕ → ℕ
+listWeight lists k = size (k / 2) * getD lists k noLinks .count
+
+pub weight-most : (lists : List Links) (k : ℕ) → k < 6 → getD lists k noLinks .count < 4294967296 → listWeight lists k ≤ 2 ^ 50
+weight-most lists k h m =
+    let l : k / 2 < levels = omega arith in
+    omega (arith, mul-le-mul-right (getD lists k noLinks .count) (size-most l))
+
+-- ---- the pages that a region holds
+
+record-pages : (r : Record) → pagesOfRecord r ≤ 262144
+record-pages r = go (ltb (r .level) levels) refl
+  where
+    go : (t : Bool) → ltb (r .level) levels ≡ t → cond t (size (r .level)) 1 ≤ 262144
+    go true e = size-most (ltb-true (r .level) levels e)
+    go false e = omega arith
+
+held-record : (kernel : Bool) (r : Record) → heldAs kernel r ≤ 262144
+held-record kernel r = go (isHeldRecord r && eqb (r .marks / 8 % 2) (bit kernel))
+  where
+    go : (t : Bool) → cond t (pagesOfRecord r) 0 ≤ 262144
+    go true = record-pages r
+    go false = omega arith
+
+module _ (w : ℕ → ℕ) (most : (h : ℕ) → w h ≤ 262144) (f : Records) where
+  heads-sum : (n at past : ℕ) → sum w (headsFrom f n at past) ≤ 262144 * n
+  unfolding sum headsFrom
+  heads-sum zero at past = omega arith
+  heads-sum (suc n) at past = go (leb past at) (heads-sum n (at + pagesOfRecord (f at)) past)
+    where
+      go : (t : Bool) → sum w (headsFrom f n (at + pagesOfRecord (f at)) past) ≤ 262144 * n
+          → sum w (cond t [] (at ∷ headsFrom f n (at + pagesOfRecord (f at)) past)) ≤ 262144 * suc n
+      go true h = omega arith
+      go false h = omega (arith, most at)
+
+pub held-most : (kernel : Bool) (f : Records) (base : ℕ) (row : Row) → heldRow kernel f (placedAt base row) ≤ 262144 * managedRow row
+held-most kernel f base row =
+    let e : base + managedRow row - base ≡ managedRow row = omega arith in
+    rw e (heads-sum (λ h. heldAs kernel (f h)) (λ h. held-record kernel (f h)) f (managedRow row) base (base + managedRow row))

@@ -1,0 +1,32 @@
+-- `is_back_node` meets its contract: the neighbour is looked at where the page is on the list.
+use mathlib.Core.Path.{sym, _∙_}
+use native.Mathlib.Omega.{arith}
+use borrow.Author.Needs.{needs}
+use Rattle.definition.specs.World.{recordAt}
+use Rattle.scan.proofs.Nodes.{On, on-facts}
+use Rattle.scan.proofs.is_back_node.Statement.{statement}
+use Rattle.scan.proofs.is_back_node.Tie as tie
+
+is-on-requires : tie.Need-is-on-requires
+is-on-requires c κs = search needs
+
+on : (c : tie.Then1) → let a = c .before .before .before .args in On (recordAt (a .records .now)) (a .base) (a .past) (a .k) (a .at)
+on c =
+    let a = c .before .before .before .args in
+    on-facts (recordAt (a .records .now)) (a .base) (a .past) (a .k) (a .at) (sym (c .before .is-on .ensures) ∙ c .if1 .taken)
+
+sub-later : tie.Need-sub-later
+sub-later c = let d = on c in omega arith
+
+later-requires : tie.Need-later-requires
+later-requires c κs = let d = on c in omega arith
+
+returns : tie.Need-returns
+returns c = sym (rw (← c .before .before .is-on .ensures, c .before .if1 .taken, ← c .later .ensures))
+
+returns-2 : tie.Need-returns-2
+returns-2 c = sym (rw (← c .before .is-on .ensures, c .if1 .left))
+
+pub is-back-node-spec : {M : Type 1} → statement M
+is-back-node-spec =
+    tie.close (tie.spec is-on-requires sub-later later-requires returns returns-2)

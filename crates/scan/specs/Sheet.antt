@@ -1,0 +1,126 @@
+-- The torn sheet of one placed row: each clause of `Torn` over the rows is `all` over the clause here. The code gets the region by numbers: `from` is
+-- the page frame number of its first managed page, `base` that page's number in the records, `past` the number behind its last.
+use Prim.Native.Nat.{ℕ, zero, suc, _+_, _-_, _*_, _/_, _%_, _<_}
+use mathlib.Core.Bool.{Bool, true, false, not, cond, _&&_, _||_}
+use mathlib.Core.List.{List}
+use mathlib.Core.Path.{_≡_}
+use lib.Dec.{leb, ltb, eqb}
+use lib.ListN.{getD}
+use Rattle.definition.specs.declared.Record.{Record}
+use Rattle.definition.specs.declared.Links.{Links}
+use Rattle.definition.specs.declared.Row.{Row}
+use Rattle.definition.specs.Board.{standard}
+use Rattle.definition.specs.Basics.{all, sum, range, member}
+use Rattle.definition.specs.Frame.{size, levels}
+use Rattle.definition.specs.World.{isAdmitted, noLinks, pagesOf}
+use Rattle.definition.specs.Torn.{Placed, Records, headsFrom, heads, isBlank, isHead, isHeldRecord, aloneIfHeld, classOf, listWalks, onItsList, heldAs}
+use Rattle.scan.specs.declared.Scanned.{Scanned}
+use Rattle.scan.specs.declared.Whole.{Whole}
+
+-- ---- of a placed row
+
+abbrev pub tiledRow : Records → Placed → Bool
+tiledRow f x = all (isHead standard f x) (heads standard f x)
+
+abbrev pub aloneRow : Records → Placed → Bool
+aloneRow f x = all (λ h. aloneIfHeld (f h)) (heads standard f x)
+
+abbrev pub walksRow : Records → Placed → Bool
+walksRow f x = all (listWalks standard f x) (range 0 6)
+
+abbrev pub listedRow : Records → Placed → Bool
+listedRow f x = all (onItsList f x) (heads standard f x)
+
+abbrev pub heldRow : Bool → Records → Placed → ℕ
+heldRow kernel f x = sum (λ h. heldAs kernel (f h)) (heads standard f x)
+
+-- the four clauses of the sheet that speak of a region's records
+abbrev pub wholeRow : Records → Placed → Bool
+wholeRow f x = tiledRow f x && (aloneRow f x && (walksRow f x && listedRow f x))
+
+abbrev pub placedAt : ℕ → Row → Placed
+placedAt base row = record { base = base; row = row }
+
+-- ---- by numbers
+
+unfoldable pub headAt : Records → (from base past h : ℕ) → Bool
+headAt f from base past h =
+    isAdmitted (f h)
+    && (ltb (f h .marks) 16
+    && (ltb (f h .level) levels
+    && (eqb ((from + (h - base)) % size (f h .level)) 0
+    && (leb (h + size (f h .level)) past && all (λ q. isBlank (f q)) (range (h + 1) (size (f h .level) - 1))))))
+
+abbrev pub headsOf : Records → (base past : ℕ) → List ℕ
+headsOf f base past = headsFrom f (past - base) base past
+
+unfoldable pub tiledAt : Records → (from base past : ℕ) → Bool
+tiledAt f from base past = all (headAt f from base past) (headsOf f base past)
+
+unfoldable pub aloneAt : Records → (base past : ℕ) → Bool
+aloneAt f base past = all (λ h. aloneIfHeld (f h)) (headsOf f base past)
+
+unfoldable pub heldAt : Bool → Records → (base past : ℕ) → ℕ
+heldAt kernel f base past = sum (λ h. heldAs kernel (f h)) (headsOf f base past)
+
+-- 1 for an unheld head that belongs on the list k
+abbrev pub unheldAs : ℕ → Record → ℕ
+unheldAs k r = cond (not (isHeldRecord r) && eqb (classOf r) k) 1 0
+
+unfoldable pub unheldAt : ℕ → Records → (base past : ℕ) → ℕ
+unheldAt k f base past = sum (λ h. unheldAs k (f h)) (headsOf f base past)
+
+-- the number `at` names an unheld frame of the region and the list k
+unfoldable pub onAt : Records → (base past k at : ℕ) → Bool
+onAt f base past k at =
+    ltb base at && (leb at past && (isAdmitted (f (at - 1)) && (not (isHeldRecord (f (at - 1))) && eqb (classOf (f (at - 1))) k)))
+
+-- and its earlier neighbour is prev
+unfoldable pub nodeAt : Records → (base past k prev at : ℕ) → Bool
+nodeAt f base past k prev at =
+    ltb base at
+    && (leb at past
+    && (isAdmitted (f (at - 1))
+    && (not (isHeldRecord (f (at - 1))) && (eqb (classOf (f (at - 1))) k && eqb (f (at - 1) .earlier) prev))))
+
+-- and its later neighbour is next
+abbrev pub backNodeAt : Records → (base past k at next : ℕ) → Bool
+backNodeAt f base past k at next = onAt f base past k at && eqb (f (at - 1) .later) next
+
+unfoldable pub walksAt : Records → (base past k : ℕ) → (count prev at last : ℕ) → Bool
+walksAt f base past k zero prev at last = eqb at 0 && eqb prev last
+walksAt f base past k (suc n) prev at last = nodeAt f base past k prev at && walksAt f base past k n at (f (at - 1) .later) last
+
+abbrev pub listAt : Records → (base past : ℕ) → List Links → ℕ → Bool
+listAt f base past lists k =
+    walksAt f base past k (getD lists k noLinks .count) 0 (getD lists k noLinks .front) (getD lists k noLinks .back)
+
+unfoldable pub listedAt : Records → List Links → (base past : ℕ) → Bool
+listedAt f lists base past = all (λ h. isHeldRecord (f h) || member h (pagesOf f (getD lists (classOf (f h)) noLinks))) (headsOf f base past)
+
+-- the place of a head in a tally, by its marks and level: that of its list where it is unheld, else 6, or 7 with KERNEL
+unfoldable pub placeOf : ℕ → ℕ → ℕ
+placeOf m l = cond (eqb (m / 2 % 2) 1) (6 + m / 8 % 2) (l * 2 + m / 4 % 2)
+
+-- what a head adds there, by its marks and pages: 1 where it is unheld, else its pages
+unfoldable pub shareOf : ℕ → ℕ → ℕ
+shareOf m pages = cond (eqb (m / 2 % 2) 1) pages 1
+
+-- ---- what the functions answer
+
+-- whether the heads are as the sheet says, and if so the unheld ones of each list, and the pages held without and with KERNEL
+pub record Tallied (f : Records) (from base past : ℕ) (r : Scanned) : Type 0 where
+  pub exact : r .ok ≡ (tiledAt f from base past && aloneAt f base past)
+  pub unheld : r .ok ≡ true → (k : ℕ) → k < 6 → getD (r .tally) k 0 ≡ unheldAt k f base past
+  pub page : r .ok ≡ true → getD (r .tally) 6 0 ≡ heldAt false f base past
+  pub kernel : r .ok ≡ true → getD (r .tally) 7 0 ≡ heldAt true f base past
+
+-- list k walks, and has as many nodes as the tally says
+abbrev pub fullAt : Records → (base past : ℕ) → List Links → List ℕ → ℕ → Bool
+fullAt f base past lists tally k = listAt f base past lists k && eqb (getD lists k noLinks .count) (getD tally k 0)
+
+-- whether a row's region is whole, and if so the pages held without and with KERNEL
+pub record Audited (f : Records) (x : Placed) (r : Whole) : Type 0 where
+  pub exact : r .ok ≡ wholeRow f x
+  pub page : r .ok ≡ true → r .page ≡ heldRow false f x
+  pub kernel : r .ok ≡ true → r .kernel ≡ heldRow true f x

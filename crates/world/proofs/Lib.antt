@@ -1,0 +1,12 @@
+pub mod Clauses
+pub mod Regions
+pub mod Sheets
+pub mod Parts
+pub mod Shifting
+pub mod Numbering
+pub mod Memory
+pub mod Unused
+pub mod Encoding
+pub mod RoundTrip
+pub mod Carrying
+pub mod Changing
