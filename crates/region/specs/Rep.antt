@@ -12,6 +12,7 @@ use Rattle.address.specs.declared.PhysAddr.{PhysAddr}
 use Rattle.definition.specs.declared.Record.{Record}
 use Rattle.definition.specs.declared.Links.{Links}
 use Rattle.definition.specs.declared.Row.{Row}
+use Rattle.definition.specs.Basics.{upd}
 use Rattle.definition.specs.Board.{standard}
 use Rattle.definition.specs.Frame.{Frame, Levels, Found, size, push, change, withAllocated, isAllocated, splitAndKeep, highest, organize}
 use Rattle.definition.specs.Allocator.{tablePages, contains}
@@ -85,6 +86,14 @@ listUp s page l z k = push s page (record { level = l; allocated = false; zeroed
 -- the frame at a page is held
 abbrev pub holdAt : Levels → ℕ → Levels
 holdAt s page = record { frames = change (withAllocated true) (s .frames) page; free = s .free }
+
+-- a frame with other marks ZEROED and KERNEL
+abbrev pub marked : (zeroed kernel : Bool) → Option Frame → Option Frame
+marked zeroed kernel none = none
+marked zeroed kernel (some f) = some (record { level = f .level; allocated = f .allocated; zeroed = zeroed; kernel = kernel })
+
+abbrev pub markedLevels : Levels → ℕ → (zeroed kernel : Bool) → Levels
+markedLevels s page zeroed kernel = record { frames = upd (s .frames) page (marked zeroed kernel (s .frames page)); free = s .free }
 
 -- a held frame is split into held ones
 abbrev pub keptLevels : Levels → ℕ → Levels

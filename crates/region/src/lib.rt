@@ -37,6 +37,7 @@ ghost use Rattle.region.specs.Rep.{
   stateOf,
   listUp,
   keptLevels,
+  markedLevels,
   emptyRow,
   newState,
   pageOf,
@@ -253,6 +254,24 @@ pub fn free(records: &mut [u8], first: usize, row: Row, page: usize) -> Row
     let zeroed = record::is_zeroed(r.marks);
     let kernel = record::is_kernel(r.marks);
     push(records, first, row, page, r.level as usize, zeroed, kernel)
+}
+
+// Frame::set_not_zero, set_kernel, and zero but for the bytes (frame.rs 443, 470, 430): the marks of a held frame, which stays held.
+pub fn set_marks(
+    records: &mut [u8],
+    first: usize,
+    row: Row,
+    page: usize,
+    zeroed: bool,
+    kernel: bool,
+)
+    requires { ⌜ SoundRow (recordAt (now records)) (pagesIn (now records)) first row ⌝ }
+    requires { ⌜ WholeRow (recordAt (now records)) first row ⌝ }
+    requires { ⌜ Held (stateOf (recordAt (now records)) row) first (row .pages) page ⌝ }
+    ensures { λ _. ⌜ Becomes (recordAt (now (records .entry))) first row (recordAt (now (records .exit))) (pagesIn (now (records .exit))) row (markedLevels (stateOf (recordAt (now (records .entry))) row) page zeroed kernel) ⌝ }
+    ensures { λ _. ⌜ WholeRow (recordAt (now (records .exit))) first row ⌝ }
+{
+    record::set_marks(records, page, record::free_marks(zeroed, kernel) + 2);
 }
 
 // AllocationRegion::split_and_keep, frame.rs 203: a held frame becomes 512 held ones, with its marks.

@@ -10,3 +10,5 @@ pub mod Encoding
 pub mod RoundTrip
 pub mod Carrying
 pub mod Changing
+pub mod Tables
+pub mod Allocators
