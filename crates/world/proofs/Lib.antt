@@ -12,3 +12,5 @@ pub mod Carrying
 pub mod Changing
 pub mod Tables
 pub mod Allocators
+pub mod Refusing
+pub mod Calling

@@ -1,2 +1,3 @@
 pub mod Stands
 pub mod Tables
+pub mod Refusals

@@ -1,0 +1,85 @@
+-- What `call` comes to on a world: torn, refused, or done. Where it is refused the world stays, every byte of it; where it is done, the world that the new store
+-- is written to is what is left.
+use Prim.Native.Nat.{ℕ, _<_}
+use mathlib.Core.Bool.{true, false}
+use mathlib.Core.Option.{Option, none, some}
+use mathlib.Core.Path.{_≡_, refl, sym, ap, _∙_}
+use native.Mathlib.Omega.{arith}
+use lib.ListN.{getD}
+use Rattle.definition.specs.declared.Refusal.{Refusal}
+use Rattle.definition.specs.declared.Refusal.the-variants.{
+  LongMap,
+  FarAddress,
+  Overlap,
+  TooManyPages,
+  ShortLoan,
+  Torn,
+  BadLayout,
+  NoLevel,
+  NoFrame,
+  MustWait,
+  Outside,
+  NoFrameStart,
+  NotHeld,
+  PastTheEnd,
+  PagerLow,
+  QueueFull,
+  BadLine,
+}
+use Rattle.definition.specs.Board.{standard}
+use Rattle.definition.specs.Refusal.{lowest, numberOf}
+use Rattle.definition.specs.Calls.{Call, Answer, Refused, Outcome, names, perform, sheet, step}
+use Rattle.definition.specs.World.{World, decode, encode}
+use Rattle.definition.specs.Torn.{Left, Sound, call, sound}
+use Rattle.world.specs.Refusals.{numberIf}
+use Rattle.world.proofs.RoundTrip.{round-trip}
+
+pub torn-call : (w : World) (c : Call) → sound standard w ≡ false → call standard w c ≡ record { world = w; answer = Refused Torn }
+unfolding call
+torn-call w c e = rw e refl
+
+module _ (w : World) (c : Call) (t : sound standard w ≡ true) where
+  abbrev found : Option Refusal
+  found = lowest (sheet standard (decode standard w) (names c))
+
+  pub refused-call
+      : Sound standard w → ((i : ℕ) → getD (w .records) i 0 < 256) → (r : Refusal) → found ≡ some r
+      → call standard w c ≡ record { world = w; answer = Refused r }
+  unfolding call step
+  refused-call S small r e = rw (t, e) (ap (λ (v : World). record { world = v; answer = Refused r }) (round-trip w S small))
+
+  pub done-call
+      : (o : Outcome) (v : World) → found ≡ none → perform standard (decode standard w) c ≡ o → encode standard (o .store) w ≡ v
+      → call standard w c ≡ record { world = v; answer = o .answer }
+  unfolding call step
+  done-call o v e p d = rw (t, e, p) (ap (λ (x : World). record { world = x; answer = o .answer }) d)
+
+-- ---- by numbers
+
+numbered : (r : Refusal) → 0 < numberOf r
+numbered LongMap = omega arith
+numbered FarAddress = omega arith
+numbered Overlap = omega arith
+numbered TooManyPages = omega arith
+numbered ShortLoan = omega arith
+numbered Torn = omega arith
+numbered BadLayout = omega arith
+numbered NoLevel = omega arith
+numbered NoFrame = omega arith
+numbered MustWait = omega arith
+numbered Outside = omega arith
+numbered NoFrameStart = omega arith
+numbered NotHeld = omega arith
+numbered PastTheEnd = omega arith
+numbered PagerLow = omega arith
+numbered QueueFull = omega arith
+numbered BadLine = omega arith
+
+-- 0 says that no line of the sheet is met, and another number which one is
+pub none-met : (o : Option Refusal) → numberIf o ≡ 0 → o ≡ none
+none-met none e = refl
+none-met (some r) e = absurd (omega (arith, numbered r))
+
+pub one-met : (o : Option Refusal) (n : ℕ) → numberIf o ≡ n → (n ≡ 0 → ⊥) → (r : Refusal) × (o ≡ some r) × (numberOf r ≡ n)
+one-met none n e d = absurd (d (sym e))
+one-met (some r) n e d = (r, refl, e)
