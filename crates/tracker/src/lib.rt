@@ -1,9 +1,8 @@
 // The nine counters of the store, after tracker.rs's MemoryTracker: grants and frees counted, whether memory is low, the pager's loan, and the
 // statistics as text. Counters go in and come out by value, where the Rust has atomics.
 use definition::Counters;
-ghost use mathlib.Core.Bool.{cond};
 ghost use mathlib.Core.Path.{_≡_};
-ghost use Prim.Native.Nat.{_+_, _^_, _<_, _≤_};
+ghost use Prim.Native.Nat.{_+_, _-_, _^_, _<_, _≤_};
 ghost use lib.ListN.{length};
 ghost use Rattle.definition.specs.Board.{standard};
 ghost use Rattle.definition.specs.Tracker.{
@@ -20,13 +19,20 @@ ghost use Rattle.definition.specs.Tracker.{
 ghost use Rattle.text.specs.Writing.{Wrote};
 ghost use Rattle.tracker.specs.Stats.{countsLine, hundredths, shareOf, shareLines};
 
+// What is left of a counter, at least 0: so that each count is the definition's on every input. On a sound store nothing is ever cut off.
+fn less(count: usize, pages: usize) -> usize
+    ensures { λ r. ⌜ r ≡ count - pages ⌝ }
+{
+    if pages <= count { count - pages } else { 0 }
+}
+
 // tracker.rs 69 to 80: so many pages were granted, to the kernel or not.
 pub fn count_alloc(c: Counters, pages: usize, kernel: bool) -> Counters
-    requires { ⌜ (pages ≤ c .idle) × (c .«kernel_used» + pages < 2 ^ 64) × (c .«page_data» + pages < 2 ^ 64) ⌝ }
+    requires { ⌜ (c .«kernel_used» + pages < 2 ^ 64) × (c .«page_data» + pages < 2 ^ 64) ⌝ }
     ensures { λ r. ⌜ r ≡ countAlloc pages kernel c ⌝ }
 {
     let mut d = c;
-    d.idle -= pages;
+    d.idle = less(c.idle, pages);
     d.allocated = std::num::wrapping_add_usize(c.allocated, pages);
     if kernel {
         d.kernel_used += pages;
@@ -38,16 +44,16 @@ pub fn count_alloc(c: Counters, pages: usize, kernel: bool) -> Counters
 
 // tracker.rs 42 to 50: so many pages were freed.
 pub fn count_free(c: Counters, pages: usize, kernel: bool) -> Counters
-    requires { ⌜ (pages ≤ cond kernel (c .«kernel_used») (c .«page_data»)) × (c .idle + pages < 2 ^ 64) ⌝ }
+    requires { ⌜ c .idle + pages < 2 ^ 64 ⌝ }
     ensures { λ r. ⌜ r ≡ countFree pages kernel c ⌝ }
 {
     let mut d = c;
     d.idle += pages;
     d.freed = std::num::wrapping_add_usize(c.freed, pages);
     if kernel {
-        d.kernel_used -= pages;
+        d.kernel_used = less(c.kernel_used, pages);
     } else {
-        d.page_data -= pages;
+        d.page_data = less(c.page_data, pages);
     }
     d
 }
