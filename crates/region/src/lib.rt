@@ -354,7 +354,7 @@ pub fn new(records: &mut [u8], first: usize, start: PhysAddr, pages: usize) -> R
 
 // FrameIndexer::get_frame, frame.rs 669: the page of an address, where the region manages it.
 pub fn get_frame(row: Row, first: usize, pa: PhysAddr) -> FoundPage
-    requires { ⌜ (row .pages ≤ 1048576) × (first + managed (row .pages) < 2 ^ 64) ⌝ }
+    requires { ⌜ (row .pages ≤ 2 ^ 32) × (first + managed (row .pages) < 2 ^ 64) ⌝ }
     ensures { λ r. ⌜ pageOf r ≡ lookup row first (pa .0 / 4096) ⌝ }
 {
     let number = pa.page_number();
@@ -373,7 +373,7 @@ pub fn get_frame(row: Row, first: usize, pa: PhysAddr) -> FoundPage
 
 // Frame::start_address, frame.rs 414: the first address of a page of the region.
 pub fn start_address(row: Row, first: usize, page: usize) -> PhysAddr
-    requires { ⌜ (row .pages ≤ 1048576) × Inside first (row .pages) page × (fromOf row + managed (row .pages) ≤ 2 ^ 52) ⌝ }
+    requires { ⌜ (row .pages ≤ 2 ^ 32) × Inside first (row .pages) page × (fromOf row + managed (row .pages) ≤ 2 ^ 52) ⌝ }
     ensures { λ r. ⌜ r .0 ≡ 4096 * (fromOf row + (page - first)) ⌝ }
 {
     let begin = row.start;

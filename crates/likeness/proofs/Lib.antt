@@ -1,0 +1,11 @@
+pub mod Lists
+pub mod Sheet
+pub mod Search
+pub mod Leveled
+pub mod Splits
+pub mod Grants
+pub mod Frees
+pub mod Rounds
+pub mod Booking
+pub mod Likeness
+pub mod Needed
