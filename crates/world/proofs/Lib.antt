@@ -14,3 +14,7 @@ pub mod Tables
 pub mod Allocators
 pub mod Refusing
 pub mod Calling
+pub mod Places
+pub mod Writing
+pub mod Spans
+pub mod Leaving

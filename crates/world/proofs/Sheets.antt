@@ -71,7 +71,7 @@ used-all test (row ∷ rows) t = go (eqb (row .pages) 0) (and-left _ _ t) (used-
     go false a r = and-true a r
 
 -- the tables' pages count in the total, so the limit on it holds for the managed pages
-managed-most : (rs : List AllocationRegion) → managedPages standard rs ≤ total rs
+pub managed-most : (rs : List AllocationRegion) → managedPages standard rs ≤ total rs
 unfolding sum
 managed-most [] = omega arith
 managed-most (r ∷ rs) = omega (arith, managed-most rs)

@@ -1,0 +1,9 @@
+pub mod Arrays
+pub mod Listing
+pub mod Seeing
+pub mod Turning
+pub mod Barren
+pub mod InOrder
+pub mod Standing
+pub mod Picking
+pub mod TwoPasses

@@ -1,0 +1,134 @@
+-- `see` meets its contract. The loop's invariant is `Looking`: some region manages the page exactly if one of those that are left does, and `base` is where
+-- their pages start.
+use Prim.Native.Nat.{_-_, _/_, _<_}
+use native.Mathlib.Omega.{arith}
+use borrow.Author.Needs.{needs}
+use Rattle.definition.specs.World.{recordAt}
+use Rattle.record.specs.Records.{pagesIn}
+use Rattle.region.specs.Rep.{managed}
+use Rattle.allocator.proofs.Arrays.{row-last, row-eighth}
+use Rattle.allocator.proofs.Seeing.{Looking, looking-none, Here, here, nothing-left, not-here, found-inside, found-here}
+use Rattle.allocator.proofs.see.Statement.{statement}
+use Rattle.allocator.proofs.see.Tie as tie
+
+abbrev Inv-loop : tie.InvT-loop
+Inv-loop records pa rows base₀ i₀ base i = Looking (recordAt records) (pagesIn records) rows (pa .0 / 4096) base i
+
+abbrev μ-loop : tie.MeasureT-loop
+μ-loop records pa rows base₀ i₀ base i = 8 - i
+
+loop-holds : tie.Need-loop-holds Inv-loop μ-loop
+loop-holds c = looking-none
+
+mul-row : tie.Need-mul-row Inv-loop μ-loop
+mul-row c = search needs
+
+array-copy-out-row : tie.Need-array-copy-out-row Inv-loop μ-loop
+array-copy-out-row c = search needs
+
+nothing-seen-requires : tie.Need-nothing-seen-requires Inv-loop μ-loop
+nothing-seen-requires c κs = search needs
+
+returns : tie.Need-returns Inv-loop μ-loop
+returns c =
+    let s = c .before .before .before .before .before .before .before in
+    let k = c .before .before .before .before .before .loop in
+    nothing-left (k .inv) (c .nothing-seen .result) (c .nothing-seen .ensures) (row-last (s .pre) (k .i) (k .inv .onward .used) (c .before .if1 .taken))
+
+-- the row of a turn
+turn : (c : tie.Else1 Inv-loop μ-loop) → let a = c .before .before .before .before .before .before .args in
+    Here (pagesIn (a .records .now)) (a .t2) (c .before .before .before .before .loop .base) (c .before .before .before .before .loop .i)
+turn c =
+    let s = c .before .before .before .before .before .before in
+    let k = c .before .before .before .before .loop in
+    here (k .inv) (s .pre) (c .before .before .before .loop-test .taken) (c .if1 .left)
+
+get-frame-requires : tie.Need-get-frame-requires Inv-loop μ-loop
+get-frame-requires c κs = let t = turn c in (t .pages, omega (arith, t .small))
+
+enum-known-page : tie.Need-enum-known-page Inv-loop μ-loop
+enum-known-page c = search needs
+
+-- the page has a record
+inside : (c : tie.After-known-told Inv-loop μ-loop) → let s = c .before .before .before .before .before .before .before .before .before .before in
+    c .before .page .given .0 .0 < pagesIn (s .args .records .now)
+inside c =
+    let k = c .before .before .before .before .before .before .before .before .loop in
+    let g = c .before .before .before .get-frame in
+    let v = c .before .page .given in
+    found-inside (k .inv) (turn (c .before .before .before .before)) (g .result) (g .ensures) (v .0 .0) (v .1)
+
+marks-requires : tie.Need-marks-requires Inv-loop μ-loop
+marks-requires c κs = inside c
+
+level-requires : tie.Need-level-requires Inv-loop μ-loop
+level-requires c κs = inside (c .before)
+
+returns-2 : tie.Need-returns-2 Inv-loop μ-loop
+returns-2 c =
+    let k = c .before .before .before .before .before .before .before .before .before .before .loop in
+    let g = c .before .before .before .before .before .get-frame in
+    let v = c .before .before .before .page .given in
+    found-here (k .inv) (turn (c .before .before .before .before .before .before)) (g .result) (g .ensures) (v .0 .0) (v .1)
+    (c .before .marks .result) (c .level .result) (c .before .marks .ensures) (c .level .ensures)
+
+enum-told : tie.Need-enum-told Inv-loop μ-loop
+enum-told c = search needs
+
+table-pages-requires : tie.Need-table-pages-requires Inv-loop μ-loop
+table-pages-requires c κs = let t = turn (c .before .before .before) in omega (arith, t .pages)
+
+sub-base : tie.Need-sub-base Inv-loop μ-loop
+sub-base c = let t = turn (c .before .before .before .before .before) in omega (arith, t .tables, c .before .table-pages .ensures)
+
+add-base : tie.Need-add-base Inv-loop μ-loop
+add-base c = let t = turn (c .before .before .before .before .before) in omega (arith, t .small, c .before .table-pages .ensures)
+
+add-i : tie.Need-add-i Inv-loop μ-loop
+add-i c = search needs
+
+loop-less : tie.Need-loop-less Inv-loop μ-loop
+loop-less c = search needs
+
+loop-again : tie.Need-loop-again Inv-loop μ-loop
+unfolding managed
+loop-again c =
+    let k = c .before .before .before .before .before .before .before .before .before .loop in
+    let g = c .before .before .before .before .get-frame in
+    rw (c .before .table-pages .ensures)
+    (not-here (k .inv) (turn (c .before .before .before .before .before)) (g .result) (g .ensures) (c .before .before .enum-told .given .1))
+
+nothing-seen-requires-2 : tie.Need-nothing-seen-requires-2 Inv-loop μ-loop
+nothing-seen-requires-2 c κs = search needs
+
+returns-3 : tie.Need-returns-3 Inv-loop μ-loop
+returns-3 c =
+    let s = c .before .before .before .before in
+    let k = c .before .before .loop in
+    nothing-left (k .inv) (c .nothing-seen2 .result) (c .nothing-seen2 .ensures) (row-eighth (s .pre) (k .i) (c .before .loop-test .left))
+
+pub see-spec : {M : Type 1} → statement M
+see-spec =
+    tie.close
+    (tie.spec
+    Inv-loop
+    μ-loop
+    loop-holds
+    mul-row
+    array-copy-out-row
+    nothing-seen-requires
+    returns
+    get-frame-requires
+    enum-known-page
+    marks-requires
+    level-requires
+    returns-2
+    enum-told
+    table-pages-requires
+    sub-base
+    add-base
+    add-i
+    loop-less
+    loop-again
+    nothing-seen-requires-2
+    returns-3)
