@@ -1,0 +1,3 @@
+pub mod Blocks
+pub mod Claim
+pub mod Good

@@ -1,0 +1,171 @@
+// What every call shares: the state that its caller keeps, its answer, and its tests, the audit (refusal 6) and the refusals of a frame that must be held (11 to
+// 14). Each call promises `Leaves`: what it leaves and answers is definition's `call` of what it was given, with no condition on its caller.
+use address::PhysAddr;
+use allocator::Seen;
+use definition::Counters;
+use definition::Pass;
+use definition::Row;
+ghost use mathlib.Core.Path.{_≡_};
+ghost use Prim.Native.Nat.{ℕ, _+_, _/_, _%_, _<_, _≤_, _^_};
+ghost use lib.ListN.{length};
+ghost use Rattle.definition.specs.World.{recordAt};
+ghost use Rattle.record.specs.Records.{pagesIn};
+ghost use Rattle.world.specs.Refusals.{lower as «lower_def»};
+ghost use Rattle.world.specs.Tables.{Sane};
+ghost use Rattle.exam.specs.Promise.{
+  Tests,
+  Fit,
+  Leveled,
+  bytesIf,
+  seenRefusal,
+  Looks,
+  Exams,
+};
+
+// What the caller keeps between calls, beside the loans.
+pub struct State {
+    pub rows: [Row; 8],
+    pub counters: Counters,
+    pub queued: usize,
+    pub pass: Pass,
+}
+
+// The refusal's number, or 0 with an address and a count of bytes, as 01's script prints them.
+pub struct Answer {
+    pub number: u32,
+    pub address: u64,
+    pub bytes: u64,
+}
+
+pub struct Outcome {
+    pub state: State,
+    pub answer: Answer,
+}
+
+pub fn refused(number: u32) -> Answer
+    ensures { λ r. ⌜ r ≡ record { number = number; address = 0; bytes = 0 } ⌝ }
+{
+    Answer {
+        number,
+        address: 0,
+        bytes: 0,
+    }
+}
+
+pub fn done(address: u64, bytes: u64) -> Answer
+    ensures { λ r. ⌜ r ≡ record { number = 0; address = address; bytes = bytes } ⌝ }
+{
+    Answer {
+        number: 0,
+        address,
+        bytes,
+    }
+}
+
+// ---- the tests of a call
+
+pub fn is_sound(state: State, records: &[u8], memory_len: usize, queue_len: usize) -> bool
+    ensures { λ r. ⌜ Tests state (now (records .entry)) «memory_len» «queue_len» r ⌝ }
+{
+    let rows = state.rows;
+    audit::audit(
+        rows,
+        state.counters,
+        state.queued,
+        state.pass,
+        records,
+        memory_len,
+        queue_len,
+    )
+}
+
+// The bytes of the frame that starts at a page that was seen, 0 where none does.
+pub fn frame_bytes(seen: Seen) -> u64
+    requires { ⌜ Fit seen ⌝ }
+    ensures { λ r. ⌜ r ≡ bytesIf seen ⌝ }
+{
+    if !record::is_admitted(seen.marks) {
+        return 0;
+    }
+    let pages = level::pages_at(seen.level as usize);
+    4096 * (pages as u64)
+}
+
+// Refusals 11 to 14 of a frame that must be held, with a range of it.
+fn refusal(seen: Seen, pa: PhysAddr, offset: u64, len: u64) -> u32
+    requires { ⌜ Leveled seen ⌝ }
+    ensures { λ r. ⌜ r ≡ seenRefusal seen (pa .0) offset len ⌝ }
+{
+    if !seen.managed {
+        return 11;
+    }
+    if !pa.is_aligned_to(4096) {
+        return 12;
+    }
+    if !record::is_admitted(seen.marks) {
+        return 12;
+    }
+    if !record::is_allocated(seen.marks) {
+        return 13;
+    }
+    let bytes = frame_bytes(seen);
+    if bytes < offset {
+        return 14;
+    }
+    if bytes - offset < len {
+        return 14;
+    }
+    0
+}
+
+// What a call finds at an address: the refusal that it meets there, and what stands there.
+pub struct Exam {
+    pub number: u32,
+    pub seen: Seen,
+}
+
+pub fn look(records: &[u8], rows: [Row; 8], pa: PhysAddr, offset: u64, len: u64) -> Exam
+    requires { ⌜ Sane (recordAt (now records)) (pagesIn (now records)) rows ⌝ }
+    ensures { λ r. ⌜ Looks (recordAt (now (records .entry))) (pagesIn (now (records .entry))) rows (pa .0) offset len r ⌝ }
+{
+    let seen = allocator::see(records, rows, pa);
+    Exam {
+        number: refusal(seen, pa, offset, len),
+        seen,
+    }
+}
+
+// The audit, and then the refusals of one held frame.
+pub fn examine(
+    state: State,
+    records: &[u8],
+    memory_len: usize,
+    queue_len: usize,
+    pa: PhysAddr,
+    offset: u64,
+    len: u64,
+) -> Exam
+    ensures { λ r. ⌜ Exams state (now (records .entry)) «memory_len» «queue_len» (pa .0) offset len r ⌝ }
+{
+    if !is_sound(state, records, memory_len, queue_len) {
+        return Exam {
+            number: 6,
+            seen: allocator::nothing_seen(),
+        };
+    }
+    let rows = state.rows;
+    look(records, rows, pa, offset, len)
+}
+
+// Of two refusals the lower number, where 0 is none.
+pub fn lower(a: u32, b: u32) -> u32
+    ensures { λ r. ⌜ r ≡ «lower_def» a b ⌝ }
+{
+    if a == 0 {
+        return b;
+    }
+    if b == 0 {
+        return a;
+    }
+    if a < b { a } else { b }
+}
