@@ -1,4 +1,4 @@
-//! Links the archive that `rt staticlib leaves` writes.
+//! Links the archives that `rt staticlib leaves` and `rt staticlib words` write.
 
 use std::env;
 
@@ -6,6 +6,8 @@ fn main() {
     let package = env::var("CARGO_MANIFEST_DIR").unwrap();
     let archives = format!("{package}/../target/staticlib");
     println!("cargo::rustc-link-search=native={archives}");
-    println!("cargo::rustc-link-lib=static=leaves");
-    println!("cargo::rerun-if-changed={archives}/libleaves.a");
+    for name in ["leaves", "words"] {
+        println!("cargo::rustc-link-lib=static={name}");
+        println!("cargo::rerun-if-changed={archives}/lib{name}.a");
+    }
 }

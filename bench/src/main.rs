@@ -1,16 +1,31 @@
 //! Times the leaf crates of the store: records and lists against the same steps
 //! in plain Rust, a grant that splits a frame against the kernel's own, and a
-//! region's layout against a plain fill of its records. README.md says what the
-//! figures mean.
+//! region's layout against a plain fill of its records; and the audit against
+//! the same audit in plain Rust. README.md says what the figures mean.
 
+mod audit;
 mod clock;
 mod original;
 mod plain;
+mod plain_audit;
 mod rattle;
 mod records;
 mod regions;
+mod whole;
 
 fn main() {
+    // The name of one part runs it alone.
+    let part = std::env::args().nth(1);
+    let runs = |name: &str| part.as_ref().is_none_or(|part| part == name);
+    if runs("leaves") {
+        leaves();
+    }
+    if runs("audit") {
+        audit::run();
+    }
+}
+
+fn leaves() {
     records::heading();
     for pages in [16, 4096, 262_144] {
         records::run(pages);

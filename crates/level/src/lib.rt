@@ -120,7 +120,11 @@ pub fn pages_at(level: usize) -> usize
     requires { ⌜ level < levels ⌝ }
     ensures { λ r. ⌜ r ≡ pagesOf level ⌝ }
 {
-    Level::at(level).pages()
+    match level {
+        0 => Level::Small.pages(),
+        1 => Level::Large.pages(),
+        _ => Level::Huge.pages(),
+    }
 }
 
 // frame.rs 313, "select level based on alignment and space": the highest that fits.

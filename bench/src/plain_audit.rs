@@ -1,0 +1,233 @@
+//! The audit once more, in plain Rust: the same steps over the same words and
+//! records, with slices indexed as one writes them. The walk of a list is there
+//! twice: from both ends at once, as the store walks, and from one.
+
+const ROW: usize = 20;
+const COUNTERS: usize = 8 * ROW;
+const WORDS: usize = COUNTERS + 12;
+
+/// 2^40 bytes, in pages.
+const LAST: u64 = 1 << 28;
+
+#[derive(Clone, Copy, Default)]
+struct Links {
+    front: u32,
+    back: u32,
+    count: u32,
+}
+
+#[derive(Clone, Copy, Default)]
+struct Row {
+    start: u64,
+    pages: u64,
+    lists: [Links; 6],
+}
+
+impl Row {
+    fn of(words: &[u64]) -> Row {
+        let mut lists = [Links::default(); 6];
+        for (list, at) in lists.iter_mut().zip(words[2..].chunks_exact(3)) {
+            *list = Links { front: at[0] as u32, back: at[1] as u32, count: at[2] as u32 };
+        }
+        Row { start: words[0], pages: words[1], lists }
+    }
+
+    fn tables(&self) -> u64 {
+        (32 * self.pages).div_ceil(4096)
+    }
+
+    fn managed(&self) -> u64 {
+        self.pages - self.tables()
+    }
+
+    fn first(&self) -> u64 {
+        self.start / 4096
+    }
+
+    fn is_unused(&self) -> bool {
+        let none = |list: &Links| list.front == 0 && list.back == 0 && list.count == 0;
+        self.start == 0 && self.pages == 0 && self.lists.iter().all(none)
+    }
+
+    fn is_as_boot_makes(&self) -> bool {
+        self.start % 4096 == 0
+            && self.pages > 1
+            && self.pages <= LAST
+            && self.first() <= LAST - self.pages
+    }
+}
+
+/// The pages of one region in the records, and the page frame number of its
+/// first.
+#[derive(Clone, Copy)]
+struct Region {
+    from: usize,
+    base: usize,
+    past: usize,
+}
+
+/// A number of a page's record: 0 its marks, 1 its level, 2 and 3 its neighbours.
+fn number(records: &[u8], page: usize, k: usize) -> u32 {
+    let at = page * 16 + k * 4;
+    u32::from_le_bytes(records[at..at + 4].try_into().unwrap())
+}
+
+fn class(marks: u32, level: u32) -> usize {
+    level as usize * 2 + (marks / 4 % 2) as usize
+}
+
+fn pages_at(level: u32) -> usize {
+    match level {
+        0 => 1,
+        1 => 512,
+        _ => 262_144,
+    }
+}
+
+/// The frames on each list and the pages held without KERNEL and with it, if all
+/// heads are good.
+fn scan(records: &[u8], region: Region) -> Option<[usize; 8]> {
+    let Region { from, base, past } = region;
+    let mut tally = [0; 8];
+    let mut at = base;
+    while at < past {
+        let (marks, level) = (number(records, at, 0), number(records, at, 1));
+        if marks & 1 == 0 || marks >= 16 || level >= 3 {
+            return None;
+        }
+        let pages = pages_at(level);
+        if (from + (at - base)) % pages != 0 || past - at < pages {
+            return None;
+        }
+        // No early exit, so that the loop is vector code.
+        let inside = &records[(at + 1) * 16..(at + pages) * 16];
+        if inside.iter().fold(0, |all, byte| all | byte) != 0 {
+            return None;
+        }
+        if marks & 2 == 0 {
+            tally[class(marks, level)] += 1;
+        } else {
+            if number(records, at, 2) != 0 || number(records, at, 3) != 0 {
+                return None;
+            }
+            tally[6 + (marks / 8 % 2) as usize] += pages;
+        }
+        at += pages;
+    }
+    Some(tally)
+}
+
+/// Whether `at` names an unheld frame of the region and the list.
+fn is_on(records: &[u8], region: Region, k: usize, at: u32) -> bool {
+    if at as usize <= region.base || region.past < at as usize {
+        return false;
+    }
+    let page = at as usize - 1;
+    let (marks, level) = (number(records, page, 0), number(records, page, 1));
+    marks & 3 == 1 && class(marks, level) == k
+}
+
+fn earlier(records: &[u8], at: u32) -> u32 {
+    number(records, at as usize - 1, 2)
+}
+
+fn later(records: &[u8], at: u32) -> u32 {
+    number(records, at as usize - 1, 3)
+}
+
+fn walks_from_one_end(records: &[u8], region: Region, k: usize, list: Links) -> bool {
+    let (mut before, mut at) = (0, list.front);
+    for _ in 0..list.count {
+        if !is_on(records, region, k, at) || earlier(records, at) != before {
+            return false;
+        }
+        (before, at) = (at, later(records, at));
+    }
+    at == 0 && before == list.back
+}
+
+fn walks_from_both_ends(records: &[u8], region: Region, k: usize, list: Links) -> bool {
+    let (mut before, mut at) = (0, list.front);
+    let (mut behind, mut last) = (0, list.back);
+    let mut left = list.count;
+    while left >= 2 {
+        if !is_on(records, region, k, at) || earlier(records, at) != before {
+            return false;
+        }
+        if !is_on(records, region, k, last) || later(records, last) != behind {
+            return false;
+        }
+        (before, at) = (at, later(records, at));
+        (behind, last) = (last, earlier(records, last));
+        left -= 2;
+    }
+    if left == 1 {
+        if !is_on(records, region, k, at) || earlier(records, at) != before {
+            return false;
+        }
+        (before, at) = (at, later(records, at));
+    }
+    at == behind && before == last
+}
+
+/// 1 where all is whole, 0 where it's torn, 2 where the words are no state.
+pub fn audit<const BOTH: bool>(
+    words: &[u64],
+    records: &[u8],
+    memory_len: usize,
+    queue_len: usize,
+) -> usize {
+    if words.len() != WORDS {
+        return 2;
+    }
+    is_whole::<BOTH>(words, records, memory_len, queue_len).is_some().into()
+}
+
+fn is_whole<const BOTH: bool>(
+    words: &[u64],
+    records: &[u8],
+    memory_len: usize,
+    queue_len: usize,
+) -> Option<()> {
+    let mut rows = [Row::default(); 8];
+    for (row, words) in rows.iter_mut().zip(words.chunks_exact(ROW)) {
+        *row = Row::of(words);
+    }
+    let used = rows.iter().position(|row| row.pages == 0).unwrap_or(8);
+    let (used, unused) = rows.split_at(used);
+    let demand = |holds: bool| holds.then_some(());
+    demand(unused.iter().all(Row::is_unused) && used.iter().all(Row::is_as_boot_makes))?;
+    for (k, row) in used.iter().enumerate() {
+        let shares =
+            |it: &Row| row.first() < it.first() + it.pages && it.first() < row.first() + row.pages;
+        demand(!used[k + 1..].iter().any(shares))?;
+    }
+    let total: u64 = used.iter().map(|row| row.pages).sum();
+    demand(total <= 1_048_576)?;
+    let managed = used.iter().map(Row::managed).sum::<u64>() as usize;
+    demand(16 * managed <= records.len() && 4096 * managed <= memory_len)?;
+
+    let (mut base, mut idle, mut held) = (0, 0, [0; 2]);
+    for row in used {
+        let past = base + row.managed() as usize;
+        let region = Region { from: (row.first() + row.tables()) as usize, base, past };
+        let tally = scan(records, region)?;
+        for (k, list) in row.lists.into_iter().enumerate() {
+            let walks = if BOTH { walks_from_both_ends } else { walks_from_one_end };
+            demand(walks(records, region, k, list) && list.count as usize == tally[k])?;
+            idle += pages_at(k as u32 / 2) as u64 * u64::from(list.count);
+        }
+        idle += row.tables();
+        held = [held[0] + tally[6], held[1] + tally[7]];
+        base = past;
+    }
+
+    let [kernel_used, page_data, counted_idle, counted_total] =
+        words[COUNTERS..COUNTERS + 4].try_into().unwrap();
+    demand(counted_idle == idle && counted_total == total)?;
+    demand(kernel_used == held[1] as u64 && page_data == held[0] as u64)?;
+    let waiting = words[COUNTERS + 7];
+    let [queued, rounds, freed] = words[COUNTERS + 9..WORDS].try_into().unwrap();
+    demand(waiting == 0 && queued <= queue_len as u64)?;
+    demand(rounds <= 1001 && freed <= 100 * rounds)
+}
