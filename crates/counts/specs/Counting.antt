@@ -1,0 +1,34 @@
+-- What the calls on the counters promise: the pager's leave other counters, and what is outstanding by them; the statistics answer a text.
+use Prim.Native.Nat.{ℕ}
+use mathlib.Core.List.{List, []}
+use mathlib.Core.Path.{_≡_}
+use lib.ListN.{take}
+use Rattle.definition.specs.declared.Counters.{Counters}
+use Rattle.definition.specs.Board.{standard}
+use Rattle.definition.specs.Calls.{Answer, Refused, Done, Text, Bytes, Stats}
+use Rattle.definition.specs.World.{World}
+use Rattle.definition.specs.Torn.{call}
+use Rattle.exam.specs.declared.Outcome.{Outcome}
+use Rattle.exam.specs.declared.State.{State}
+use Rattle.exam.specs.Promise.{told}
+use Rattle.counts.specs.declared.Report.{Report}
+
+pub record Counts (st : State) (c : Counters) (r : Outcome) : Type 0 where
+  pub rows : r .state .rows ≡ st .rows
+  pub counters : r .state .counters ≡ c
+  pub queued : r .state .queued ≡ st .queued
+  pub pass : r .state .pass ≡ st .pass
+  pub answer : r .answer ≡ record { number = 0; address = 0; bytes = c .«pager_outstanding» }
+
+-- the text that an answer has
+abbrev pub textOf : Answer → List ℕ
+textOf (Refused r) = []
+textOf (Done a n) = []
+textOf (Text t) = t
+textOf (Bytes t) = []
+
+-- the statistics leave the world as it is, and the report has the number, the length and the bytes of `call`'s answer
+pub record Reports (w : World) (r : Report) : Type 0 where
+  pub world : call standard w Stats .world ≡ w
+  pub answer : told (call standard w Stats .answer) ≡ record { number = r .number; address = 0; bytes = r .len }
+  pub text : take (r .len) (r .text) ≡ textOf (call standard w Stats .answer)

@@ -1,0 +1,13 @@
+pub mod Bytes
+pub mod Heads
+pub mod Links
+pub mod Marks
+pub mod Regions
+pub mod Rows
+pub mod Encoded
+pub mod Decoded
+pub mod Outside
+pub mod Runs
+pub mod Bookkeeping
+pub mod Sanity
+pub mod Likeness
