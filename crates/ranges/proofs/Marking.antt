@@ -1,0 +1,173 @@
+-- What a call on one held frame leaves where it gives the frame another ZEROED mark, rewrites bytes of it, and does no more: `marked-left` for the world,
+-- `marked-done` for the call's whole promise. `written-left` is the world where no mark changes. Then the promise of each call of this crate.
+use Prim.Native.Nat.{ℕ, _+_, _*_, _/_, _%_, _<_}
+use mathlib.Core.Bool.{Bool, true, false}
+use mathlib.Core.List.{List}
+use mathlib.Core.Option.{Option, some}
+use mathlib.Core.Path.{_≡_, refl, sym, ap, _∙_}
+use native.Mathlib.Omega.{arith}
+use lib.Dec.{eqb}
+use lib.ListN.{length, getD, replicate}
+use Rattle.definition.specs.Board.{standard}
+use Rattle.definition.specs.Boot.{recordSize}
+use Rattle.definition.specs.Contents.{filled, fillFrame, frameBytes, setNotZero, writeFrame, written, zeroFrame}
+use Rattle.definition.specs.Frame.{Frame, changed, withZeroed}
+use Rattle.definition.specs.Allocator.{PhysicalFrameAllocator}
+use Rattle.definition.specs.Store.{Memory, mark, withMemory}
+use Rattle.definition.specs.Calls.{Call, Dirty, Fill, Write, Zero, done, perform}
+use Rattle.definition.specs.World.{World, decode, encode, recordAt}
+use Rattle.definition.specs.Torn.{Sound}
+use Rattle.record.specs.Records.{pagesIn, withBytes}
+use Rattle.region.specs.Rep.{marked}
+use Rattle.world.specs.Refusals.{frameRefusal, rangeOf, refusalOf}
+use Rattle.world.specs.Tables.{Turned}
+use Rattle.world.proofs.Leaving.{left-by, sound-table, unwritten}
+use Rattle.world.proofs.Refusing.{one-frame}
+use Rattle.world.proofs.RoundTrip.{decode-stands}
+use Rattle.world.proofs.Writing.{Rewritten}
+use Rattle.allocator.specs.declared.Seen.{Seen}
+use Rattle.allocator.specs.Spots.{TurnsBy, markAt, numberAt}
+use Rattle.exam.specs.declared.Answer.{Answer}
+use Rattle.exam.specs.declared.Exam.{Exam}
+use Rattle.exam.specs.Promise.{Examined, HeldSeen, Leaves, bytesIf}
+use Rattle.exam.proofs.Promises.{examined-bytes, examined-held, examined-none, examined-number, examined-range, examined-sound, leaves-done}
+use Rattle.ranges.proofs.Held.{examined-size, examined-whole, frameIn, held-filled, held-in, held-written}
+
+-- ---- the marks
+
+-- with the KERNEL mark that the frame has, other marks are another ZEROED mark
+marked-own
+    : (zeroed kernel : Bool) (x : Option Frame) (f : Frame) → x ≡ some f → kernel ≡ f .kernel
+    → marked zeroed kernel x ≡ changed (withZeroed zeroed) x
+marked-own zeroed kernel x f e k = rw (e, k) refl
+
+-- the world with other records and another memory
+abbrev pub relent : World → (records memory : List ℕ) → World
+relent w records memory =
+    record { rows = w .rows; counters = w .counters; queued = w .queued; pass = w .pass; records = records; memory = memory; queue = w .queue }
+
+-- the records became such as set_marks leaves of the frame that was seen
+pub record Remarked (w : World) (r : Seen) (zeroed kernel : Bool) (records : List ℕ) : Type 0 where
+  pub own : kernel ≡ eqb (r .marks / 8 % 2) 1
+  pub turns : TurnsBy (markAt zeroed kernel (numberAt (w .rows) (r .spot))) (recordAt (w .records)) (w .rows) (recordAt records) (pagesIn records) (w .rows)
+  pub as-long : length records ≡ length (w .records)
+  pub before : (i : ℕ) → getD (w .records) i 0 < 256
+  pub after : (i : ℕ) → getD records i 0 < 256
+
+module _
+    {w : World} {r : Seen} {p : ℕ} (S : Sound standard w) (H : HeldSeen (recordAt (w .records)) (w .rows) r) (N : numberAt (w .rows) (r .spot) ≡ p)
+    {zeroed kernel : Bool} {records : List ℕ} (M : Remarked w r zeroed kernel records)
+  where
+    abbrev frames-as : PhysicalFrameAllocator
+    frames-as = mark (withZeroed zeroed) (decode standard w) p .allocator
+
+    mark-is : markAt zeroed kernel p (decode standard w .allocator) ≡ frames-as
+    mark-is =
+        let own : kernel ≡ eqb (recordAt (w .records) (r .spot .page) .marks / 8 % 2) 1 = M .own ∙ ap (λ (m : ℕ). eqb (m / 8 % 2) 1) (H .marks) in
+        rw (marked-own zeroed kernel (decode standard w .allocator .frames p) (frameIn (recordAt (w .records) (r .spot .page))) (held-in S H N) own) refl
+
+    turned : Turned (recordAt (w .records)) (w .rows) (recordAt records) (pagesIn records) (w .rows) frames-as
+    turned =
+        let e : pagesIn (w .records) ≡ pagesIn records = ap (λ (n : ℕ). n / recordSize) (sym (M .as-long)) in
+        rw (← mark-is, ← N) (M .turns (decode standard w .allocator) (rw e at (sound-table w S)))
+
+    pub marked-left
+        : (m : Memory) (memory : List ℕ) → Rewritten (decode standard w .allocator .regions) (w .memory) m memory
+        → encode standard (mark (withZeroed zeroed) (withMemory (decode standard w) m) p) w ≡ relent w records memory
+    marked-left m memory R =
+        let d = decode-stands w S in
+        left-by w S (mark (withZeroed zeroed) (withMemory (decode standard w) m) p) (relent w records memory) turned (M .as-long) (M .before) (M .after) R (d .counters)
+        (d .pass)
+        (d .queue)
+        (d .queued)
+        (d .room)
+        refl
+
+-- where bytes are rewritten and every mark stays, as in a copy of zeros into part of a frame
+pub written-left
+    : {w : World} → Sound standard w → ((i : ℕ) → getD (w .records) i 0 < 256) → (m : Memory) (memory : List ℕ)
+    → Rewritten (decode standard w .allocator .regions) (w .memory) m memory
+    → encode standard (withMemory (decode standard w) m) w ≡ relent w (w .records) memory
+written-left {w} S small m memory R =
+    let d = decode-stands w S in
+    left-by w S (withMemory (decode standard w) m) (relent w (w .records) memory)
+    (record { table = sound-table w S; spans = refl; outside = λ q h. refl })
+    refl
+    small
+    small
+    R
+    (d .counters)
+    (d .pass)
+    (d .queue)
+    (d .queued)
+    (d .room)
+    refl
+
+-- ---- a call on one held frame
+
+abbrev pub answered : (address bytes : ℕ) → Answer
+answered a n = record { number = 0; address = a; bytes = n }
+
+pub marked-done
+    : {w : World} {a off len : ℕ} {x : Exam} → Examined w a off len x → x .number ≡ 0 → {zeroed kernel : Bool} {records : List ℕ}
+    → Remarked w (x .seen) zeroed kernel records → (m : Memory) (memory : List ℕ)
+    → Rewritten (decode standard w .allocator .regions) (w .memory) m memory → (c : Call) (n : ℕ)
+    → refusalOf (decode standard w) c ≡ frameRefusal (decode standard w) (rangeOf a off len)
+    → perform standard (decode standard w) c ≡ done (mark (withZeroed zeroed) (withMemory (decode standard w) m) (a / 4096)) a n
+    → Leaves w c (relent w records memory) (answered a n)
+marked-done {w} {a} E z {zeroed} {records = records} M m memory R c n same does =
+    leaves-done w c (examined-sound E z) (same ∙ examined-none E z) (done (mark (withZeroed zeroed) (withMemory (decode standard w) m) (a / 4096)) a n)
+    (relent w records memory) does
+    (marked-left (examined-whole E z) (examined-held E z) (examined-number E z) M m memory R)
+
+-- ---- the calls
+
+-- frame.rs 443, set_not_zero
+pub dirty-done
+    : {w : World} {a : ℕ} {x : Exam} → Examined w a 0 0 x → x .number ≡ 0 → {kernel : Bool} {records : List ℕ}
+    → Remarked w (x .seen) false kernel records → (n : ℕ) → n ≡ bytesIf (x .seen) → Leaves w (Dirty a) (relent w records (w .memory)) (answered a n)
+unfolding perform setNotZero
+dirty-done {w} {a} E z M n k =
+    let bytes : n ≡ frameBytes standard (decode standard w) (a / 4096) = k ∙ sym (examined-bytes E z) in
+    marked-done E z M (decode standard w .memory) (w .memory) (unwritten w (examined-whole E z)) (Dirty a) n (one-frame (decode standard w) a 0 0)
+    (rw bytes refl)
+
+-- frame.rs 430, zero
+pub zero-done
+    : {w : World} {a : ℕ} {x : Exam} → Examined w a 0 0 x → x .number ≡ 0 → {kernel : Bool} {records : List ℕ}
+    → Remarked w (x .seen) true kernel records → (n : ℕ) → n ≡ bytesIf (x .seen) → {memory : List ℕ}
+    → memory ≡ withBytes (w .memory) (standard .page * (x .seen .spot .page)) (replicate n 0)
+    → Leaves w (Zero a) (relent w records memory) (answered a n)
+unfolding perform zeroFrame
+zero-done {w} {a} {x} E z M n k {memory} e =
+    let bytes : n ≡ frameBytes standard (decode standard w) (a / 4096) = k ∙ sym (examined-bytes E z) in
+    let p : 4096 * (a / 4096) + 0 ≡ 4096 * (a / 4096) = omega arith in
+    let q : 4096 * (x .seen .spot .page) + 0 ≡ 4096 * (x .seen .spot .page) = omega arith in
+    let R = rw (p, q) at (held-filled (examined-whole E z) (examined-held E z) (examined-number E z) 0 n 0 (omega (arith, examined-size E z))) in
+    marked-done E z M (filled (4096 * (a / 4096)) n 0 (decode standard w .memory)) memory (rw e R) (Zero a) n (one-frame (decode standard w) a 0 0)
+    (rw bytes refl)
+
+-- 01: "Added `write` and `fill` clear the mark"
+pub fill-done
+    : {w : World} {a off len : ℕ} {x : Exam} → Examined w a off len x → x .number ≡ 0 → {kernel : Bool} {records : List ℕ}
+    → Remarked w (x .seen) false kernel records → (byte : ℕ) {memory : List ℕ}
+    → memory ≡ withBytes (w .memory) (standard .page * (x .seen .spot .page) + off) (replicate len byte)
+    → Leaves w (Fill a off len byte) (relent w records memory) (answered a len)
+unfolding perform fillFrame setNotZero
+fill-done {w} {a} {off} {len} {x} E z M byte {memory} e =
+    marked-done E z M (filled (4096 * (a / 4096) + off) len byte (decode standard w .memory)) memory
+    (rw e (held-filled (examined-whole E z) (examined-held E z) (examined-number E z) off len byte (examined-range E z))) (Fill a off len byte) len
+    (one-frame (decode standard w) a off len)
+    refl
+
+pub write-done
+    : {w : World} {a off len : ℕ} {x : Exam} → Examined w a off len x → x .number ≡ 0 → {kernel : Bool} {records : List ℕ}
+    → Remarked w (x .seen) false kernel records → (bytes : List ℕ) {memory : List ℕ} → length bytes ≡ len
+    → memory ≡ withBytes (w .memory) (standard .page * (x .seen .spot .page) + off) bytes
+    → Leaves w (Write a off bytes) (relent w records memory) (answered a len)
+unfolding perform writeFrame setNotZero
+write-done {w} {a} {off} {len} {x} E z M bytes {memory} l e =
+    marked-done E z M (written (4096 * (a / 4096) + off) bytes (decode standard w .memory)) memory
+    (rw e (held-written (examined-whole E z) (examined-held E z) (examined-number E z) off bytes (rw l (examined-range E z)))) (Write a off bytes) len
+    (rw l (one-frame (decode standard w) a off len))
+    (rw l refl)

@@ -1,0 +1,93 @@
+-- The examined frame loses its ZEROED mark and keeps its KERNEL mark.
+use mathlib.Core.Path.{_≡_, refl}
+use native.Mathlib.Omega.{arith}
+use borrow.Author.Needs.{needs}
+use Rattle.definition.specs.Board.{standard}
+use Rattle.definition.specs.Calls.{Dirty}
+use Rattle.definition.specs.World.{decode}
+use Rattle.world.proofs.Refusing.{one-frame}
+use Rattle.exam.specs.Promise.{worldOf}
+use Rattle.exam.proofs.Promises.{examined-refused}
+use Rattle.ranges.proofs.Held.{examined-fit, examined-spot}
+use Rattle.ranges.proofs.Marking.{dirty-done}
+use Rattle.ranges.proofs.dirty.Statement.{statement}
+use Rattle.ranges.proofs.dirty.Tie as tie
+
+examine-requires : tie.Need-examine-requires
+examine-requires c κs = search needs
+
+refused-requires : tie.Need-refused-requires
+refused-requires c κs = search needs
+
+same-length : tie.Need-same-length
+same-length c = search needs
+
+returns : tie.Need-returns
+returns c =
+    let s = c .before .before .before .before .before .before .before in
+    let a = s .args .pa .0 in
+    let w = worldOf (s .args .state) (s .args .records .now) (s .args .memory .now) (s .args .queue .now) in
+    let E = c .before .before .examine .ensures (s .args .memory .now) (s .args .queue .now) refl refl in
+    rw (c .refused .ensures)
+    (examined-refused E (Dirty a) (λ i. c .before .before .before .before .before .before .slice-known .given i .fits) (λ t. one-frame (decode standard w) a 0 0) (λ h. omega arith))
+
+is-kernel-requires : tie.Need-is-kernel-requires
+is-kernel-requires c κs = search needs
+
+set-marks-requires : tie.Need-set-marks-requires
+set-marks-requires c κs =
+    let s = c .before .before .before .before .before .before .before .before .before .before in
+    let e = c .before .before .before .before .before .examine in
+    let E = e .ensures (s .args .memory .now) (s .args .queue .now) refl refl in
+    let z : e .result .number ≡ 0 = omega (arith, c .before .before .before .before .if1 .left) in
+    examined-spot E z
+
+raw-requires : tie.Need-raw-requires
+raw-requires c κs = search needs
+
+frame-bytes-requires : tie.Need-frame-bytes-requires
+frame-bytes-requires c κs =
+    let s = c .before .before .before .before .before .before .before .before .before .before .before .before .before .before in
+    let e = c .before .before .before .before .before .before .before .before .before .examine in
+    let E = e .ensures (s .args .memory .now) (s .args .queue .now) refl refl in
+    let z : e .result .number ≡ 0 = omega (arith, c .before .before .before .before .before .before .before .before .if1 .left) in
+    examined-fit E z
+
+done-requires : tie.Need-done-requires
+done-requires c κs = search needs
+
+same-length-2 : tie.Need-same-length-2
+same-length-2 c = search needs
+
+returns-2 : tie.Need-returns-2
+returns-2 c =
+    let s = c .before .before .before .before .before .before .before .before .before .before .before .before .before .before .before .before in
+    let e = c .before .before .before .before .before .before .before .before .before .before .before .examine in
+    let E = e .ensures (s .args .memory .now) (s .args .queue .now) refl refl in
+    let z : e .result .number ≡ 0 = omega (arith, c .before .before .before .before .before .before .before .before .before .before .if1 .left) in
+    rw (c .done .ensures, c .before .before .raw .ensures)
+    (dirty-done E z
+    (record {
+      own = c .before .before .before .before .before .before .is-kernel .ensures;
+      turns = c .before .before .before .before .before .set-marks .ensures;
+      as-long = c .before .before .before .before .before .set-marks .kept .0;
+      before = λ i. c .before .before .before .before .before .before .before .before .before .before .before .before .before .before .before .slice-known .given i .fits;
+      after = λ i. c .before .before .before .slice-known2 .given i .fits;
+    })
+    _ (c .before .frame-bytes .ensures))
+
+pub dirty-spec : {M : Type 1} → statement M
+dirty-spec =
+    tie.close
+    (tie.spec
+    examine-requires
+    refused-requires
+    same-length
+    returns
+    is-kernel-requires
+    set-marks-requires
+    raw-requires
+    frame-bytes-requires
+    done-requires
+    same-length-2
+    returns-2)

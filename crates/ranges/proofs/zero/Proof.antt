@@ -1,0 +1,115 @@
+-- All bytes of the examined frame and its ZEROED mark.
+use mathlib.Core.Path.{_≡_, refl}
+use native.Mathlib.Omega.{arith}
+use borrow.Author.Needs.{needs}
+use Rattle.definition.specs.Board.{standard}
+use Rattle.definition.specs.Calls.{Zero}
+use Rattle.definition.specs.World.{decode}
+use Rattle.world.proofs.Refusing.{one-frame}
+use Rattle.exam.specs.Promise.{worldOf}
+use Rattle.exam.proofs.Promises.{examined-refused}
+use Rattle.ranges.proofs.Held.{examined-fit, examined-last, examined-spot}
+use Rattle.ranges.proofs.Marking.{zero-done}
+use Rattle.ranges.proofs.zero.Statement.{statement}
+use Rattle.ranges.proofs.zero.Tie as tie
+
+examine-requires : tie.Need-examine-requires
+examine-requires c κs = search needs
+
+refused-requires : tie.Need-refused-requires
+refused-requires c κs = search needs
+
+same-length : tie.Need-same-length
+same-length c = search needs
+
+returns : tie.Need-returns
+returns c =
+    let s = c .before .before .before .before .before .before .before in
+    let a = s .args .pa .0 in
+    let w = worldOf (s .args .state) (s .args .records .now) (s .args .memory .now) (s .args .queue .now) in
+    let E = c .before .before .examine .ensures (s .args .memory .now) (s .args .queue .now) refl refl in
+    rw (c .refused .ensures)
+    (examined-refused E (Zero a) (λ i. c .before .before .before .before .before .before .slice-known .given i .fits) (λ t. one-frame (decode standard w) a 0 0) (λ h. omega arith))
+
+frame-bytes-requires : tie.Need-frame-bytes-requires
+frame-bytes-requires c κs =
+    let s = c .before .before .before .before .before .before .before .before in
+    let e = c .before .before .before .examine in
+    let E = e .ensures (s .args .memory .now) (s .args .queue .now) refl refl in
+    let z : e .result .number ≡ 0 = omega (arith, c .before .before .if1 .left) in
+    examined-fit E z
+
+mul-fill : tie.Need-mul-fill
+mul-fill c =
+    let s = c .before .before .before .before .before .before .before .before .before .before .before in
+    let e = c .before .before .before .before .before .before .examine in
+    let E = e .ensures (s .args .memory .now) (s .args .queue .now) refl refl in
+    let z : e .result .number ≡ 0 = omega (arith, c .before .before .before .before .before .if1 .left) in
+    omega (arith, examined-last E z)
+
+fill-requires : tie.Need-fill-requires
+fill-requires c κs =
+    let s = c .before .before .before .before .before .before .before .before .before .before .before in
+    let e = c .before .before .before .before .before .before .examine in
+    let E = e .ensures (s .args .memory .now) (s .args .queue .now) refl refl in
+    let z : e .result .number ≡ 0 = omega (arith, c .before .before .before .before .before .if1 .left) in
+    rw (c .before .before .frame-bytes .ensures) (examined-last E z)
+
+is-kernel-requires : tie.Need-is-kernel-requires
+is-kernel-requires c κs = search needs
+
+set-marks-requires : tie.Need-set-marks-requires
+set-marks-requires c κs =
+    let s = c .before .before .before .before .before .before .before .before .before .before .before .before .before .before .before .before .before in
+    let e = c .before .before .before .before .before .before .before .before .before .before .before .before .examine in
+    let E = e .ensures (s .args .memory .now) (s .args .queue .now) refl refl in
+    let z : e .result .number ≡ 0 = omega (arith, c .before .before .before .before .before .before .before .before .before .before .before .if1 .left) in
+    examined-spot E z
+
+raw-requires : tie.Need-raw-requires
+raw-requires c κs = search needs
+
+done-requires : tie.Need-done-requires
+done-requires c κs = search needs
+
+same-length-2 : tie.Need-same-length-2
+same-length-2 c = search needs
+
+same-length-3 : tie.Need-same-length-3
+same-length-3 c = search needs
+
+returns-2 : tie.Need-returns-2
+returns-2 c =
+    let s = c .before .before .before .before .before .before .before .before .before .before .before .before .before .before .before .before .before .before .before .before .before .before in
+    let e = c .before .before .before .before .before .before .before .before .before .before .before .before .before .before .before .before .before .examine in
+    let E = e .ensures (s .args .memory .now) (s .args .queue .now) refl refl in
+    let z : e .result .number ≡ 0 = omega (arith, c .before .before .before .before .before .before .before .before .before .before .before .before .before .before .before .before .if1 .left) in
+    rw (c .done .ensures, c .before .raw .ensures)
+    (zero-done E z
+    (record {
+      own = c .before .before .before .before .before .is-kernel .ensures;
+      turns = c .before .before .before .before .set-marks .ensures;
+      as-long = c .before .before .before .before .set-marks .kept .0;
+      before = λ i. c .before .before .before .before .before .before .before .before .before .before .before .before .before .before .before .before .before .before .before .before .before .slice-known .given i .fits;
+      after = λ i. c .before .before .slice-known4 .given i .fits;
+    })
+    _ (c .before .before .before .before .before .before .before .before .before .before .before .before .before .frame-bytes .ensures) (c .before .before .before .before .before .before .before .before .before .before .fill .ensures))
+
+pub zero-spec : {M : Type 1} → statement M
+zero-spec =
+    tie.close
+    (tie.spec
+    examine-requires
+    refused-requires
+    same-length
+    returns
+    frame-bytes-requires
+    mul-fill
+    fill-requires
+    is-kernel-requires
+    set-marks-requires
+    raw-requires
+    done-requires
+    same-length-2
+    same-length-3
+    returns-2)
