@@ -1,0 +1,249 @@
+-- What a grant makes of a table and of the memory's bytes, from what its parts promise: the search, the zeros, the marks and the count (`gives-none`, `gives-some`),
+-- and the split behind them (`gives-split`). Where a frame was found it is held, so that a later part may change it.
+use Prim.Native.Nat.{ℕ, _+_, _*_, _/_, _%_, _≤_, _<_}
+use mathlib.Core.Bool.{Bool, true, false, not, cond, _&&_, false≢true}
+use mathlib.Core.List.{List}
+use mathlib.Core.Option.{Option, none, some}
+use mathlib.Core.Path.{_≡_, refl, sym, _∙_}
+use native.Mathlib.Omega.{arith}
+use lib.Dec.{eqb}
+use lib.ListN.{length, replicate}
+use Rattle.definition.specs.declared.FrameAllocFlags.{FrameAllocFlags}
+use Rattle.definition.specs.declared.Record.{Record}
+use Rattle.definition.specs.declared.Row.{Row}
+use Rattle.definition.specs.Board.{standard}
+use Rattle.definition.specs.Boot.{managedPages, overlap}
+use Rattle.definition.specs.Contents.{filled, sizeOf}
+use Rattle.definition.specs.Frame.{Frame, isAllocated, isZeroed, size}
+use Rattle.definition.specs.Allocator.{AllocationRegion, PhysicalFrameAllocator, doAlloc}
+use Rattle.definition.specs.Store.{Memory}
+use Rattle.definition.specs.Tracker.{tryAllocFrame, tryAllocSplitFrames}
+use Rattle.definition.specs.Torn.{regionsOf}
+use Rattle.definition.specs.World.{frameOf}
+use Rattle.definition.proofs.Basics.{upd-same}
+use Rattle.record.specs.Records.{withBytes}
+use Rattle.region.specs.Rep.{fromOf, managed, marked, stateOf}
+use Rattle.world.specs.Stands.{StandsRow, regionAt, rowAt}
+use Rattle.world.specs.Tables.{Sane, Table, Turned}
+use Rattle.world.proofs.Places.{Lies, Runs, frame-runs, managedBytes, runs-end, runs-lies}
+use Rattle.world.proofs.Spans.{runs-bare}
+use Rattle.world.proofs.Tables.{used-row}
+use Rattle.world.proofs.Writing.{Fronts, Rewritten, memory-filled}
+use Rattle.allocator.specs.declared.Picked.{Picked}
+use Rattle.allocator.specs.declared.Spot.{Spot}
+use Rattle.allocator.specs.Spots.{HeldAt, InRows, PicksBy, TurnsBy, markAt, numberAt, splitAt}
+use Rattle.allocator.proofs.Standing.{sane-table, standing}
+use Rattle.allocator.proofs.Turning.{spot-good, spot-index, stands-at, table-held}
+use Rattle.exam.specs.declared.State.{State}
+use Rattle.grants.specs.declared.Granted.{Granted}
+use Rattle.grants.specs.Granting.{Finds, GivesBy, Holds, Near, Ready, counted, zeroedBytes}
+use Rattle.grants.proofs.Marking.{none-left, split-none, split-some, try-none, try-some}
+
+turned-then
+    : {f g h : ℕ → Record} {n : ℕ} {rows rows2 rows3 : List Row} {a b : PhysicalFrameAllocator} → Turned f rows g n rows2 a → Turned g rows2 h n rows3 b
+    → Turned f rows h n rows3 b
+turned-then A B = record { table = B .table; spans = B .spans ∙ A .spans; outside = λ q k. B .outside q (rw (A .spans) k) ∙ A .outside q k }
+
+-- ---- the frame at a spot
+
+abbrev frameIn : Record → Frame
+frameIn r = record { level = r .level; allocated = eqb (r .marks / 2 % 2) 1; zeroed = eqb (r .marks / 4 % 2) 1; kernel = eqb (r .marks / 8 % 2) 1 }
+
+held-record : (r : Record) → isAllocated (frameOf r) ≡ true → frameOf r ≡ some (frameIn r)
+unfolding frameOf
+held-record r e = go (eqb (r .marks % 2) 1) e
+  where
+    go : (b : Bool) → isAllocated (cond b (some (frameIn r)) none) ≡ true → cond b (some (frameIn r)) none ≡ some (frameIn r)
+    go true e = refl
+    go false e = absurd (false≢true e)
+
+held-still : (zeroed kernel : Bool) (o : Option Frame) → isAllocated o ≡ true → isAllocated (marked zeroed kernel o) ≡ true
+held-still zeroed kernel none e = e
+held-still zeroed kernel (some f) e = e
+
+is-held : (f : ℕ → Record) (rows : List Row) (s : Spot) → HeldAt f rows s → isAllocated (frameOf (f (s .page))) ≡ true
+unfolding stateOf
+is-held f rows s H = H .held
+
+module _ {f : ℕ → Record} {n : ℕ} {rows : List Row} {s : Spot} (I : InRows rows s) where
+  table-frame : {a : PhysicalFrameAllocator} → Table f n rows a → a .frames (numberAt rows s) ≡ frameOf (f (s .page))
+  unfolding stateOf
+  table-frame {a} T =
+      let S : StandsRow f n (s .base) (rowAt rows (s .index)) (a .frames) (regionAt (a .regions) (s .index))
+      = rw (I .based, ← used-row rows (s .index) (I .used)) (stands-at (T .stands) (s .index) (I .used))
+      in
+      S .same .frames (s .page) (I .inside)
+
+  module _ (S : Sane f n rows) where
+    pub near : Near rows s
+    unfolding fromOf managed
+    near =
+        let G = spot-good S I in
+        record {
+          index = spot-index S I;
+          pages = omega (arith, G .bounded);
+          inside = I .inside;
+          ends = omega (arith, G .bounded, G .tables);
+        }
+
+    pub page-in : s .page < n
+    page-in = omega (arith, spot-good S I .sound .fits, I .inside .high)
+
+    module _ (H : HeldAt f rows s) where
+      held-frame : frameOf (f (s .page)) ≡ some (frameIn (f (s .page)))
+      held-frame = held-record (f (s .page)) (is-held f rows s H)
+
+      pub held-level : f (s .page) .level < 3
+      unfolding stateOf
+      held-level = spot-good S I .whole .tile (s .page) (frameIn (f (s .page))) (I .inside) held-frame .level
+
+      held-runs : Runs (regionsOf standard rows) (numberAt rows s) (s .page) (size (f (s .page) .level))
+      held-runs = frame-runs I S (frameIn (f (s .page))) held-frame
+
+      -- the frame's bytes lie among the managed ones
+      pub held-room : {long : ℕ} → standard .page * managedPages standard (regionsOf standard rows) ≤ long → 4096 * s .page + 4096 * size (f (s .page) .level) ≤ long
+      held-room h = omega (arith, runs-end held-runs)
+
+-- ---- its zeros
+
+module _ {rs : List AllocationRegion} (m : Memory) (bs : List ℕ) (fits : managedBytes rs ≤ length bs) (apart : overlap standard rs ≡ false) (same : Fronts rs m bs) where
+  zeros-written
+      : (zeroed : Bool) (r : Record) (o : Option Frame) (p q : ℕ) → o ≡ some (frameIn r) → Lies rs (4096 * p) (4096 * q) (4096 * size (r .level))
+      → Rewritten rs bs (cond (zeroed && not (isZeroed o)) (filled (4096 * p) (4096 * sizeOf o) 0 m) m) (zeroedBytes zeroed r q bs)
+  zeros-written zeroed r o p q e L = rw e (go (zeroed && not (eqb (r .marks / 4 % 2) 1)))
+    where
+      go : (b : Bool)
+          → Rewritten rs bs (cond b (filled (4096 * p) (4096 * size (r .level)) 0 m) m) (cond b (withBytes bs (4096 * q) (replicate (4096 * size (r .level)) 0)) bs)
+      go true = memory-filled L m bs fits apart same 0
+      go false = record { memory = same; as-long = refl; beyond = refl }
+
+-- ---- a grant
+
+abbrev pub withRows : State → List Row → State
+withRows st rows = record { rows = rows; counters = st .counters; queued = st .queued; pass = st .pass }
+
+module _
+    {f g : ℕ → Record} {n : ℕ} {r : Picked} (st : State) (l : ℕ) (flags : FrameAllocFlags) (P : PicksBy (doAlloc l (flags .zeroed)) f (st .rows) g n r)
+  where
+    picked-turned : (S : Sane f n (st .rows)) → Turned f (st .rows) g n (r .rows) (doAlloc l (flags .zeroed) (standing f (st .rows)) .allocator)
+    picked-turned S = P (standing f (st .rows)) (sane-table S) .turned
+
+    pub picked-sane : Sane f n (st .rows) → Sane g n (r .rows)
+    picked-sane S = picked-turned S .table .sane
+
+    pub picked-ready : {long : ℕ} → Ready f n st long → Ready g n (withRows st (r .rows)) long
+    picked-ready R =
+        record {
+          sane = picked-sane (R .sane);
+          memory = rw (picked-turned (R .sane) .spans) (R .memory);
+          kernel = R .kernel;
+          page = R .page;
+        }
+
+    -- nothing is found
+    pub finds-none : Finds st (record { state = withRows st (r .rows); found = false; spot = r .spot; address = 0 })
+    finds-none = record { queued = refl; pass = refl; address = λ z. absurd (false≢true z) }
+
+    pub holds-none : Sane f n (st .rows) → Holds g n (record { state = withRows st (r .rows); found = false; spot = r .spot; address = 0 })
+    holds-none S = record { sane = picked-sane S; spot = λ z. absurd (false≢true z); held = λ z. absurd (false≢true z) }
+
+    pub gives-none
+        : (bytes : List ℕ) → r .found ≡ false
+        → GivesBy (tryAllocFrame standard l flags) f st bytes g n bytes (record { state = withRows st (r .rows); found = false; spot = r .spot; address = 0 })
+    gives-none bytes e s L =
+        let p = P (s .allocator) (L .table) in
+        let d = p .none-found e in
+        rw (try-none l flags s d)
+        (record {
+          turned = rw (none-left l (flags .zeroed) (s .allocator) d) at (p .turned);
+          memory = L .memory;
+          as-long = refl;
+          beyond = refl;
+          counters = L .counters;
+          none-found = λ z. refl;
+          page = λ z. absurd (false≢true z);
+        })
+
+    -- a frame is found
+    module _ (e : r .found ≡ true) where
+      pub picked-spot : Sane f n (st .rows) → InRows (r .rows) (r .spot)
+      picked-spot S = P (standing f (st .rows)) (sane-table S) .spot e
+
+      pub picked-held : Sane f n (st .rows) → HeldAt g (r .rows) (r .spot)
+      picked-held S = P (standing f (st .rows)) (sane-table S) .held e
+
+      module _
+          {h : ℕ → Record} {next : State} (c : next ≡ counted (withRows st (r .rows)) (size l) (flags .kernel))
+          (T : TurnsBy (markAt false (flags .kernel) (numberAt (r .rows) (r .spot))) g (r .rows) h n (r .rows)) (address : ℕ)
+        where
+          pub finds-some : address ≡ 4096 * numberAt (r .rows) (r .spot) → Finds st (record { state = next; found = true; spot = r .spot; address = address })
+          finds-some d = rw c (record { queued = refl; pass = refl; address = λ z. d })
+
+          pub holds-some : Sane f n (st .rows) → Holds h n (record { state = next; found = true; spot = r .spot; address = address })
+          holds-some S =
+              let U = picked-turned S .table in
+              let a = doAlloc l (flags .zeroed) (standing f (st .rows)) .allocator in
+              let N = T a U .table in
+              let p = numberAt (r .rows) (r .spot) in
+              let I = picked-spot S in
+              let held : isAllocated (a .frames p) ≡ true = rw (table-frame I U) (is-held g (r .rows) (r .spot) (picked-held S)) in
+              rw c
+              (record {
+                sane = N .sane;
+                spot = λ z. I;
+                held = λ z. table-held N (r .spot) I (rw (upd-same (a .frames) p (marked false (flags .kernel) (a .frames p))) (held-still false (flags .kernel) (a .frames p) held));
+              })
+
+          pub gives-some
+              : (bytes bytes2 : List ℕ) → bytes2 ≡ zeroedBytes (flags .zeroed) (g (r .spot .page)) (r .spot .page) bytes
+              → GivesBy (tryAllocFrame standard l flags) f st bytes h n bytes2 (record { state = next; found = true; spot = r .spot; address = address })
+          gives-some bytes bytes2 b s L =
+              let S = L .table .sane in
+              let p = P (s .allocator) (L .table) in
+              let a = doAlloc l (flags .zeroed) (s .allocator) .allocator in
+              let q = r .spot .page in
+              let I = p .spot e in
+              let H = p .held e in
+              let N = p .turned .table .sane in
+              let R = runs-bare (L .table .stands) (rw (p .turned .spans) at (held-runs I N H)) in
+              let lies = runs-lies R 0 (4096 * size (g q .level)) (omega arith) {a = 4096 * numberAt (r .rows) (r .spot)} {b = 4096 * q} (omega arith) (omega arith) in
+              let W
+              = zeros-written (s .memory) bytes (L .fits) (L .apart) (L .memory) (flags .zeroed) (g q) (a .frames (numberAt (r .rows) (r .spot)))
+              (numberAt (r .rows) (r .spot)) q (table-frame I (p .turned .table) ∙ held-frame I N H) lies
+              in
+              rw (try-some l flags s (numberAt (r .rows) (r .spot)) (p .page e), c, b)
+              (record {
+                turned = turned-then (p .turned) (T a (p .turned .table));
+                memory = W .memory;
+                as-long = W .as-long;
+                beyond = W .beyond;
+                counters = rw (L .counters) refl;
+                none-found = λ z. absurd (false≢true (sym z));
+                page = λ z. refl;
+              })
+
+-- ---- its split
+
+module _
+    {f g : ℕ → Record} {n : ℕ} {st : State} {bytes bytes2 : List ℕ} {r : Granted} (l : ℕ) (flags : FrameAllocFlags)
+    (G : GivesBy (tryAllocFrame standard l flags) f st bytes g n bytes2 r)
+  where
+    pub gives-whole : r .found ≡ false → GivesBy (tryAllocSplitFrames standard l flags) f st bytes g n bytes2 r
+    gives-whole e s L = rw (split-none l flags s (G s L .none-found e)) (G s L)
+
+    pub gives-split
+        : r .found ≡ true → {h : ℕ → Record} → TurnsBy (splitAt (numberAt (r .state .rows) (r .spot))) g (r .state .rows) h n (r .state .rows)
+        → GivesBy (tryAllocSplitFrames standard l flags) f st bytes h n bytes2 r
+    gives-split e T s L =
+        let x = G s L in
+        let a = tryAllocFrame standard l flags s .store .allocator in
+        rw (split-some l flags s (numberAt (r .state .rows) (r .spot)) (x .page e))
+        (record {
+          turned = turned-then (x .turned) (T a (x .turned .table));
+          memory = x .memory;
+          as-long = x .as-long;
+          beyond = x .beyond;
+          counters = x .counters;
+          none-found = λ z. absurd (false≢true (sym z ∙ e));
+          page = λ z. refl;
+        })

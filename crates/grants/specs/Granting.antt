@@ -1,0 +1,116 @@
+-- What the parts of a grant promise each other: which refusal a layout meets (`Wants`), and what a grant makes of the rows, the records, the memory and the
+-- counters (`Gives`), for every store that they stand for (`Lends`).
+use Prim.Native.Nat.{ℕ, _+_, _*_, _/_, _%_, _≤_, _<_, _^_}
+use mathlib.Core.Bool.{Bool, true, false, not, cond, _&&_}
+use mathlib.Core.List.{List}
+use mathlib.Core.Option.{none, some}
+use mathlib.Core.Path.{_≡_}
+use lib.Dec.{eqb}
+use lib.ListN.{length, take, drop, replicate}
+use Rattle.definition.specs.declared.Record.{Record}
+use Rattle.definition.specs.declared.Row.{Row}
+use Rattle.definition.specs.Board.{standard}
+use Rattle.definition.specs.Boot.{managedPages, overlap}
+use Rattle.definition.specs.Frame.{size}
+use Rattle.definition.specs.Store.{Store}
+use Rattle.definition.specs.Tracker.{Granted as GrantedOf, countAlloc}
+use Rattle.definition.specs.Calls.{Alloc, Layout, findLevel}
+use Rattle.definition.specs.World.{World, decode, memoryBytes}
+use Rattle.definition.specs.Torn.{regionsOf, sound}
+use Rattle.record.specs.Records.{withBytes}
+use Rattle.region.specs.Rep.{Inside, fromOf, managed}
+use Rattle.world.specs.Refusals.{refusalOf}
+use Rattle.world.specs.Stands.{rowAt}
+use Rattle.world.specs.Tables.{Sane, Table, Turned}
+use Rattle.allocator.specs.declared.Spot.{Spot}
+use Rattle.allocator.specs.Spots.{HeldAt, InRows, numberAt}
+use Rattle.exam.specs.declared.Answer.{Answer}
+use Rattle.exam.specs.declared.State.{State}
+use Rattle.exam.specs.Promise.{worldOf}
+use Rattle.grants.specs.declared.Asked.{Asked}
+use Rattle.grants.specs.declared.Granted.{Granted}
+
+-- ---- which refusal a layout meets
+
+-- the refusal that a layout meets, and where it meets none the level that it gets
+pub record Wants (w : World) (y : Layout) (r : Asked) : Type 0 where
+  pub torn : sound standard w ≡ false → r .number ≡ 6
+  pub number : sound standard w ≡ true → r .number ≡ refusalOf (decode standard w) (Alloc y)
+  pub level : r .number ≡ 0 → r .level ≡ findLevel standard y
+  pub small : r .number ≡ 0 → r .level < 3
+
+abbrev pub WantsAll : State → List ℕ → (memoryLen queueLen : ℕ) → Layout → Asked → Type 0
+WantsAll s records memoryLen queueLen y r =
+    (memory queue : List ℕ) → length memory ≡ memoryLen → length queue ≡ queueLen → Wants (worldOf s records memory queue) y r
+
+-- ---- what a grant is given
+
+-- what the parts of a grant ask of the state, the records f of n pages and a memory of so many bytes
+pub record Ready (f : ℕ → Record) (n : ℕ) (st : State) (long : ℕ) : Type 0 where
+  pub sane : Sane f n (st .rows)
+  pub memory : standard .page * managedPages standard (regionsOf standard (st .rows)) ≤ long
+  pub kernel : st .counters .«kernel_used» < 2 ^ 57
+  pub page : st .counters .«page_data» < 2 ^ 57
+
+-- the state, the records and the memory's bytes stand for the store s, but for its queue and its pass
+pub record Lends (f : ℕ → Record) (n : ℕ) (st : State) (bytes : List ℕ) (s : Store) : Type 0 where
+  pub table : Table f n (st .rows) (s .allocator)
+  pub apart : overlap standard (s .allocator .regions) ≡ false
+  pub fits : standard .page * managedPages standard (s .allocator .regions) ≤ length bytes
+  pub memory : memoryBytes standard (s .memory) (s .allocator .regions) ≡ take (standard .page * managedPages standard (s .allocator .regions)) bytes
+  pub counters : s .counters ≡ st .counters
+
+-- ---- the parts of a grant
+
+-- the frame of a record is zeroed where that was asked and it isn't marked so
+abbrev pub zeroes : Bool → Record → Bool
+zeroes zeroed r = zeroed && not (eqb (r .marks / 4 % 2) 1)
+
+abbrev pub zeroedBytes : Bool → Record → ℕ → List ℕ → List ℕ
+zeroedBytes zeroed r q bytes = cond (zeroes zeroed r) (withBytes bytes (4096 * q) (replicate (4096 * size (r .level)) 0)) bytes
+
+-- what a frame that is found is handed over with
+abbrev pub counted : State → (pages : ℕ) → (kernel : Bool) → State
+counted st pages kernel =
+    record { rows = st .rows; counters = countAlloc pages kernel (st .counters); queued = st .queued; pass = st .pass }
+
+-- the addresses of a row's pages fit
+pub record Near (rows : List Row) (s : Spot) : Type 0 where
+  pub index : s .index < 8
+  pub pages : rowAt rows (s .index) .pages ≤ 2 ^ 32
+  pub inside : Inside (s .base) (rowAt rows (s .index) .pages) (s .page)
+  pub ends : fromOf (rowAt rows (s .index)) + managed (rowAt rows (s .index) .pages) ≤ 2 ^ 52
+
+-- the answer to a grant
+abbrev pub handed : (found : Bool) → (address level : ℕ) → Answer
+handed found address level =
+    cond found (record { number = 0; address = address; bytes = 4096 * size level }) (record { number = 0; address = 0; bytes = 0 })
+
+-- ---- what a grant leaves
+
+-- of the store s, by what the definition's grant makes of it
+pub record Gives (f : ℕ → Record) (st : State) (bytes : List ℕ) (s : Store) (x : GrantedOf) (g : ℕ → Record) (n : ℕ) (bytes2 : List ℕ) (r : Granted) : Type 0 where
+  pub turned : Turned f (st .rows) g n (r .state .rows) (x .store .allocator)
+  pub memory
+      : memoryBytes standard (x .store .memory) (s .allocator .regions) ≡ take (standard .page * managedPages standard (s .allocator .regions)) bytes2
+  pub as-long : length bytes2 ≡ length bytes
+  pub beyond
+      : drop (standard .page * managedPages standard (s .allocator .regions)) bytes2 ≡ drop (standard .page * managedPages standard (s .allocator .regions)) bytes
+  pub counters : x .store .counters ≡ r .state .counters
+  pub none-found : r .found ≡ false → x .page ≡ none
+  pub page : r .found ≡ true → x .page ≡ some (numberAt (r .state .rows) (r .spot))
+
+abbrev pub GivesBy : (Store → GrantedOf) → (ℕ → Record) → State → List ℕ → (ℕ → Record) → ℕ → List ℕ → Granted → Type 0
+GivesBy op f st bytes g n bytes2 r = (s : Store) → Lends f n st bytes s → Gives f st bytes s (op s) g n bytes2 r
+
+-- what a grant leaves of the state and finds, whatever the store
+pub record Finds (st : State) (r : Granted) : Type 0 where
+  pub queued : r .state .queued ≡ st .queued
+  pub pass : r .state .pass ≡ st .pass
+  pub address : r .found ≡ true → r .address ≡ 4096 * numberAt (r .state .rows) (r .spot)
+
+-- the frame that was found is held
+pub record Holds (g : ℕ → Record) (n : ℕ) (r : Granted) : Type 0 where
+  pub sane : Sane g n (r .state .rows)
+  pub spot : r .found ≡ true → InRows (r .state .rows) (r .spot)
+  pub held : r .found ≡ true → HeldAt g (r .state .rows) (r .spot)

@@ -1,0 +1,3 @@
+pub mod Queueing
+pub mod Reclaiming
+pub mod Rounding

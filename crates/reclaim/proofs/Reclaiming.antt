@@ -1,0 +1,360 @@
+-- The turns of a round. `Went` names the store that so many turns reach, from which the definition's round goes on to the result that it has from the start;
+-- each turn drops an address or frees its frame. `Going` is the loop's invariant, for every store that the state is of.
+use Prim.Native.Nat.{ℕ, suc, _+_, _-_, _*_, _/_, _%_, _≤_, _<_}
+use mathlib.Core.Bool.{Bool, true, false, not, cond, _&&_}
+use mathlib.Core.List.{List, [], _∷_, _++_}
+use mathlib.Core.Option.{Option, none, some}
+use mathlib.Core.Path.{_≡_, refl, sym, ap, _∙_}
+use native.Mathlib.Omega.{arith}
+use borrow.Author.Tests.{le-ltb}
+use lib.Dec.{eqb}
+use lib.ListN.{length, getD, take}
+use lib.Seq.{take-suc}
+use Rattle.definition.specs.declared.Record.{Record}
+use Rattle.definition.specs.declared.Row.{Row}
+use Rattle.definition.specs.declared.Counters.{Counters}
+use Rattle.definition.specs.declared.Refusal.the-variants.{Outside, NoFrameStart, NotHeld, PastTheEnd}
+use Rattle.definition.specs.Basics.{Popped, behind, popBack}
+use Rattle.definition.specs.Board.{standard}
+use Rattle.definition.specs.Refusal.{_when_, lowest}
+use Rattle.definition.specs.Frame.{size}
+use Rattle.definition.specs.Allocator.{PhysicalFrameAllocator, isManaged}
+use Rattle.definition.specs.Contents.{frameBytes}
+use Rattle.definition.specs.Store.{Store, withAllocator, withCounters, withQueue}
+use Rattle.definition.specs.Tracker.{
+  Reclaimed as ReclaimedOf,
+  canBeFreed,
+  countFree,
+  freeFrame,
+  freeOrDrop,
+  freedFrame,
+  isHeld,
+  oneMore,
+  reclaimUpTo,
+  startsFrame,
+}
+use Rattle.definition.specs.Calls.{leavesFrame}
+use Rattle.definition.specs.World.{frameOf}
+use Rattle.level.proofs.Sizes.{size-most}
+use Rattle.world.specs.Refusals.{frameRefusal, numberIf, rangeOf}
+use Rattle.world.specs.Tables.{Sane, Turned}
+use Rattle.allocator.specs.declared.Seen.{Seen}
+use Rattle.allocator.specs.Spots.{Sees, TurnsBy, freeAt}
+use Rattle.allocator.proofs.Standing.{sane-table, standing}
+use Rattle.allocator.proofs.Turning.{sees-number}
+use Rattle.exam.specs.declared.State.{State}
+use Rattle.exam.specs.declared.Exam.{Exam}
+use Rattle.exam.specs.Promise.{HeldSeen, Looks}
+use Rattle.exam.proofs.Tests.{frame-seen, seen-admitted, seen-held, seen-managed}
+use Rattle.frames.specs.Freeing.{Released}
+use Rattle.reclaim.specs.Rounds.{IsOf, Reclaims}
+
+-- ---- the queue's last address
+
+pop-back : (xs : List ℕ) (x : ℕ) → popBack (xs ++ (x ∷ [])) ≡ some (record { rest = xs; last = x })
+unfolding popBack
+pop-back [] x = refl
+pop-back (y ∷ ys) x = ap (behind y) (pop-back ys x)
+
+pop-take : (places : List ℕ) (q : ℕ) → 0 < q → q ≤ length places
+    → popBack (take q places) ≡ some (record { rest = take (q - 1) places; last = getD places (q - 1) 0 })
+pop-take places q h l =
+    let n : q ≡ suc (q - 1) = omega arith in
+    let e : take q places ≡ take (q - 1) places ++ (getD places (q - 1) 0 ∷ []) =
+    ap (λ (k : ℕ). take k places) n ∙ take-suc places (q - 1) 0 (omega arith)
+    in
+    ap popBack e ∙ pop-back (take (q - 1) places) (getD places (q - 1) 0)
+
+pop-none : (places : List ℕ) (q : ℕ) → q ≡ 0 → popBack (take q places) ≡ none
+unfolding popBack
+pop-none places q e = ap (λ (k : ℕ). popBack (take k places)) e
+
+-- ---- an address can be freed where its frame meets no refusal
+
+abbrev of-tests : (m b h l : Bool) → ℕ
+of-tests m b h l = numberIf (lowest ((Outside when not m) ∷ (NoFrameStart when not b) ∷ (NotHeld when not h) ∷ (PastTheEnd when l) ∷ []))
+
+all-met : (m b h l : Bool) → of-tests m b h l ≡ 0 → (m && (b && h)) ≡ true
+unfolding lowest
+all-met false b h l e = absurd (omega arith)
+all-met true false h l e = absurd (omega arith)
+all-met true true false l e = absurd (omega arith)
+all-met true true true l e = refl
+
+one-fails : (m b h l : Bool) → l ≡ false → (of-tests m b h l ≡ 0 → ⊥) → (m && (b && h)) ≡ false
+unfolding lowest
+one-fails false b h l f d = refl
+one-fails true false h l f d = refl
+one-fails true true false l f d = refl
+one-fails true true true false f d = absurd (d refl)
+one-fails true true true true f d = f
+
+module _ (s : Store) (a : ℕ) where
+  abbrev managed : Bool
+  managed = isManaged standard (s .allocator .regions) (a / standard .page)
+
+  can-free : frameRefusal s (rangeOf a 0 0) ≡ 0 → canBeFreed standard s a ≡ true
+  can-free e = all-met managed (startsFrame standard s a) (isHeld standard s a) (leavesFrame standard s (rangeOf a 0 0)) e
+
+  can-not-free : (frameRefusal s (rangeOf a 0 0) ≡ 0 → ⊥) → canBeFreed standard s a ≡ false
+  can-not-free d =
+      one-fails managed (startsFrame standard s a) (isHeld standard s a) (leavesFrame standard s (rangeOf a 0 0))
+      (le-ltb (frameBytes standard s (a / standard .page)) 0 (omega arith)) d
+
+-- ---- the frame of what was seen
+
+frame-some : (x : Record) → x .marks % 2 ≡ 1
+    → frameOf x
+    ≡ some (record { level = x .level; allocated = eqb (x .marks / 2 % 2) 1; zeroed = eqb (x .marks / 4 % 2) 1; kernel = eqb (x .marks / 8 % 2) 1 })
+unfolding frameOf
+frame-some x e = rw e refl
+
+abbrev freedOf : Store → ℕ → Seen → Store
+freedOf s p r = withCounters (withAllocator s (freeAt p (s .allocator))) (countFree (size (r .level)) (eqb (r .marks / 8 % 2) 1) (s .counters))
+
+freed-store
+    : {f : ℕ → Record} {rows : List Row} (s : Store) (p : ℕ) (r : Seen) → Sees f rows p (s .allocator) r → r .managed ≡ true → r .marks % 2 ≡ 1
+    → freeFrame standard s p ≡ freedOf s p r
+unfolding freeFrame
+freed-store {f} s p r S m d =
+    let e : f (r .spot .page) .marks % 2 ≡ 1 = sym (ap (λ (k : ℕ). k % 2) (S .marks m)) ∙ d in
+    ap (freedFrame standard s p) (S .frame m ∙ frame-some (f (r .spot .page)) e) ∙ rw (S .marks m, S .level m) refl
+
+-- ---- the turns so far
+
+-- the same with k frames freed before
+abbrev more : ℕ → ReclaimedOf → ReclaimedOf
+more k x = record { store = x .store; freed = x .freed + k }
+
+abbrev offEnd : State → State
+offEnd st = record { rows = st .rows; counters = st .counters; queued = st .queued - 1; pass = st .pass }
+
+-- the store that was reached after i turns of a round of `limit`, of which `freed` freed a frame
+pub record Went (f₀ : ℕ → Record) (n : ℕ) (st : State) (places : List ℕ) (limit : ℕ) (f : ℕ → Record) (next : State) (freed i : ℕ) (s : Store) : Type 0 where
+  pub present : Store
+  pub is : IsOf f n next places present
+  pub turned : Turned f₀ (st .rows) f n (next .rows) (present .allocator)
+  pub memory : present .memory ≡ s .memory
+  pub room : present .room ≡ s .room
+  pub same-pass : present .pass ≡ s .pass
+  pub result : reclaimUpTo standard limit s ≡ more freed (reclaimUpTo standard (limit - i) present)
+
+went-start : {f : ℕ → Record} {n : ℕ} {st : State} {places : List ℕ} (limit : ℕ) {s : Store} → IsOf f n st places s → Went f n st places limit f st 0 0 s
+went-start limit {s} I =
+    let x = reclaimUpTo standard limit s in
+    let z : limit ≡ limit - 0 = omega arith in
+    record {
+      present = s;
+      is = I;
+      turned = record { table = I .table; spans = refl; outside = λ q h. refl };
+      memory = refl;
+      room = refl;
+      same-pass = refl;
+      result = ap (λ (k : ℕ). record { store = x .store; freed = k }) (omega arith) ∙ ap (λ (k : ℕ). more 0 (reclaimUpTo standard k s)) z;
+    }
+
+turned-then
+    : {f g h : ℕ → Record} {n : ℕ} {rows rows2 rows3 : List Row} {a b : PhysicalFrameAllocator}
+    → Turned f rows g n rows2 a → Turned g rows2 h n rows3 b → Turned f rows h n rows3 b
+turned-then T U =
+    record {
+      table = U .table;
+      spans = U .spans ∙ T .spans;
+      outside = λ q l. U .outside q (rw (T .spans) l) ∙ T .outside q l;
+    }
+
+module _
+    {f₀ : ℕ → Record} {n : ℕ} {st : State} {places : List ℕ} {limit : ℕ} {f : ℕ → Record} {next : State} {freed i : ℕ} {s : Store}
+    (W : Went f₀ n st places limit f next freed i s)
+  where
+    abbrev t : Store
+    t = W .present
+
+    -- no turn is left
+    went-all : limit ≤ i → reclaimUpTo standard limit s ≡ record { store = t; freed = freed }
+    unfolding reclaimUpTo
+    went-all h =
+        let z : limit - i ≡ 0 = omega arith in
+        W .result ∙ ap (λ (k : ℕ). more freed (reclaimUpTo standard k t)) z ∙ ap (λ (k : ℕ). record { store = t; freed = k }) (omega arith)
+
+    module _ (h : i < limit) where
+      abbrev k : ℕ
+      k = limit - (i + 1)
+
+      one-turn : (o : Option Popped) → popBack (t .queue) ≡ o → reclaimUpTo standard limit s ≡ more freed (freeOrDrop standard (reclaimUpTo standard k) t o)
+      unfolding reclaimUpTo
+      one-turn o e =
+          let z : limit - i ≡ suc k = omega arith in
+          W .result ∙ ap (λ (m : ℕ). more freed (reclaimUpTo standard m t)) z ∙ ap (λ (x : Option Popped). more freed (freeOrDrop standard (reclaimUpTo standard k) t x)) e
+
+      -- the queue is empty
+      went-empty : next .queued ≡ 0 → reclaimUpTo standard limit s ≡ record { store = t; freed = freed }
+      went-empty e =
+          one-turn none (ap popBack (W .is .queue) ∙ pop-none places (next .queued) e) ∙ ap (λ (m : ℕ). record { store = t; freed = m }) (omega arith)
+
+      module _ (some-left : 0 < next .queued) where
+        abbrev a : ℕ
+        a = getD places (next .queued - 1) 0
+
+        abbrev u : Store
+        u = withQueue t (take (next .queued - 1) places)
+
+        turn : (b : Bool) → canBeFreed standard u a ≡ b
+            → reclaimUpTo standard limit s ≡ more freed (cond b (oneMore (reclaimUpTo standard k (freeFrame standard u (a / standard .page)))) (reclaimUpTo standard k u))
+        turn b e =
+            one-turn (some (record { rest = take (next .queued - 1) places; last = a }))
+            (ap popBack (W .is .queue) ∙ pop-take places (next .queued) some-left (W .is .queued))
+            ∙ ap (λ (c : Bool). more freed (cond c (oneMore (reclaimUpTo standard k (freeFrame standard u (a / standard .page)))) (reclaimUpTo standard k u))) e
+
+        module _ (r : Exam) (L : Looks f n (next .rows) a 0 0 r) where
+          sees : Sees f (next .rows) (a / 4096) (u .allocator) (r .seen)
+          sees = L .sees (t .allocator) (W .is .table)
+
+          number-is : frameRefusal u (rangeOf a 0 0) ≡ r .number
+          number-is = frame-seen u a 0 0 (r .seen) sees ∙ sym (L .number)
+
+          went-drop : (r .number ≡ 0 → ⊥) → Went f₀ n st places limit f (offEnd next) freed (i + 1) s
+          went-drop d =
+              record {
+                present = u;
+                is = record { table = W .is .table; counters = W .is .counters; queue = refl; queued = omega (arith, W .is .queued) };
+                turned = W .turned;
+                memory = W .memory;
+                room = W .room;
+                same-pass = W .same-pass;
+                result = turn false (can-not-free u a (λ z. d (sym number-is ∙ z)));
+              }
+
+          module _ (z : r .number ≡ 0) where
+            seen-is-managed : r .seen .managed ≡ true
+            seen-is-managed = seen-managed u a 0 0 (r .seen) sees (L .leveled) (r .number) (L .number) z
+
+            freed-is : freeFrame standard u (a / standard .page) ≡ freedOf u (a / 4096) (r .seen)
+            freed-is = freed-store u (a / 4096) (r .seen) sees seen-is-managed (seen-admitted u a 0 0 (r .seen) sees (L .leveled) (r .number) (L .number) z)
+
+            went-free : {g : ℕ → Record} {next2 : State} → Released f (offEnd next) (r .seen) g n next2 → Went f₀ n st places limit g next2 (freed + 1) (i + 1) s
+            went-free {g} {next2} R =
+                let v = freedOf u (a / 4096) (r .seen) in
+                let x = reclaimUpTo standard k v in
+                let T : Turned f (next .rows) g n (next2 .rows) (v .allocator) = rw (sees-number sees seen-is-managed) at (R .turned (t .allocator) (W .is .table)) in
+                record {
+                  present = v;
+                  is =
+                      record {
+                        table = T .table;
+                        counters = ap (countFree (size (r .seen .level)) (eqb (r .seen .marks / 8 % 2) 1)) (W .is .counters) ∙ sym (R .counters);
+                        queue = ap (λ (m : ℕ). take m places) (sym (R .queued));
+                        queued = omega (arith, W .is .queued, R .queued);
+                      };
+                  turned = turned-then (W .turned) T;
+                  memory = W .memory;
+                  room = W .room;
+                  same-pass = W .same-pass;
+                  result =
+                      turn true (can-free u a (number-is ∙ z))
+                      ∙ ap (λ (y : Store). more freed (oneMore (reclaimUpTo standard k y))) freed-is
+                      ∙ ap (λ (m : ℕ). record { store = x .store; freed = m }) (omega arith);
+                }
+
+-- ---- the loop's invariant
+
+pub record Going (f₀ : ℕ → Record) (st : State) (places : List ℕ) (limit : ℕ) (f : ℕ → Record) (n : ℕ) (next : State) (freed i : ℕ) : Type 0 where
+  pub sane : Sane f n (next .rows)
+  pub turns : i ≤ limit
+  pub few : freed ≤ i
+  pub queued : next .queued ≤ st .queued
+  pub within : st .queued ≤ length places
+  pub pass : next .pass ≡ st .pass
+  pub idle : next .counters .idle ≤ st .counters .idle + 262144 * i
+  pub went : (s : Store) → IsOf f₀ n st places s → Went f₀ n st places limit f next freed i s
+
+pub going-start
+    : {f : ℕ → Record} {st : State} {places : List ℕ} (limit : ℕ) {n : ℕ} → Sane f n (st .rows) → st .queued ≤ length places → Going f st places limit f n st 0 0
+going-start limit S l =
+    record {
+      sane = S;
+      turns = omega arith;
+      few = omega arith;
+      queued = omega arith;
+      within = l;
+      pass = refl;
+      idle = omega arith;
+      went = λ s I. went-start limit I;
+    }
+
+turns-sane
+    : {f g : ℕ → Record} {n : ℕ} {rows rows2 : List Row} {op : PhysicalFrameAllocator → PhysicalFrameAllocator} → Sane f n rows → TurnsBy op f rows g n rows2
+    → Sane g n rows2
+turns-sane {f} {rows = rows} S T = T (standing f rows) (sane-table S) .table .sane
+
+more-idle : (n : ℕ) (kernel : Bool) (c d : Counters) → d ≡ countFree n kernel c → d .idle ≡ c .idle + n
+unfolding countFree
+more-idle n kernel c d e = ap (λ (x : Counters). x .idle) e
+
+module _
+    {f₀ : ℕ → Record} {st : State} {places : List ℕ} {limit : ℕ} {f : ℕ → Record} {n : ℕ} {next : State} {freed i : ℕ}
+    (G : Going f₀ st places limit f n next freed i)
+  where
+    ended
+        : limit ≤ 100
+        → ((s : Store) (I : IsOf f₀ n st places s) → reclaimUpTo standard limit s ≡ record { store = G .went s I .present; freed = freed })
+        → Reclaims f₀ st places limit f n (record { state = next; freed = freed })
+    ended m e s I =
+        let W = G .went s I in
+        rw (e s I)
+        (record {
+          turned = W .turned;
+          counters = W .is .counters;
+          queue = W .is .queue;
+          queued = G .queued;
+          pass = G .pass;
+          freed = refl;
+          few = omega (arith, G .few, G .turns);
+          memory = W .memory;
+          room = W .room;
+          same-pass = W .same-pass;
+        })
+
+    pub going-all : limit ≤ 100 → limit ≤ i → Reclaims f₀ st places limit f n (record { state = next; freed = freed })
+    going-all m h = ended m (λ s I. went-all (G .went s I) h)
+
+    module _ (h : i < limit) where
+      pub going-empty : limit ≤ 100 → next .queued ≡ 0 → Reclaims f₀ st places limit f n (record { state = next; freed = freed })
+      going-empty m e = ended m (λ s I. went-empty (G .went s I) h e)
+
+      module _ (some-left : 0 < next .queued) (r : Exam) (L : Looks f n (next .rows) (getD places (next .queued - 1) 0) 0 0 r) where
+        pub going-drop : (r .number ≡ 0 → ⊥) → Going f₀ st places limit f n (offEnd next) freed (i + 1)
+        going-drop d =
+            record {
+              sane = G .sane;
+              turns = omega arith;
+              few = omega (arith, G .few);
+              queued = omega (arith, G .queued);
+              within = G .within;
+              pass = G .pass;
+              idle = omega (arith, G .idle);
+              went = λ s I. went-drop (G .went s I) h some-left r L d;
+            }
+
+        -- what a free of the frame requires
+        pub going-held : r .number ≡ 0 → HeldSeen f (next .rows) (r .seen)
+        going-held z =
+            let a = getD places (next .queued - 1) 0 in
+            let s : Store = record { allocator = standing f (next .rows); memory = λ p. 0; counters = next .counters; queue = []; room = 0; pass = next .pass } in
+            seen-held s a 0 0 (r .seen) (L .sees (standing f (next .rows)) (sane-table (G .sane))) (L .leveled) (r .number) (L .number) z
+
+        pub going-free
+            : r .number ≡ 0 → {g : ℕ → Record} {next2 : State} → Released f (offEnd next) (r .seen) g n next2
+            → Going f₀ st places limit g n next2 (freed + 1) (i + 1)
+        going-free z {g} {next2} R =
+            let e = more-idle (size (r .seen .level)) (eqb (r .seen .marks / 8 % 2) 1) (next .counters) (next2 .counters) (R .counters) in
+            record {
+              sane = turns-sane (G .sane) (R .turned);
+              turns = omega arith;
+              few = omega (arith, G .few);
+              queued = omega (arith, G .queued, R .queued);
+              within = G .within;
+              pass = R .pass ∙ G .pass;
+              idle = omega (arith, G .idle, e, size-most (going-held z .leveled));
+              went = λ s I. went-free (G .went s I) h some-left r L z R;
+            }
