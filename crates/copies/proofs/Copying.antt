@@ -1,0 +1,129 @@
+-- A copy between two held frames: which of its three ways it takes, by the marks that were read, and that what it leaves and answers is the definition's.
+use Prim.Native.Nat.{ℕ, _+_, _*_, _/_, _%_}
+use mathlib.Core.Bool.{Bool, true, false, cond, false≢true}
+use mathlib.Core.Path.{_≡_, refl, sym, _∙_}
+use native.Mathlib.Decide.{ℕ-discrete}
+use borrow.Author.Tests.{eq-eqb, ne-eqb}
+use lib.Dec.{eqb, ltb}
+use lib.ListN.{length, take, drop}
+use Rattle.definition.specs.Board.{standard}
+use Rattle.definition.specs.Contents.{bytesAt, copyContentsFrom, copyContentsFromPhysaddr, isZeroedAt, zeroRange}
+use Rattle.definition.specs.Calls.{Copy, perform}
+use Rattle.definition.specs.Store.{Store}
+use Rattle.definition.specs.World.{World, decode, encode, recordAt}
+use Rattle.definition.specs.Torn.{Sound, sound}
+use Rattle.record.specs.Records.{pagesIn}
+use Rattle.audit.proofs.Sheets.{sound-is}
+use Rattle.world.specs.Refusals.{lower}
+use Rattle.world.proofs.Leaving.{sound-table}
+use Rattle.world.proofs.Refusing.{two-frames}
+use Rattle.world.proofs.RoundTrip.{decode-stands}
+use Rattle.world.proofs.Writing.{memory-read}
+use Rattle.allocator.specs.declared.Seen.{Seen}
+use Rattle.allocator.specs.Spots.{numberAt}
+use Rattle.exam.specs.declared.Exam.{Exam}
+use Rattle.exam.specs.Promise.{Examined, Leaves, Looks}
+use Rattle.exam.proofs.Promises.{Small, examined-held, examined-none, examined-number, examined-range, leaves-done, leaves-refused, refusedBy}
+use Rattle.exam.proofs.Tests.{frame-seen}
+use Rattle.copies.specs.Copies.{Spans}
+use Rattle.copies.proofs.Held.{held-ends, held-lies, store-frame}
+
+-- ---- the three ways
+
+module _ (w : World) (S : Sound standard w) {r : Seen} {off len : ℕ} (P : Spans (recordAt (w .records)) (w .rows) (length (w .memory)) r off len) where
+  -- the store's bytes of a range of a held frame are the loan's
+  pub span-bytes
+      : bytesAt (decode standard w .memory) (4096 * numberAt (w .rows) (r .spot) + off) len ≡ take len (drop (4096 * r .spot .page + off) (w .memory))
+  span-bytes =
+      let d = decode-stands w S in
+      memory-read (held-lies w S (P .held) off len (P .range)) (decode standard w .memory) (w .memory) (d .fits) (d .memory)
+
+  span-zeroed : isZeroedAt (decode standard w) (numberAt (w .rows) (r .spot)) ≡ eqb (r .marks / 4 % 2) 1
+  span-zeroed = rw (store-frame w S (P .held)) refl
+
+module _
+    (w : World) (S : Sound standard w) {to from : Seen} {off soff len : ℕ}
+    (P : Spans (recordAt (w .records)) (w .rows) (length (w .memory)) to off len)
+    (Q : Spans (recordAt (w .records)) (w .rows) (length (w .memory)) from soff len)
+  where
+    abbrev s : Store
+    s = decode standard w
+
+    abbrev p : ℕ
+    p = numberAt (w .rows) (to .spot)
+
+    abbrev q : ℕ
+    q = numberAt (w .rows) (from .spot)
+
+    pub from-dirty
+        : eqb (from .marks / 4 % 2) 1 ≡ false → copyContentsFrom standard s p off q soff len ≡ copyContentsFromPhysaddr standard s p off (4096 * q + soff) len
+    unfolding copyContentsFrom copyContentsFromPhysaddr
+    from-dirty e = rw (span-zeroed w S Q ∙ e) refl
+
+    pub both-zeroed : eqb (from .marks / 4 % 2) 1 ≡ true → eqb (to .marks / 4 % 2) 1 ≡ true → copyContentsFrom standard s p off q soff len ≡ s
+    unfolding copyContentsFrom
+    both-zeroed e d = rw (span-zeroed w S Q ∙ e, span-zeroed w S P ∙ d) refl
+
+    pub from-zeroed
+        : eqb (from .marks / 4 % 2) 1 ≡ true → eqb (to .marks / 4 % 2) 1 ≡ false → copyContentsFrom standard s p off q soff len ≡ zeroRange standard s p off len
+    unfolding copyContentsFrom
+    from-zeroed e d = rw (span-zeroed w S Q ∙ e, span-zeroed w S P ∙ d) refl
+
+-- ---- what the tests found
+
+module _ (w : World) (t : sound standard w ≡ true) {a off len : ℕ} {r : Exam} where
+  pub looked : Looks (recordAt (w .records)) (pagesIn (w .records)) (w .rows) a off len r → Examined w a off len r
+  looked L =
+      let T = sound-table w (sound-is standard w t) in
+      record {
+        torn = λ d. absurd (false≢true (sym d ∙ t));
+        number = λ d. L .number ∙ sym (frame-seen (decode standard w) a off len (r .seen) (L .sees (decode standard w .allocator) T));
+        sees = λ d. L .sees (decode standard w .allocator) T;
+        leveled = λ d. L .leveled;
+      }
+
+  pub spans-of : Examined w a off len r → r .number ≡ 0 → Spans (recordAt (w .records)) (w .rows) (length (w .memory)) (r .seen) off len
+  spans-of E z =
+      record {
+        held = examined-held E z;
+        range = examined-range E z;
+        ends = held-ends w (sound-is standard w t) (examined-held E z) off len (examined-range E z);
+      }
+
+-- no refusal is the lower of two where each is none
+pub lower-none : (a b : ℕ) → lower a b ≡ 0 → (a ≡ 0) × (b ≡ 0)
+lower-none a b e = go (ℕ-discrete a 0) (ℕ-discrete b 0)
+  where
+    less : (t : Bool) → cond t a b ≡ 0 → (a ≡ 0 → ⊥) → (b ≡ 0 → ⊥) → ⊥
+    less true e h k = h e
+    less false e h k = k e
+
+    go : Dec (a ≡ 0) → Dec (b ≡ 0) → (a ≡ 0) × (b ≡ 0)
+    go (yes h) (yes k) = (h, k)
+    go (yes h) (no k) = absurd (k (rw (eq-eqb a 0 h) at e))
+    go (no h) (yes k) = absurd (h (rw (ne-eqb a 0 h, eq-eqb b 0 k) at e))
+    go (no h) (no k) = absurd (less (ltb a b) (rw (ne-eqb a 0 h, ne-eqb b 0 k) at e) h k)
+
+-- ---- the promise
+
+module _
+    (w : World) (small : Small w) (t : sound standard w ≡ true) {a off b soff len : ℕ} {to from : Exam} (E : Examined w a off len to)
+    (F : Examined w b soff len from)
+  where
+    pub copy-refused
+        : (n : ℕ) → n ≡ lower (to .number) (from .number) → (n ≡ 0 → ⊥) → Leaves w (Copy a off b soff len) w (refusedBy n)
+    copy-refused n e d =
+        leaves-refused w (Copy a off b soff len) small t n
+        (two-frames (decode standard w) a off b soff len ∙ rw (← E .number t, ← F .number t) (sym e))
+        d
+
+    pub copy-done
+        : to .number ≡ 0 → from .number ≡ 0 → (v : World)
+        → encode standard (copyContentsFrom standard (decode standard w) (numberAt (w .rows) (to .seen .spot)) off (numberAt (w .rows) (from .seen .spot)) soff len) w ≡ v
+        → Leaves w (Copy a off b soff len) v (record { number = 0; address = a; bytes = len })
+    unfolding perform
+    copy-done y z v e =
+        leaves-done w (Copy a off b soff len) t
+        (two-frames (decode standard w) a off b soff len ∙ rw (examined-none E y, examined-none F z) refl)
+        (perform standard (decode standard w) (Copy a off b soff len)) v refl
+        (rw (← examined-number E y, ← examined-number F z) e)

@@ -1,0 +1,5 @@
+pub mod Held
+pub mod Reading
+pub mod Writing
+pub mod Copying
+pub mod Placing

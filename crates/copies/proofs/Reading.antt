@@ -1,0 +1,114 @@
+-- A read leaves the world as it was, and answers with the refusal of the frame or with the part of the loan that starts at the frame's offset.
+use Prim.Native.Nat.{ℕ, _+_, _*_, _≤_}
+use mathlib.Core.Bool.{true}
+use mathlib.Core.List.{[]}
+use mathlib.Core.Path.{_≡_, refl, sym, ap, _∙_}
+use native.Mathlib.Decide.{ℕ-discrete}
+use native.Mathlib.Omega.{arith}
+use lib.ListN.{length, take, drop}
+use Rattle.definition.specs.Board.{standard}
+use Rattle.definition.specs.Contents.{bytesAt}
+use Rattle.definition.specs.Refusal.{lowest}
+use Rattle.definition.specs.Calls.{Answer, Bytes, Done, Read, Refused, Text, answerNumber, names, perform, sheet}
+use Rattle.definition.specs.World.{World, decode}
+use Rattle.definition.specs.Torn.{Left, Sound, call, sound}
+use Rattle.audit.proofs.Sheets.{sound-is}
+use Rattle.world.proofs.Calling.{done-call, none-met}
+use Rattle.world.proofs.Places.{Lies}
+use Rattle.world.proofs.Refusing.{one-frame}
+use Rattle.world.proofs.RoundTrip.{decode-stands, round-trip}
+use Rattle.world.proofs.Writing.{memory-read}
+use Rattle.allocator.specs.Spots.{numberAt}
+use Rattle.exam.specs.declared.Exam.{Exam}
+use Rattle.exam.specs.Promise.{Examined, Leaves, told}
+use Rattle.exam.proofs.Promises.{
+  Small,
+  examined-edge,
+  examined-held,
+  examined-none,
+  examined-number,
+  examined-range,
+  examined-refused,
+  examined-sound,
+  refusedBy,
+}
+use Rattle.copies.specs.Copies.{Lends, Numbers, bytesOf}
+use Rattle.copies.proofs.Held.{held-ends, held-lies}
+
+-- ---- an answer's number and bytes, by what is told of it
+
+told-number : (y : Answer) → told y .number ≡ answerNumber y
+told-number (Refused r) = refl
+told-number (Done a n) = refl
+told-number (Text t) = refl
+told-number (Bytes t) = refl
+
+refused-bytes : (y : Answer) → (answerNumber y ≡ 0 → ⊥) → bytesOf y ≡ []
+refused-bytes (Refused r) d = refl
+refused-bytes (Done a n) d = absurd (d refl)
+refused-bytes (Text t) d = absurd (d refl)
+refused-bytes (Bytes t) d = absurd (d refl)
+
+module _ (w : World) (small : Small w) {a off len : ℕ} {r : Exam} (E : Examined w a off len r) where
+  abbrev answer : Answer
+  answer = call standard w (Read a off len) .answer
+
+  -- ---- refused
+
+  left : (r .number ≡ 0 → ⊥) → Leaves w (Read a off len) w (refusedBy (r .number))
+  left d = examined-refused E (Read a off len) small (λ t. one-frame (decode standard w) a off len) d
+
+  left-number : (r .number ≡ 0 → ⊥) → answerNumber answer ≡ r .number
+  left-number d = sym (told-number answer) ∙ ap (λ y. y .number) (left d .answer)
+
+  pub read-refused : (r .number ≡ 0 → ⊥) → Lends w (Read a off len) []
+  read-refused d =
+      record { world = left d .world; bytes = sym (refused-bytes answer (λ e. d (sym (left-number d) ∙ e))) }
+
+  -- ---- done
+
+  module _ (z : r .number ≡ 0) where
+    abbrev t : sound standard w ≡ true
+    t = examined-sound E z
+
+    S : Sound standard w
+    S = sound-is standard w t
+
+    abbrev at : ℕ
+    at = 4096 * r .seen .spot .page + off
+
+    -- the range in the loan
+    pub read-ends : 4096 * r .seen .spot .page + (off + len) ≤ length (w .memory)
+    read-ends = held-ends w S (examined-held E z) off len (examined-range E z)
+
+    lies : Lies (decode standard w .allocator .regions) (a + off) at len
+    lies =
+        let e : 4096 * numberAt (w .rows) (r .seen .spot) + off ≡ a + off = omega (arith, examined-number E z, examined-edge E z) in
+        rw e at (held-lies w S (examined-held E z) off len (examined-range E z))
+
+    bytes-are : bytesAt (decode standard w .memory) (a + off) len ≡ take len (drop at (w .memory))
+    bytes-are = memory-read lies (decode standard w .memory) (w .memory) (decode-stands w S .fits) (decode-stands w S .memory)
+
+    performed : perform standard (decode standard w) (Read a off len) ≡ record { store = decode standard w; answer = Bytes (take len (drop at (w .memory))) }
+    unfolding perform
+    performed = rw bytes-are refl
+
+    called : call standard w (Read a off len) ≡ record { world = w; answer = Bytes (take len (drop at (w .memory))) }
+    called =
+        done-call w (Read a off len) t (record { store = decode standard w; answer = Bytes (take len (drop at (w .memory))) }) w
+        (none-met (lowest (sheet standard (decode standard w) (names (Read a off len)))) (one-frame (decode standard w) a off len ∙ examined-none E z))
+        performed (round-trip w S small)
+
+    pub read-done : Lends w (Read a off len) (take len (drop at (w .memory)))
+    read-done = record { world = ap (λ (l : Left). l .world) called; bytes = sym (ap (λ (l : Left). bytesOf (l .answer)) called) }
+
+    done-number : Numbers w (Read a off len) (r .number)
+    done-number =
+        record { world = ap (λ (l : Left). l .world) called; number = z ∙ sym (ap (λ (l : Left). answerNumber (l .answer)) called) }
+
+  pub read-numbers : Numbers w (Read a off len) (r .number)
+  read-numbers = go (ℕ-discrete (r .number) 0)
+    where
+      go : Dec (r .number ≡ 0) → Numbers w (Read a off len) (r .number)
+      go (yes z) = done-number z
+      go (no d) = record { world = left d .world; number = sym (left-number d) }

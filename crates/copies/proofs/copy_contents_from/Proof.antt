@@ -1,0 +1,93 @@
+-- Which way the copy takes is told by the marks of the two frames.
+use Prim.Native.Nat.{_+_, _*_}
+use mathlib.Core.Path.{sym, _∙_}
+use native.Mathlib.Omega.{arith}
+use borrow.Author.Needs.{needs}
+use borrow.Author.Tests.{not-true, not-false}
+use Rattle.world.proofs.RoundTrip.{round-trip}
+use Rattle.allocator.specs.Spots.{numberAt}
+use Rattle.exam.specs.Promise.{worldOf}
+use Rattle.copies.proofs.Copying.{both-zeroed, from-dirty, from-zeroed, span-bytes}
+use Rattle.copies.proofs.copy_contents_from.Statement.{statement}
+use Rattle.copies.proofs.copy_contents_from.Tie as tie
+
+is-zeroed-requires : tie.Need-is-zeroed-requires
+is-zeroed-requires c κs = search needs
+
+mul-at : tie.Need-mul-at
+mul-at c = search needs
+
+add-at : tie.Need-add-at
+add-at c = search needs
+
+move-into-requires : tie.Need-move-into-requires
+move-into-requires c κs =
+    let s = c .before .before .before .before .before .before .before .before in
+    (s .pre .0, (s .pre .1 .0, omega (arith, s .pre .1 .1 .ends)))
+
+same-length : tie.Need-same-length
+same-length c = search needs
+
+same-length-2 : tie.Need-same-length-2
+same-length-2 c = search needs
+
+returns : tie.Need-returns
+returns c queue S =
+    let k = c .before .before .before .before .before .before .before .before .before .before .before .before in
+    let s = k .before in
+    let w = worldOf (s .args .state) (s .args .records .now) (s .args .memory .now) queue in
+    let z = c .before .before .before .before .before .before .before .before .before .before .is-zeroed in
+    let P = s .pre .1 .0 in
+    let Q = s .pre .1 .1 in
+    rw (from-dirty w S P Q (sym (z .ensures) ∙ not-true (z .result) (c .before .before .before .before .before .before .before .before .before .if1 .taken)))
+    (c .before .before .before .before .move-into .ensures queue S (4096 * numberAt (w .rows) (s .args .from .spot) + s .args .from-offset) (span-bytes w S Q))
+
+is-zeroed-requires-2 : tie.Need-is-zeroed-requires-2
+is-zeroed-requires-2 c κs = search needs
+
+returns-2 : tie.Need-returns-2
+returns-2 c queue S =
+    let k = c .before .before .before .before .before in
+    let s = k .before in
+    let w = worldOf (s .args .state) (s .args .records .now) (s .args .memory .now) queue in
+    let z = c .before .before .before .is-zeroed in
+    let y = c .before .is-zeroed2 in
+    rw (both-zeroed w S (s .pre .1 .0) (s .pre .1 .1) (sym (z .ensures) ∙ not-false (z .result) (c .before .before .if1 .left)) (sym (y .ensures) ∙ c .if2 .taken))
+    (round-trip w S (λ i. k .slice-known .given i .fits))
+
+zero-range-requires : tie.Need-zero-range-requires
+zero-range-requires c κs = search needs
+
+same-length-3 : tie.Need-same-length-3
+same-length-3 c = search needs
+
+same-length-4 : tie.Need-same-length-4
+same-length-4 c = search needs
+
+returns-3 : tie.Need-returns-3
+returns-3 c queue S =
+    let k = c .before .before .before .before .before .before .before .before .before .before .before .before in
+    let s = k .before in
+    let w = worldOf (s .args .state) (s .args .records .now) (s .args .memory .now) queue in
+    let z = c .before .before .before .before .before .before .before .before .before .before .is-zeroed in
+    let y = c .before .before .before .before .before .before .before .before .is-zeroed2 in
+    rw (from-zeroed w S (s .pre .1 .0) (s .pre .1 .1) (sym (z .ensures) ∙ not-false (z .result) (c .before .before .before .before .before .before .before .before .before .if1 .left)) (sym (y .ensures) ∙ c .before .before .before .before .before .before .before .if2 .left))
+    (c .before .before .before .before .zero-range .ensures queue S)
+
+pub copy-contents-from-spec : {M : Type 1} → statement M
+copy-contents-from-spec =
+    tie.close
+    (tie.spec
+    is-zeroed-requires
+    mul-at
+    add-at
+    move-into-requires
+    same-length
+    same-length-2
+    returns
+    is-zeroed-requires-2
+    returns-2
+    zero-range-requires
+    same-length-3
+    same-length-4
+    returns-3)

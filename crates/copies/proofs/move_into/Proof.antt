@@ -1,0 +1,51 @@
+-- The bytes are moved, and the mark is cleared; the frame keeps its own KERNEL.
+use mathlib.Core.Bool.{false}
+use borrow.Author.Needs.{needs}
+use Rattle.exam.specs.Promise.{worldOf}
+use Rattle.copies.proofs.Writing.{Marked, moved-into}
+use Rattle.copies.proofs.move_into.Statement.{statement}
+use Rattle.copies.proofs.move_into.Tie as tie
+
+mul-copy : tie.Need-mul-copy
+mul-copy c = search needs
+
+add-copy : tie.Need-add-copy
+add-copy c = search needs
+
+copy-requires : tie.Need-copy-requires
+copy-requires c κs = search needs
+
+is-kernel-requires : tie.Need-is-kernel-requires
+is-kernel-requires c κs = search needs
+
+set-marks-requires : tie.Need-set-marks-requires
+set-marks-requires c κs = search needs
+
+same-length : tie.Need-same-length
+same-length c = search needs
+
+same-length-2 : tie.Need-same-length-2
+same-length-2 c = search needs
+
+returns : tie.Need-returns
+returns c queue S a e =
+    let k = c .before .before .before .before .before .before .before .before .before .before .before .before .before in
+    let s = k .before in
+    let w = worldOf (s .args .state) (s .args .records .now) (s .args .memory .now) queue in
+    let d = c .before .before .set-marks in
+    let M : Marked w (s .args .to) false (d .last .0) =
+    record { turns = rw (c .before .before .before .is-kernel .ensures) at (d .ensures); as-long = d .kept .0; small = λ i. c .slice-known4 .given i .fits } in
+    rw (c .before .before .before .before .before .before .before .before .copy .ensures) (moved-into w S (λ i. k .slice-known .given i .fits) (s .pre .1 .0) (d .last .0) M (s .args .from) a e)
+
+pub move-into-spec : {M : Type 1} → statement M
+move-into-spec =
+    tie.close
+    (tie.spec
+    mul-copy
+    add-copy
+    copy-requires
+    is-kernel-requires
+    set-marks-requires
+    same-length
+    same-length-2
+    returns)

@@ -1,0 +1,72 @@
+-- The bytes are zeroed; where the range is the whole frame, the mark is set too, and the frame keeps its own KERNEL.
+use mathlib.Core.Bool.{true}
+use mathlib.Core.Path.{sym, _∙_}
+use borrow.Author.Needs.{needs}
+use borrow.Author.Tests.{not-true, not-false}
+use Rattle.exam.specs.Promise.{worldOf}
+use Rattle.copies.proofs.Writing.{Marked, zero-part, zero-whole}
+use Rattle.copies.proofs.zero_range.Statement.{statement}
+use Rattle.copies.proofs.zero_range.Tie as tie
+
+mul-fill : tie.Need-mul-fill
+mul-fill c = search needs
+
+add-fill : tie.Need-add-fill
+add-fill c = search needs
+
+fill-requires : tie.Need-fill-requires
+fill-requires c κs = search needs
+
+is-whole-requires : tie.Need-is-whole-requires
+is-whole-requires c κs = search needs
+
+same-length : tie.Need-same-length
+same-length c = search needs
+
+returns : tie.Need-returns
+returns c queue S =
+    let k = c .before .before .before .before .before .before .before .before .before in
+    let s = k .before in
+    let w = worldOf (s .args .state) (s .args .records .now) (s .args .memory .now) queue in
+    let r = c .before .is-whole in
+    rw (c .before .before .before .before .fill .ensures) (zero-part w S (λ i. k .slice-known .given i .fits) (s .pre .1) (sym (r .ensures) ∙ not-true (r .result) (c .if1 .taken)))
+
+is-kernel-requires : tie.Need-is-kernel-requires
+is-kernel-requires c κs = search needs
+
+set-marks-requires : tie.Need-set-marks-requires
+set-marks-requires c κs = search needs
+
+same-length-2 : tie.Need-same-length-2
+same-length-2 c = search needs
+
+same-length-3 : tie.Need-same-length-3
+same-length-3 c = search needs
+
+returns-2 : tie.Need-returns-2
+returns-2 c queue S =
+    let k = c .before .before .before .before .before .before .before .before .before .before .before .before .before .before .before in
+    let s = k .before in
+    let w = worldOf (s .args .state) (s .args .records .now) (s .args .memory .now) queue in
+    let r = c .before .before .before .before .before .before .before .is-whole in
+    let d = c .before .before .set-marks in
+    let M : Marked w (s .args .to) true (d .last .0) =
+    record { turns = rw (c .before .before .before .is-kernel .ensures) at (d .ensures); as-long = d .kept .0; small = λ i. c .slice-known4 .given i .fits } in
+    rw (c .before .before .before .before .before .before .before .before .before .before .fill .ensures)
+    (zero-whole w S (λ i. k .slice-known .given i .fits) (s .pre .1) (sym (r .ensures) ∙ not-false (r .result) (c .before .before .before .before .before .before .if1 .left)) (d .last .0) M)
+
+pub zero-range-spec : {M : Type 1} → statement M
+zero-range-spec =
+    tie.close
+    (tie.spec
+    mul-fill
+    add-fill
+    fill-requires
+    is-whole-requires
+    same-length
+    returns
+    is-kernel-requires
+    set-marks-requires
+    same-length-2
+    same-length-3
+    returns-2)

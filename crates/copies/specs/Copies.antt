@@ -1,0 +1,83 @@
+-- What the calls that read and copy promise, beside `Leaves`: `Numbers` and `Lends` the two halves of a read, whose answer is a part of the lent memory; `Writes`
+-- and `Moves` what the workers of a copy leave of the loans.
+use Prim.Native.Nat.{ℕ, _+_, _*_, _≤_, _<_, _^_}
+use mathlib.Core.Bool.{true, not, cond}
+use mathlib.Core.List.{List, []}
+use mathlib.Core.Path.{_≡_}
+use lib.Dec.{ltb}
+use lib.ListN.{take, drop}
+use Rattle.definition.specs.declared.Record.{Record}
+use Rattle.definition.specs.declared.Row.{Row}
+use Rattle.definition.specs.Board.{standard}
+use Rattle.definition.specs.Frame.{size}
+use Rattle.definition.specs.Allocator.{end}
+use Rattle.definition.specs.Store.{Store}
+use Rattle.definition.specs.Contents.{bytesAt, copyContentsFromPhysaddr}
+use Rattle.definition.specs.Calls.{Call, Answer, Refused, Done, Text, Bytes, answerNumber}
+use Rattle.definition.specs.World.{World, bareRegion, decode, encode}
+use Rattle.definition.specs.Torn.{Sound, call}
+use Rattle.world.specs.Stands.{rowAt}
+use Rattle.allocator.specs.declared.Seen.{Seen}
+use Rattle.allocator.specs.Spots.{numberAt}
+use Rattle.exam.specs.declared.State.{State}
+use Rattle.exam.specs.Promise.{HeldSeen, worldOf}
+
+-- ---- a read
+
+-- the bytes that were read, none where the call was refused
+abbrev pub bytesOf : Answer → List ℕ
+bytesOf (Refused r) = []
+bytesOf (Done a n) = []
+bytesOf (Text t) = []
+bytesOf (Bytes t) = t
+
+-- the call leaves the world, and n is its answer's number
+pub record Numbers (w : World) (c : Call) (n : ℕ) : Type 0 where
+  pub world : call standard w c .world ≡ w
+  pub number : n ≡ answerNumber (call standard w c .answer)
+
+-- the call leaves the world, and bs are the bytes of its answer
+pub record Lends (w : World) (c : Call) (bs : List ℕ) : Type 0 where
+  pub world : call standard w c .world ≡ w
+  pub bytes : bs ≡ bytesOf (call standard w c .answer)
+
+-- ---- a copy
+
+-- a range of a held frame that was seen, in a loan of so many bytes
+pub record Spans (f : ℕ → Record) (rows : List Row) (memory : ℕ) (r : Seen) (off len : ℕ) : Type 0 where
+  pub held : HeldSeen f rows r
+  pub range : off + len ≤ standard .page * size (r .level)
+  pub ends : standard .page * r .spot .page + (off + len) ≤ memory
+
+-- the loans became those of what `op` makes of the store, whatever the queue
+abbrev pub Writes : State → (records memory records2 memory2 : List ℕ) → (Store → Store) → Type 0
+Writes s records memory records2 memory2 op =
+    (queue : List ℕ) → Sound standard (worldOf s records memory queue)
+    → encode standard (op (decode standard (worldOf s records memory queue))) (worldOf s records memory queue) ≡ worldOf s records2 memory2 queue
+
+-- the same of a copy into the frame that was seen, from any address whose bytes are those of the loan from `from` on
+abbrev pub Moves : State → (records memory records2 memory2 : List ℕ) → Seen → (off from len : ℕ) → Type 0
+Moves s records memory records2 memory2 r off from len =
+    (queue : List ℕ) → Sound standard (worldOf s records memory queue)
+    → (a : ℕ) → bytesAt (decode standard (worldOf s records memory queue) .memory) a len ≡ take len (drop from memory)
+    → encode standard (copyContentsFromPhysaddr standard (decode standard (worldOf s records memory queue)) (numberAt (s .rows) (r .spot)) off a len) (worldOf s records memory queue)
+    ≡ worldOf s records2 memory2 queue
+
+-- ---- a physical source
+
+-- the address behind the last managed page of the region where a page was seen
+abbrev pub endSeen : List Row → Seen → ℕ
+endSeen rows r = standard .page * end standard (bareRegion standard (rowAt rows (r .spot .index)))
+
+-- the address a is of the region of a row in use
+pub record Inward (rows : List Row) (r : Seen) (a : ℕ) : Type 0 where
+  pub index : r .spot .index < 8
+  pub before : a < endSeen rows r
+  pub bounded : endSeen rows r ≤ 2 ^ 40
+
+abbrev pub Placed : List Row → Seen → ℕ → Type 0
+Placed rows r a = r .managed ≡ true → Inward rows r a
+
+-- 11 and 14 of a place that need only be managed, by what was seen at the address a
+abbrev pub placeSeen : List Row → Seen → (a len : ℕ) → ℕ
+placeSeen rows r a len = cond (not (r .managed)) 11 (cond (ltb (endSeen rows r) (a + len)) 14 0)
