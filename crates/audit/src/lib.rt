@@ -176,7 +176,7 @@ fn shares_behind(rows: [Row; 8], used: usize, i: usize) -> bool
     false
 }
 
-fn overlaps(rows: [Row; 8], used: usize) -> bool
+pub fn overlaps(rows: [Row; 8], used: usize) -> bool
     requires { ⌜ (used ≡ length (usedRows rows)) × (all (rowAsBoot standard) (usedRows rows) ≡ true) ⌝ }
     ensures { λ r. ⌜ r ≡ overlap standard (regionsOf standard rows) ⌝ }
 {
@@ -191,7 +191,7 @@ fn overlaps(rows: [Row; 8], used: usize) -> bool
 }
 
 // The pages of the rows in use, tables included.
-fn total_pages(rows: [Row; 8], used: usize) -> usize
+pub fn total_pages(rows: [Row; 8], used: usize) -> usize
     requires { ⌜ (used ≡ length (usedRows rows)) × (all (rowAsBoot standard) (usedRows rows) ≡ true) ⌝ }
     ensures { λ r. ⌜ r ≡ total (regionsOf standard rows) ⌝ }
 {
@@ -224,7 +224,7 @@ fn rows_as_boot(rows: [Row; 8], used: usize) -> bool
 // ---- "and the loans long enough"
 
 // The managed pages of the rows in use.
-fn managed_pages(rows: [Row; 8], used: usize) -> usize
+pub fn managed_pages(rows: [Row; 8], used: usize) -> usize
     requires { ⌜ (used ≡ length (usedRows rows)) × (rowsAsBoot standard rows ≡ true) ⌝ }
     ensures { λ r. ⌜ (r ≡ managedPages standard (regionsOf standard rows)) × (r ≤ 1048576) ⌝ }
 {
@@ -238,7 +238,7 @@ fn managed_pages(rows: [Row; 8], used: usize) -> usize
     pages
 }
 
-fn loans_long(rows: [Row; 8], used: usize, records: usize, memory: usize) -> bool
+pub fn loans_long(rows: [Row; 8], used: usize, records: usize, memory: usize) -> bool
     requires { ⌜ (used ≡ length (usedRows rows)) × (rowsAsBoot standard rows ≡ true) ⌝ }
     ensures { λ r. ⌜ r ≡ loansLong standard rows records memory ⌝ }
 {

@@ -1,0 +1,118 @@
+-- `boot` meets its contract. A refused boot writes nothing; an accepted one has rows that the sheet accepts, which `lay_out` lays out, and the counters of their pages.
+use mathlib.Core.Path.{_≡_, sym, _∙_}
+use native.Mathlib.Omega.{arith}
+use lib.ListN.{length}
+use Rattle.exam.specs.Promise.{worldOf}
+use Rattle.boot.specs.Booting.{Mapped}
+use Rattle.boot.proofs.KeptRows.{map-eight}
+use Rattle.boot.proofs.Refusing.{accepted-admitted, accepted-boot, accepted-kept, accepted-ready, given-kept, given-near}
+use Rattle.boot.proofs.Leaving.{boots-done, boots-refused}
+use borrow.Author.Needs.{needs}
+use Rattle.boot.proofs.boot.Statement.{statement}
+use Rattle.boot.proofs.boot.Tie as tie
+
+refusal-of-map-requires : tie.Need-refusal-of-map-requires
+refusal-of-map-requires c κs = search needs
+
+refused-requires : tie.Need-refused-requires
+refused-requires c κs = search needs
+
+returns : tie.Need-returns
+returns c =
+    λ ms e f.
+    let s = c .before .before .before .before .before .before in
+    let a = s .args in
+    let d = c .before .before .refusal-of-map in
+    rw (c .refused .ensures)
+    (boots-refused ms (worldOf (a .state) (a .records .now) (a .memory .now) (a .queue .now)) (d .result) (d .ensures .number ms (record { long = e; front = f })) (c .before .if1 .taken))
+
+-- the array has eight
+long : (c : tie.Start) → length (c .args .map) ≡ 8
+long c = map-eight (c .args .map) _ (c .good .1 .0)
+
+kept-rows-requires : tie.Need-kept-rows-requires
+kept-rows-requires c κs =
+    let E = c .before .refusal-of-map .ensures in
+    (E .few (c .if1 .left), E .near (c .if1 .left))
+
+total-pages-requires : tie.Need-total-pages-requires
+total-pages-requires c κs =
+    let d = c .before .before .before in
+    let s = d .before .before .before .before in
+    let k = c .before .kept-rows in
+    let R = accepted-kept (s .args .map) (s .args .count) _ _ _ (long s) (d .refusal-of-map .ensures) (c .before .before .if1 .left) (k .result) (k .ensures) in
+    (R .many, R .booted)
+
+managed-pages-requires : tie.Need-managed-pages-requires
+managed-pages-requires c κs =
+    let d = c .before .before .before .before in
+    let s = d .before .before .before .before in
+    let k = c .before .before .kept-rows in
+    let z = c .before .before .before .if1 .left in
+    let R = accepted-kept (s .args .map) (s .args .count) _ _ _ (long s) (d .refusal-of-map .ensures) z (k .result) (k .ensures) in
+    (R .many, accepted-boot (s .args .map) (s .args .count) _ _ _ (long s) (d .refusal-of-map .ensures) z (k .result) (k .ensures))
+
+lay-out-requires : tie.Need-lay-out-requires
+lay-out-requires c κs =
+    let d = c .before .before .before .before .before .before in
+    let s = d .before .before .before .before in
+    let k = c .before .before .before .before .kept-rows in
+    accepted-ready (s .args .map) (s .args .count) _ _ _ (long s) (d .refusal-of-map .ensures) (c .before .before .before .before .before .if1 .left) (k .result) (k .ensures)
+
+started-requires : tie.Need-started-requires
+started-requires c κs = search needs
+
+mul-done : tie.Need-mul-done
+mul-done c = search needs
+
+done-requires : tie.Need-done-requires
+done-requires c κs = search needs
+
+same-length : tie.Need-same-length
+same-length c = search needs
+
+returns-2 : tie.Need-returns-2
+returns-2 c =
+    λ ms e f.
+    let l = c .before .before .before .before in
+    let g = l .before .before in
+    let t = g .before in
+    let k = t .before .before in
+    let i = k .before in
+    let d = i .before in
+    let s = d .before .before .before .before in
+    let a = s .args in
+    let E = d .refusal-of-map .ensures in
+    let z = i .if1 .left in
+    let M : Mapped (a .map) (a .count) ms = record { long = e; front = f } in
+    rw (c .done .ensures, c .before .started .ensures)
+    (boots-done (worldOf (a .state) (a .records .now) (a .memory .now) (a .queue .now)) (k .kept-rows .result .rows) (l .lay-out .result) (l .lay-out .last .0) (t .total-pages .result)
+    (accepted-admitted (a .map) (a .count) _ _ _ (long s) E z (k .kept-rows .result) (k .kept-rows .ensures))
+    (l .lay-out .ensures)
+    (l .lay-out .kept .0)
+    (λ i. omega (arith, d .before .before .before .slice-known .given i))
+    (λ i. omega (arith, c .before .before .slice-known2 .given i))
+    (t .total-pages .ensures)
+    ms
+    (given-near M (E .few z) (E .near z) (k .kept-rows .result) (k .kept-rows .ensures))
+    (given-kept M (E .few z) (E .near z) (k .kept-rows .result) (k .kept-rows .ensures))
+    (g .managed-pages .result)
+    (g .managed-pages .ensures .0)
+    (sym z ∙ E .number ms M))
+
+pub boot-spec : {M : Type 1} → statement M
+boot-spec =
+    tie.close
+    (tie.spec
+    refusal-of-map-requires
+    refused-requires
+    returns
+    kept-rows-requires
+    total-pages-requires
+    managed-pages-requires
+    lay-out-requires
+    started-requires
+    mul-done
+    done-requires
+    same-length
+    returns-2)

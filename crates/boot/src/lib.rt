@@ -1,0 +1,253 @@
+// The boot (frame.rs's init): the refusals of a map, 1 to 5, and the layout of the regions that it keeps. A refused boot leaves everything as it was. Numbers
+// of a map are any of 64 bits, so an entry is rounded to pages only once no usable one ends past 2^40.
+use address::PhysAddr;
+use definition::Counters;
+use definition::Links;
+use definition::MemoryRegion;
+use definition::MemoryRegionKind;
+use definition::Pass;
+use definition::Row;
+use exam::Outcome;
+use exam::State;
+ghost use mathlib.Core.Bool.{false};
+ghost use mathlib.Core.Path.{_≡_};
+ghost use Prim.Native.Nat.{_≤_};
+ghost use lib.ListN.{take};
+ghost use Rattle.definition.specs.Allocator.{isUsable};
+ghost use Rattle.definition.specs.Basics.{any};
+ghost use Rattle.definition.specs.Boot.{endsFar};
+ghost use Rattle.definition.specs.World.{recordAt};
+ghost use Rattle.record.specs.Records.{pagesIn};
+ghost use Rattle.region.specs.Rep.{emptyRow};
+ghost use Rattle.exam.specs.Promise.{worldOf};
+ghost use Rattle.boot.specs.Booting.{
+  Keeps,
+  RowsKept,
+  RefusedAs,
+  Ready,
+  Lays,
+  BootsAll,
+  stateAtBoot,
+  rowOf,
+  rowsRefusal,
+};
+
+// ---- the entries of a map
+
+fn is_usable(kind: MemoryRegionKind) -> bool
+    ensures { λ r. ⌜ r ≡ isUsable kind ⌝ }
+{
+    match kind {
+        MemoryRegionKind::UsableRam => true,
+        MemoryRegionKind::Reserved => false,
+        MemoryRegionKind::BootloaderReserved => false,
+    }
+}
+
+// A usable entry ends past 2^40. Neither its start nor its length need be small, so that they are not added.
+fn ends_far(entry: MemoryRegion) -> bool
+    ensures { λ r. ⌜ r ≡ endsFar entry ⌝ }
+{
+    let kind = entry.kind;
+    if !is_usable(kind) {
+        return false;
+    }
+    let start = entry.start;
+    let begin = start.raw();
+    if 1099511627776 < begin {
+        return true;
+    }
+    1099511627776 - begin < (entry.length as u64)
+}
+
+fn any_far(map: [MemoryRegion; 8], count: usize) -> bool
+    requires { ⌜ count ≤ 8 ⌝ }
+    ensures { λ r. ⌜ r ≡ any endsFar (take count map) ⌝ }
+{
+    let mut i: usize = 0;
+    while i < count {
+        if ends_far(map[i]) {
+            return true;
+        }
+        i += 1;
+    }
+    false
+}
+
+// A row with no frames.
+fn empty_row(start: PhysAddr, pages: usize) -> Row
+    ensures { λ r. ⌜ r ≡ emptyRow start pages ⌝ }
+{
+    let none = Links {
+        front: 0,
+        back: 0,
+        count: 0,
+    };
+    let lists = [none; 6];
+    Row {
+        start,
+        pages,
+        lists,
+    }
+}
+
+// AllocationRegion::new, frame.rs 277, up to its frames: the row of an entry that is kept, else an unused one. An entry of more than one page has more pages than
+// its tables take.
+fn keep(entry: MemoryRegion) -> Row
+    requires { ⌜ endsFar entry ≡ false ⌝ }
+    ensures { λ r. ⌜ r ≡ rowOf entry ⌝ }
+{
+    let kind = entry.kind;
+    if !is_usable(kind) {
+        return empty_row(PhysAddr::new(0), 0);
+    }
+    let begin = entry.start;
+    let start = begin.align_up(4096);
+    let gap = start.raw() - begin.raw();
+    let length = entry.length as u64;
+    if length < gap {
+        return empty_row(PhysAddr::new(0), 0);
+    }
+    let pages = ((length - gap) / 4096) as usize;
+    if pages <= 1 {
+        return empty_row(PhysAddr::new(0), 0);
+    }
+    empty_row(start, pages)
+}
+
+// The rows of the entries that a map keeps, and how many they are.
+struct Kept {
+    rows: [Row; 8],
+    used: usize,
+}
+
+// An entry that is not kept writes an unused row, which the next one that is kept overwrites.
+fn kept_rows(map: [MemoryRegion; 8], count: usize) -> Kept
+    requires { ⌜ (count ≤ 8) × (any endsFar (take count map) ≡ false) ⌝ }
+    ensures { λ r. ⌜ Keeps (take count map) r ⌝ }
+{
+    let none = empty_row(PhysAddr::new(0), 0);
+    let mut rows = [none; 8];
+    let mut used: usize = 0;
+    let mut i: usize = 0;
+    while i < count {
+        let row = keep(map[i]);
+        rows[used] = row;
+        if row.pages != 0 {
+            used += 1;
+        }
+        i += 1;
+    }
+    Kept { rows, used }
+}
+
+// ---- the refusals
+
+// 3, 4 and 5, of the rows that are kept.
+fn refusal_of_rows(rows: [Row; 8], used: usize, records: usize, memory: usize) -> u32
+    requires { ⌜ RowsKept rows used ⌝ }
+    ensures { λ r. ⌜ r ≡ rowsRefusal rows records memory ⌝ }
+{
+    if audit::overlaps(rows, used) {
+        return 3;
+    }
+    if 1048576 < audit::total_pages(rows, used) {
+        return 4;
+    }
+    if audit::loans_long(rows, used, records, memory) {
+        return 0;
+    }
+    5
+}
+
+// Of a map of `count` entries the first eight are given; of a longer one none is read.
+fn refusal_of_map(map: [MemoryRegion; 8], count: usize, records: usize, memory: usize) -> u32
+    ensures { λ r. ⌜ RefusedAs map count records memory r ⌝ }
+{
+    if 8 < count {
+        return 1;
+    }
+    if any_far(map, count) {
+        return 2;
+    }
+    let kept = kept_rows(map, count);
+    let rows = kept.rows;
+    refusal_of_rows(rows, kept.used, records, memory)
+}
+
+// ---- the layout
+
+// The frames of each region, all free, the regions' records one behind another from page 0 on.
+fn lay_out(records: &mut [u8], rows: [Row; 8], used: usize) -> [Row; 8]
+    requires { ⌜ Ready rows used (pagesIn (now records)) ⌝ }
+    ensures { λ r. ⌜ Lays (recordAt (now (records .entry))) rows (recordAt (now (records .exit))) (pagesIn (now (records .exit))) r ⌝ }
+{
+    let mut next = rows;
+    let mut base: usize = 0;
+    let mut i: usize = 0;
+    while i < used {
+        let row = rows[i];
+        let laid = region::new(records, base, row.start, row.pages);
+        next[i] = laid;
+        base += row.pages - region::table_pages(row.pages);
+        i += 1;
+    }
+    next
+}
+
+// tracker.rs 469, init: of so many pages all are idle.
+fn started(rows: [Row; 8], pages: usize) -> State
+    ensures { λ r. ⌜ r ≡ stateAtBoot rows pages ⌝ }
+{
+    let counters = Counters {
+        kernel_used: 0,
+        page_data: 0,
+        idle: pages,
+        total: pages,
+        allocated: 0,
+        freed: 0,
+        reclaimed: 0,
+        waiting: 0,
+        pager_outstanding: 0,
+    };
+    let pass = Pass {
+        rounds: 0,
+        freed: 0,
+    };
+    State {
+        rows,
+        counters,
+        queued: 0,
+        pass,
+    }
+}
+
+// init, frame.rs 707: the store that a map of `count` entries makes, of which `map` has the first eight. The memory's bytes stay.
+pub fn boot(
+    state: State,
+    map: [MemoryRegion; 8],
+    count: usize,
+    records: &mut [u8],
+    memory: &[u8],
+    queue: &[u64],
+) -> Outcome
+    ensures { λ r. ⌜ BootsAll map count (worldOf state (now (records .entry)) (now (memory .entry)) (now (queue .entry))) (worldOf (r .state) (now (records .exit)) (now (memory .entry)) (now (queue .entry))) (r .answer) ⌝ }
+{
+    let number = refusal_of_map(map, count, records.len(), memory.len());
+    if number != 0 {
+        return Outcome {
+            state,
+            answer: exam::refused(number),
+        };
+    }
+    let kept = kept_rows(map, count);
+    let rows = kept.rows;
+    let used = kept.used;
+    let pages = audit::total_pages(rows, used);
+    let managed = audit::managed_pages(rows, used);
+    let laid = lay_out(records, rows, used);
+    Outcome {
+        state: started(laid, pages),
+        answer: exam::done(0, 4096 * (managed as u64)),
+    }
+}
