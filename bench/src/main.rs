@@ -1,9 +1,11 @@
 //! Times the leaf crates of the store: records and lists against the same steps
 //! in plain Rust, a grant that splits a frame against the kernel's own, and a
 //! region's layout against a plain fill of its records; and the audit against
-//! the same audit in plain Rust. README.md says what the figures mean.
+//! the same audit in plain Rust; and whole calls against the kernel's own, and
+//! against memset and memmove. README.md says what the figures mean.
 
 mod audit;
+mod calls;
 mod clock;
 mod original;
 mod plain;
@@ -17,11 +19,15 @@ fn main() {
     // The name of one part runs it alone.
     let part = std::env::args().nth(1);
     let runs = |name: &str| part.as_ref().is_none_or(|part| part == name);
+    original::set_up();
     if runs("leaves") {
         leaves();
     }
     if runs("audit") {
         audit::run();
+    }
+    if runs("calls") {
+        calls::run();
     }
 }
 
@@ -30,7 +36,6 @@ fn leaves() {
     for pages in [16, 4096, 262_144] {
         records::run(pages);
     }
-    original::set_up();
     regions::heading();
     regions::split("2 MiB", 0, 4000);
     regions::split("1 GiB", 1, 3000);

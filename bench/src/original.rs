@@ -1,6 +1,6 @@
-//! The kernel's own allocator of one region, where its sources were at hand for
-//! the build, with its atomic marks and its tests as they stand. Its calls are
-//! timed one by one, and the best of all turns counts.
+//! The kernel's own allocator, where its sources were at hand for the build, with
+//! its atomic marks and its tests as they stand: that of one region, whose calls
+//! are timed one by one, the best of all turns counting, and whole calls.
 
 use crate::regions::{Region, Times};
 
@@ -47,6 +47,31 @@ mod built {
         let [time] = best(10, 1, [&mut new]);
         Some(time)
     }
+
+    /// The kernel's calls after its only boot, on one usable entry.
+    pub struct Calls;
+
+    impl Calls {
+        pub fn boot(start: u64, length: usize) -> Option<Calls> {
+            bare::boot(start, length);
+            Some(Calls)
+        }
+
+        /// Grants a frame of 4 KiB and frees it, so many times.
+        pub fn grants_and_frees(&self, times: usize) {
+            for _ in 0..times {
+                let address = bare::alloc(black_box(4096)).unwrap();
+                bare::free(black_box(address)).unwrap();
+            }
+        }
+
+        /// Finds the page of an address, so many times.
+        pub fn finds(&self, address: u64, times: usize) {
+            for _ in 0..times {
+                black_box(bare::find(black_box(address)).unwrap());
+            }
+        }
+    }
 }
 
 #[cfg(feature = "original")]
@@ -63,4 +88,18 @@ pub fn grants(_: &Region, _: usize) -> Option<Times> {
 #[cfg(not(feature = "original"))]
 pub fn layout(_: u64, _: usize) -> Option<f64> {
     None
+}
+
+#[cfg(not(feature = "original"))]
+pub struct Calls;
+
+#[cfg(not(feature = "original"))]
+impl Calls {
+    pub fn boot(_: u64, _: usize) -> Option<Calls> {
+        None
+    }
+
+    pub fn grants_and_frees(&self, _: usize) {}
+
+    pub fn finds(&self, _: u64, _: usize) {}
 }

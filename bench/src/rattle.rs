@@ -1,6 +1,6 @@
-//! The exported drivers of the crate leaves, and the audit of the crate words. A slice is passed as its address
-//! and its length; they test all that they are given, so any call is sound
-//! whose slice is.
+//! The exported drivers of the crates leaves and drivers, and the audit of the
+//! crate words. A slice is passed as its address and its length; they test all
+//! that they are given, so any call is sound whose slices are.
 
 extern "C" {
     pub fn leaves_store(records: *mut u8, length: usize, count: usize) -> usize;
@@ -24,6 +24,65 @@ extern "C" {
         level: usize,
         times: usize,
     ) -> usize;
+    fn drivers_grants(
+        records: *mut u8,
+        records_len: usize,
+        memory: *mut u8,
+        memory_len: usize,
+        queue: *const u64,
+        queue_len: usize,
+        start: u64,
+        length: usize,
+        times: usize,
+    ) -> usize;
+    fn drivers_finds(
+        records: *mut u8,
+        records_len: usize,
+        memory: *mut u8,
+        memory_len: usize,
+        queue: *const u64,
+        queue_len: usize,
+        start: u64,
+        length: usize,
+        address: u64,
+        times: usize,
+    ) -> usize;
+    fn drivers_zero(
+        records: *mut u8,
+        records_len: usize,
+        memory: *mut u8,
+        memory_len: usize,
+        queue: *const u64,
+        queue_len: usize,
+        start: u64,
+        length: usize,
+        size: u64,
+        times: usize,
+    ) -> usize;
+    fn drivers_fill(
+        records: *mut u8,
+        records_len: usize,
+        memory: *mut u8,
+        memory_len: usize,
+        queue: *const u64,
+        queue_len: usize,
+        start: u64,
+        length: usize,
+        size: u64,
+        times: usize,
+    ) -> usize;
+    fn drivers_copy(
+        records: *mut u8,
+        records_len: usize,
+        memory: *mut u8,
+        memory_len: usize,
+        queue: *const u64,
+        queue_len: usize,
+        start: u64,
+        length: usize,
+        size: u64,
+        times: usize,
+    ) -> usize;
 }
 
 pub type New = fn(&mut [u8], u64, usize) -> usize;
@@ -43,4 +102,54 @@ pub fn grants(records: &mut [u8], start: u64, pages: usize, level: usize, times:
 pub fn audit(words: &[u64], records: &[u8], memory_len: usize, queue_len: usize) -> usize {
     let (count, length) = (words.len(), records.len());
     unsafe { audit_words(words.as_ptr(), count, records.as_ptr(), length, memory_len, queue_len) }
+}
+
+/// What a store lies in, and the only entry of its map.
+pub struct Loans {
+    pub records: Vec<u8>,
+    pub memory: Vec<u8>,
+    pub queue: Vec<u64>,
+    pub start: u64,
+    pub length: usize,
+}
+
+/// A driver that boots a store: the number that some take beside the loans (an
+/// address or a size), and how often; how many times it was accepted.
+pub type Calls = fn(&mut Loans, u64, usize) -> usize;
+
+macro_rules! calls {
+    ($($(#[$said:meta])* $name:ident: $driver:ident($($number:ident)?);)*) => {$(
+        $(#[$said])*
+        pub fn $name(loans: &mut Loans, _number: u64, times: usize) -> usize {
+            let Loans { records, memory, queue, start, length } = loans;
+            $(let $number = _number;)?
+            unsafe {
+                $driver(
+                    records.as_mut_ptr(),
+                    records.len(),
+                    memory.as_mut_ptr(),
+                    memory.len(),
+                    queue.as_ptr(),
+                    queue.len(),
+                    *start,
+                    *length,
+                    $($number,)?
+                    times,
+                )
+            }
+        }
+    )*};
+}
+
+calls! {
+    /// Grants a frame of 4 KiB and frees it.
+    grants_and_frees: drivers_grants();
+    /// Finds the page of an address.
+    finds: drivers_finds(address);
+    /// Zeroes a held frame of a size.
+    zero: drivers_zero(size);
+    /// Fills it with 85.
+    fill: drivers_fill(size);
+    /// Copies one to another.
+    copy: drivers_copy(size);
 }

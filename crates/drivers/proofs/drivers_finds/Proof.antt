@@ -1,0 +1,71 @@
+-- A lookup changes nothing, so that the loop only counts.
+use borrow.Author.Needs.{needs}
+use Prim.Native.Nat.{_-_, _≤_}
+use native.Mathlib.Omega.{arith}
+use Rattle.drivers.proofs.drivers_finds.Statement.{statement}
+use Rattle.drivers.proofs.drivers_finds.Tie as tie
+
+abbrev Inv-loop : tie.InvT-loop
+Inv-loop records memory queue start bytes address times state i₀ i = i ≤ times
+
+abbrev μ-loop : tie.MeasureT-loop
+μ-loop records memory queue start bytes address times state i₀ i = times - i
+
+booted-requires : tie.Need-booted-requires Inv-loop μ-loop
+booted-requires c κs = search needs
+
+loop-holds : tie.Need-loop-holds Inv-loop μ-loop
+loop-holds c = omega arith
+
+new-requires : tie.Need-new-requires Inv-loop μ-loop
+new-requires c κs = search needs
+
+find-requires : tie.Need-find-requires Inv-loop μ-loop
+find-requires c κs = search needs
+
+same-length : tie.Need-same-length Inv-loop μ-loop
+same-length c = omega arith
+
+same-length-2 : tie.Need-same-length-2 Inv-loop μ-loop
+same-length-2 c = omega arith
+
+returns : tie.Need-returns Inv-loop μ-loop
+returns c = omega arith
+
+add-i : tie.Need-add-i Inv-loop μ-loop
+add-i c = omega arith
+
+loop-less : tie.Need-loop-less Inv-loop μ-loop
+loop-less c = omega arith
+
+loop-again : tie.Need-loop-again Inv-loop μ-loop
+loop-again c = omega arith
+
+same-length-3 : tie.Need-same-length-3 Inv-loop μ-loop
+same-length-3 c = omega arith
+
+same-length-4 : tie.Need-same-length-4 Inv-loop μ-loop
+same-length-4 c = omega arith
+
+returns-2 : tie.Need-returns-2 Inv-loop μ-loop
+returns-2 c = omega arith
+
+pub drivers-finds-spec : {M : Type 1} → statement M
+drivers-finds-spec =
+    tie.close
+    (tie.spec
+    Inv-loop
+    μ-loop
+    booted-requires
+    loop-holds
+    new-requires
+    find-requires
+    same-length
+    same-length-2
+    returns
+    add-i
+    loop-less
+    loop-again
+    same-length-3
+    same-length-4
+    returns-2)

@@ -1,0 +1,276 @@
+// What bench/ times of the calls: loops over a store of one region, exported on slices and numbers. Nothing else calls them. Each boots the store first, and
+// stops at the first call that is refused, so that its answer says how many were accepted.
+use address::PhysAddr;
+use definition::Counters;
+use definition::FrameAllocFlags;
+use definition::Links;
+use definition::MemoryRegion;
+use definition::MemoryRegionKind;
+use definition::Pass;
+use definition::Row;
+use exam::Outcome;
+use exam::State;
+ghost use Prim.Native.Nat.{_≤_};
+
+// A state with no region, as there is before a boot.
+fn unbooted() -> State {
+    let none = Links {
+        front: 0,
+        back: 0,
+        count: 0,
+    };
+    let lists = [none; 6];
+    let unused = Row {
+        start: PhysAddr::new(0),
+        pages: 0,
+        lists,
+    };
+    let rows = [unused; 8];
+    let counters = Counters {
+        kernel_used: 0,
+        page_data: 0,
+        idle: 0,
+        total: 0,
+        allocated: 0,
+        freed: 0,
+        reclaimed: 0,
+        waiting: 0,
+        pager_outstanding: 0,
+    };
+    let pass = Pass {
+        rounds: 0,
+        freed: 0,
+    };
+    State {
+        rows,
+        counters,
+        queued: 0,
+        pass,
+    }
+}
+
+// The store of a map with one usable entry. Where the map is refused it has no region, and refuses all that follows.
+fn booted(records: &mut [u8], memory: &[u8], queue: &[u64], start: u64, length: usize) -> State {
+    let unused = MemoryRegion {
+        start: PhysAddr::new(0),
+        length: 0,
+        kind: MemoryRegionKind::Reserved,
+    };
+    let mut map = [unused; 8];
+    map[0] = MemoryRegion {
+        start: PhysAddr::new(start),
+        length,
+        kind: MemoryRegionKind::UsableRam,
+    };
+    let outcome = boot::boot(unbooted(), map, 8, records, memory, queue);
+    outcome.state
+}
+
+// A frame of `size` bytes, with no flags.
+fn granted(
+    state: State,
+    records: &mut [u8],
+    memory: &mut [u8],
+    queue: &[u64],
+    size: u64,
+) -> Outcome {
+    let flags = FrameAllocFlags {
+        zeroed: false,
+        kernel: false,
+        wait_ok: false,
+    };
+    grants::alloc(state, records, memory, queue, size, size, flags)
+}
+
+// The store of one usable entry, and a grant of a frame of `size` bytes.
+fn holding(
+    records: &mut [u8],
+    memory: &mut [u8],
+    queue: &[u64],
+    start: u64,
+    length: usize,
+    size: u64,
+) -> Outcome {
+    let state = booted(records, memory, queue, start, length);
+    granted(state, records, memory, queue, size)
+}
+
+// A grant of 4 KiB, and the free of its frame; the answer is that of the first that is refused, else the free's.
+fn granted_and_freed(
+    state: State,
+    records: &mut [u8],
+    memory: &mut [u8],
+    queue: &[u64],
+) -> Outcome {
+    let grant = granted(state, records, memory, queue, 4096);
+    let frame = grant.answer;
+    if frame.number != 0 {
+        return grant;
+    }
+    frames::free(
+        grant.state,
+        records,
+        memory,
+        queue,
+        PhysAddr::new(frame.address),
+    )
+}
+
+// Grants a frame of 4 KiB and frees it again, up to `times` times.
+#[no_mangle]
+pub extern "C" fn drivers_grants(
+    records: &mut [u8],
+    memory: &mut [u8],
+    queue: &[u64],
+    start: u64,
+    length: usize,
+    times: usize,
+) -> usize
+    ensures { λ r. ⌜ r ≤ times ⌝ }
+{
+    let mut state = booted(records, memory, queue, start, length);
+    let mut i: usize = 0;
+    while i < times {
+        let both = granted_and_freed(state, records, memory, queue);
+        let answer = both.answer;
+        if answer.number != 0 {
+            return i;
+        }
+        state = both.state;
+        i += 1;
+    }
+    i
+}
+
+// Finds the page of an address, up to `times` times.
+#[no_mangle]
+pub extern "C" fn drivers_finds(
+    records: &mut [u8],
+    memory: &mut [u8],
+    queue: &[u64],
+    start: u64,
+    length: usize,
+    address: u64,
+    times: usize,
+) -> usize
+    ensures { λ r. ⌜ r ≤ times ⌝ }
+{
+    let state = booted(records, memory, queue, start, length);
+    let mut i: usize = 0;
+    while i < times {
+        let found = frames::find(state, records, memory, queue, PhysAddr::new(address));
+        if found.number != 0 {
+            return i;
+        }
+        i += 1;
+    }
+    i
+}
+
+// Zeroes a held frame of `size` bytes, up to `times` times.
+#[no_mangle]
+pub extern "C" fn drivers_zero(
+    records: &mut [u8],
+    memory: &mut [u8],
+    queue: &[u64],
+    start: u64,
+    length: usize,
+    size: u64,
+    times: usize,
+) -> usize
+    ensures { λ r. ⌜ r ≤ times ⌝ }
+{
+    let grant = holding(records, memory, queue, start, length, size);
+    let frame = grant.answer;
+    let pa = PhysAddr::new(frame.address);
+    let mut i: usize = 0;
+    while i < times {
+        let answer = ranges::zero(grant.state, records, memory, queue, pa);
+        if answer.number != 0 {
+            return i;
+        }
+        i += 1;
+    }
+    i
+}
+
+// Fills all of a held frame of `size` bytes, up to `times` times.
+#[no_mangle]
+pub extern "C" fn drivers_fill(
+    records: &mut [u8],
+    memory: &mut [u8],
+    queue: &[u64],
+    start: u64,
+    length: usize,
+    size: u64,
+    times: usize,
+) -> usize
+    ensures { λ r. ⌜ r ≤ times ⌝ }
+{
+    let grant = holding(records, memory, queue, start, length, size);
+    let frame = grant.answer;
+    let pa = PhysAddr::new(frame.address);
+    let mut i: usize = 0;
+    while i < times {
+        let answer = ranges::fill(grant.state, records, memory, queue, pa, 0, size, 85);
+        if answer.number != 0 {
+            return i;
+        }
+        i += 1;
+    }
+    i
+}
+
+fn copy_all(
+    state: State,
+    records: &mut [u8],
+    memory: &mut [u8],
+    queue: &[u64],
+    target: u64,
+    source: u64,
+    size: u64,
+    times: usize,
+) -> usize
+    ensures { λ r. ⌜ r ≤ times ⌝ }
+{
+    let to = PhysAddr::new(target);
+    let from = PhysAddr::new(source);
+    let mut i: usize = 0;
+    while i < times {
+        let answer = copies::copy(state, records, memory, queue, to, 0, from, 0, size);
+        if answer.number != 0 {
+            return i;
+        }
+        i += 1;
+    }
+    i
+}
+
+// Copies all of one held frame of `size` bytes to another, up to `times` times.
+#[no_mangle]
+pub extern "C" fn drivers_copy(
+    records: &mut [u8],
+    memory: &mut [u8],
+    queue: &[u64],
+    start: u64,
+    length: usize,
+    size: u64,
+    times: usize,
+) -> usize
+    ensures { λ r. ⌜ r ≤ times ⌝ }
+{
+    let first = holding(records, memory, queue, start, length, size);
+    let from = first.answer;
+    let second = granted(first.state, records, memory, queue, size);
+    let to = second.answer;
+    copy_all(
+        second.state,
+        records,
+        memory,
+        queue,
+        to.address,
+        from.address,
+        size,
+        times,
+    )
+}
