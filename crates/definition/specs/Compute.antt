@@ -68,7 +68,7 @@ unfolding Rust.tryAllocFrame Rust.splitFrame Rust.zeroRange Rust.copyContentsFro
 rust = tt
 
 unfoldable pub scripts : Unit {0}
-unfolding Script.partsBy Script.numberFrom Script.readNumbers Script.ops Script.sameBytes Script.opNamed Script.ofFields Script.readLine Script.runLines Script.outputOf Script.worldAfter
+unfolding Script.partsBy Script.numberFrom Script.readNumbers Script.ops Script.sameBytes Script.opNamed Script.ofFields Script.readLine Script.runLines Script.outputOf Script.linesOn Script.worldAfter
 scripts = tt
 
 unfoldable pub everything : Unit {0}

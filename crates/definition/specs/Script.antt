@@ -1,5 +1,5 @@
 -- 01, "The script program": lines in, lines out, to the byte. A script is a list of bytes; `outputOf` is what the program prints for it, and `worldAfter`
--- what it leaves in the loans.
+-- what it leaves in the loans, with every call on the bytes that the last one left.
 use Prim.Native.Nat.{ℕ, zero, suc, _+_, _-_, _*_, _/_, _%_, _^_}
 use Prim.Native.String.{String}
 use mathlib.Core.Bool.{Bool, true, false, not, cond, _&&_, _||_}
@@ -47,7 +47,8 @@ use Rattle.definition.specs.Calls.{
   Outcome,
   step,
 }
-use Rattle.definition.specs.World.{World, memoryOf, encode}
+use Rattle.definition.specs.Torn.{Left, call, bootCall}
+use Rattle.definition.specs.World.{World, memoryOf}
 
 -- ---- lines and fields
 
@@ -264,12 +265,63 @@ header = bytesOf "op,refusal,address,bytes\n"
 unfoldable pub outputOf : Board → World → List ℕ → List ℕ
 outputOf b w script = header ++ runLines b w started (lines script) .text
 
-abbrev pub leaves : Board → World → Option Store → World
-leaves b w none = w
-leaves b w (some s) = encode b s w
+-- ---- the same run over the bytes of the loans, which is what the program promises: crates/theorems proves that it prints the same
+
+-- the entries read so far, whether a boot was accepted, and what the calls left of the world
+pub record RunningOn : Type 0 where
+  pub map : List MemoryRegion
+  pub booted : Bool
+  pub world : World
+
+pub record TurnOn : Type 0 where
+  pub running : RunningOn
+  pub text : List ℕ
+
+abbrev pub badOn : RunningOn → TurnOn
+badOn r = record { running = r; text = badLine }
+
+abbrev pub isAccepted : Answer → Bool
+isAccepted (Refused r) = false
+isAccepted (Done address bytes) = true
+isAccepted (Text t) = true
+isAccepted (Bytes t) = true
+
+abbrev pub leftOn : RunningOn → List ℕ → Bool → Left → TurnOn
+leftOn r name booted l =
+    record { running = record { map = r .map; booted = booted; world = l .world }; text = answerLine name (l .answer) }
+
+abbrev pub bootOn : RunningOn → List ℕ → Left → TurnOn
+bootOn r name l = leftOn r name (isAccepted (l .answer)) l
+
+abbrev pub commandOn : Board → RunningOn → List ℕ → Command → Bool → TurnOn
+commandOn b r name (AddRegion m) false =
+    record { running = record { map = r .map ++ (m ∷ []); booted = false; world = r .world }; text = [] }
+commandOn b r name (AddRegion m) true = badOn r
+commandOn b r name BootNow false = bootOn r name (bootCall b (r .map) (r .world))
+commandOn b r name BootNow true = badOn r
+commandOn b r name (Ask c) false = badOn r
+commandOn b r name (Ask c) true = leftOn r name true (call b (r .world) c)
+
+abbrev pub lineOn : Board → RunningOn → Option Asked → TurnOn
+lineOn b r none = badOn r
+lineOn b r (some a) = commandOn b r (a .name) (a .command) (r .booted)
+
+abbrev pub onwards : TurnOn → (RunningOn → TurnOn) → TurnOn
+onwards t rest = let p = rest (t .running) in record { running = p .running; text = t .text ++ p .text }
+
+unfoldable pub linesOn : Board → RunningOn → List (List ℕ) → TurnOn
+linesOn b r [] = record { running = r; text = [] }
+linesOn b r (l ∷ ls) = onwards (lineOn b r (readLine l)) (λ next. linesOn b next ls)
+
+abbrev pub startedOn : World → RunningOn
+startedOn w = record { map = []; booted = false; world = w }
+
+-- the run of a script from the world w, and all that it leaves there
+abbrev pub runOn : Board → World → List ℕ → TurnOn
+runOn b w script = linesOn b (startedOn w) (lines script)
 
 unfoldable pub worldAfter : Board → World → List ℕ → World
-worldAfter b w script = leaves b w (runLines b w started (lines script) .running .store)
+worldAfter b w script = runOn b w script .running .world
 
 -- "if the answer slice is under 512 bytes for each line plus 512"
 abbrev pub room : List ℕ → ℕ
