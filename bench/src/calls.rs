@@ -10,10 +10,10 @@ use crate::{
     rattle::{self, Calls, Loans},
 };
 
-const PAGE: usize = 4096;
+pub const PAGE: usize = 4096;
 
 /// The first managed page of a store, where a frame of 1 GiB may start.
-const FIRST: u64 = 1 << 30;
+pub const FIRST: u64 = 1 << 30;
 
 /// Calls of a driver in one turn of the clock. It boots first, which is as much as
 /// a call or two.
@@ -32,7 +32,7 @@ pub fn run() {
 }
 
 /// A region of so many pages behind its tables.
-fn loans(managed: usize) -> Loans {
+pub fn loans(managed: usize) -> Loans {
     let tables = |pages: usize| pages.div_ceil(128);
     let pages = (managed..).find(|&pages| pages - tables(pages) == managed).unwrap();
     Loans {

@@ -13,6 +13,7 @@ mod plain_audit;
 mod rattle;
 mod records;
 mod regions;
+mod stack;
 mod whole;
 
 fn main() {
@@ -28,6 +29,7 @@ fn main() {
     }
     if runs("calls") {
         calls::run();
+        stack::run();
     }
 }
 

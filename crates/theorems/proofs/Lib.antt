@@ -11,3 +11,4 @@ pub mod Runs
 pub mod Bookkeeping
 pub mod Sanity
 pub mod Likeness
+pub mod Scripts
