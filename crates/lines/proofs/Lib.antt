@@ -1,0 +1,4 @@
+pub mod Parting
+pub mod Gathering
+pub mod Naming
+pub mod Lines
