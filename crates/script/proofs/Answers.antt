@@ -1,0 +1,184 @@
+-- What a call can answer. The calls of a script but the statistics are refused or done, never answered by a text or by bytes, so three numbers say all of it
+-- (`call-line`); the statistics are refused or answered by a text; a boot is accepted exactly where its number is 0.
+use Prim.Native.Nat.{ℕ, _≤_}
+use mathlib.Core.Bool.{Bool, true, false, false≢true, cond}
+use mathlib.Core.List.{List}
+use mathlib.Core.Option.{Option, none, some}
+use mathlib.Core.Path.{_≡_, refl, sym, ap, _∙_}
+use native.Mathlib.Omega.{arith}
+use lib.Dec.{eqb}
+use lib.ListN.{length, take, length-take}
+use Rattle.definition.specs.declared.MemoryRegion.{MemoryRegion}
+use Rattle.definition.specs.declared.Refusal.{Refusal}
+use Rattle.definition.specs.declared.Refusal.the-variants as R
+use Rattle.definition.specs.Board.{standard}
+use Rattle.definition.specs.Boot.{bootSheet}
+use Rattle.definition.specs.Calls.{Call, Answer, Refused, Done, Text, Bytes, Stats, Outcome, hands, findLevel, names, perform, sheet, step, unlessRefused}
+use Rattle.definition.specs.Refusal.{lowest, numberOf}
+use Rattle.definition.specs.Script.{answerLine, isAccepted, layoutOf, lineOf}
+use Rattle.definition.specs.Store.{Store}
+use Rattle.definition.specs.Torn.{bootCall, booted, call, sound, written, untouched, unlessRefused as unlessRefusedOn}
+use Rattle.definition.specs.Tracker.{Granted, tryAllocFrame, tryAllocSplitFrames}
+use Rattle.definition.specs.World.{World, decode}
+use Rattle.exam.specs.declared.Answer.{Answer as Told}
+use Rattle.exam.specs.Promise.{told}
+use Rattle.counts.specs.declared.Report.{Report}
+use Rattle.counts.specs.Counting.{Reports, textOf}
+use Rattle.lines.specs.declared.Ask.{Ask}
+use Rattle.lines.specs.declared.Ask.the-variants as A
+use Rattle.lines.specs.Reading.{callOf}
+
+-- ---- by numbers
+
+-- refused or done
+abbrev pub byNumbers : Answer → Bool
+byNumbers (Refused r) = true
+byNumbers (Done a n) = true
+byNumbers (Text t) = false
+byNumbers (Bytes t) = false
+
+-- such an answer's line has the three numbers
+abbrev pub toldLine : List ℕ → Told → List ℕ
+toldLine name y = lineOf name (y .number) (y .address) (y .bytes)
+
+pub numbers-line : (name : List ℕ) (a : Answer) → byNumbers a ≡ true → answerLine name a ≡ toldLine name (told a)
+numbers-line name (Refused r) e = refl
+numbers-line name (Done a n) e = refl
+numbers-line name (Text t) e = absurd (false≢true e)
+numbers-line name (Bytes t) e = absurd (false≢true e)
+
+-- whatever else holds of a refusal holds of an answer that may be refused
+refused-or : (P : Answer → Bool) → ((r : Refusal) → P (Refused r) ≡ true) → (s : Store) (o : Outcome) (r : Option Refusal)
+    → P (o .answer) ≡ true → P (unlessRefused s r o .answer) ≡ true
+refused-or P f s o none e = e
+refused-or P f s o (some r) e = f r
+
+torn-or : (P : Answer → Bool) → ((r : Refusal) → P (Refused r) ≡ true) → (w : World) (o : Outcome) (t : Bool)
+    → P (o .answer) ≡ true → P (cond t (written standard w o) (untouched w R.Torn) .answer) ≡ true
+torn-or P f w o true e = e
+torn-or P f w o false e = f R.Torn
+
+-- of every call, what holds of a refusal and of what it performs
+called : (P : Answer → Bool) → ((r : Refusal) → P (Refused r) ≡ true) → (c : Call) → ((s : Store) → P (perform standard s c .answer) ≡ true)
+    → (w : World) → P (call standard w c .answer) ≡ true
+unfolding call step
+called P f c h w =
+    let s = decode standard w in
+    torn-or P f w (unlessRefused s (lowest (sheet standard s (names c))) (perform standard s c)) (sound standard w)
+    (refused-or P f s (perform standard s c) (lowest (sheet standard s (names c))) (h s))
+
+handed : (l : ℕ) (g : Granted) → byNumbers (hands standard l g .answer) ≡ true
+handed l g = go (g .store) (g .page)
+  where
+    go : (s : Store) (p : Option ℕ) → byNumbers (hands standard l (record { store = s; page = p }) .answer) ≡ true
+    go s none = refl
+    go s (some p) = refl
+
+performed : (op : Ask) (n : ℕ → ℕ) (s : Store) → byNumbers (perform standard s (callOf op n) .answer) ≡ true
+unfolding perform
+performed A.Alloc n s = let y = layoutOf n in handed (findLevel standard y) (tryAllocFrame standard (findLevel standard y) (y .flags) s)
+performed A.Take n s = let y = layoutOf n in handed (findLevel standard y) (tryAllocSplitFrames standard (findLevel standard y) (y .flags) s)
+performed A.Split n s = refl
+performed A.Free n s = refl
+performed A.Zero n s = refl
+performed A.Dirty n s = refl
+performed A.Find n s = refl
+performed A.Queue n s = refl
+performed A.Fill n s = refl
+performed A.Copy n s = refl
+performed A.Pcopy n s = refl
+performed A.Round n s = refl
+performed A.Lend n s = refl
+performed A.Back n s = refl
+performed A.Low n s = refl
+
+-- the line of a call that was told so
+pub call-line : (name : List ℕ) (op : Ask) (n : ℕ → ℕ) (w : World) {y : Told} → told (call standard w (callOf op n) .answer) ≡ y
+    → toldLine name y ≡ answerLine name (call standard w (callOf op n) .answer)
+call-line name op n w e =
+    ap (toldLine name) (sym e)
+    ∙ sym (numbers-line name (call standard w (callOf op n) .answer) (called byNumbers (λ r. refl) (callOf op n) (performed op n) w))
+
+-- ---- the boot
+
+boot-numbers : (ms : List MemoryRegion) (w : World) → byNumbers (bootCall standard ms w .answer) ≡ true
+unfolding bootCall
+boot-numbers ms w = go (lowest (bootSheet standard ms (length (w .records)) (length (w .memory))))
+  where
+    go : (r : Option Refusal) → byNumbers (unlessRefusedOn w r (booted standard ms w) .answer) ≡ true
+    go none = refl
+    go (some r) = refl
+
+pub boot-line : (name : List ℕ) (ms : List MemoryRegion) (w : World) {y : Told} → told (bootCall standard ms w .answer) ≡ y
+    → toldLine name y ≡ answerLine name (bootCall standard ms w .answer)
+boot-line name ms w e =
+    ap (toldLine name) (sym e) ∙ sym (numbers-line name (bootCall standard ms w .answer) (boot-numbers ms w))
+
+never-zero : (r : Refusal) → eqb (numberOf r) 0 ≡ false
+never-zero R.LongMap = refl
+never-zero R.FarAddress = refl
+never-zero R.Overlap = refl
+never-zero R.TooManyPages = refl
+never-zero R.ShortLoan = refl
+never-zero R.Torn = refl
+never-zero R.BadLayout = refl
+never-zero R.NoLevel = refl
+never-zero R.NoFrame = refl
+never-zero R.MustWait = refl
+never-zero R.Outside = refl
+never-zero R.NoFrameStart = refl
+never-zero R.NotHeld = refl
+never-zero R.PastTheEnd = refl
+never-zero R.PagerLow = refl
+never-zero R.QueueFull = refl
+never-zero R.BadLine = refl
+
+accepts : (a : Answer) → isAccepted a ≡ eqb (told a .number) 0
+accepts (Refused r) = sym (never-zero r)
+accepts (Done a n) = refl
+accepts (Text t) = refl
+accepts (Bytes t) = refl
+
+-- the number tells whether an answer accepts
+pub accepted : (a : Answer) {y : Told} → told a ≡ y → isAccepted a ≡ eqb (y .number) 0
+accepted a e = accepts a ∙ ap (λ (y : Told). eqb (y .number) 0) e
+
+-- ---- the statistics
+
+-- refused, or a text
+abbrev byText : Answer → Bool
+byText (Refused r) = true
+byText (Done a n) = false
+byText (Text t) = true
+byText (Bytes t) = false
+
+stats-told : (w : World) → byText (call standard w Stats .answer) ≡ true
+unfolding perform
+stats-told w = called byText (λ r. refl) Stats (λ s. refl) w
+
+-- what a report has of an answer: the line of a refusal, or the text, and no more text than its array holds
+pub record Tells (name : List ℕ) (a : Answer) (r : Report) : Type 0 where
+  pub refused : (r .number ≡ 0 → ⊥) → lineOf name (r .number) 0 0 ≡ answerLine name a
+  pub text : r .number ≡ 0 → take (r .len) (r .text) ≡ answerLine name a
+  pub short : r .len ≤ length (r .text)
+
+tells : (name : List ℕ) (r : Report) (a : Answer) → byText a ≡ true → told a ≡ record { number = r .number; address = 0; bytes = r .len }
+    → take (r .len) (r .text) ≡ textOf a → Tells name a r
+tells name r (Refused q) b e t =
+    let n : numberOf q ≡ r .number = ap (λ (y : Told). y .number) e in
+    let l : 0 ≡ r .len = ap (λ (y : Told). y .bytes) e in
+    record {
+      refused = λ h. ap (λ (k : ℕ). lineOf name k 0 0) (sym n);
+      text = λ z. absurd (false≢true (sym (never-zero q) ∙ ap (λ (k : ℕ). eqb k 0) (n ∙ z)));
+      short = omega arith;
+    }
+tells name r (Done a n) b e t = absurd (false≢true b)
+tells name r (Text x) b e t =
+    let n : 0 ≡ r .number = ap (λ (y : Told). y .number) e in
+    let l : length x ≡ r .len = ap (λ (y : Told). y .bytes) e in
+    let k : length (take (r .len) (r .text)) ≡ length x = ap length t in
+    record { refused = λ h. absurd (h (sym n)); text = λ z. t; short = omega (arith, simp length-take at k) }
+tells name r (Bytes x) b e t = absurd (false≢true b)
+
+pub stats-tells : (name : List ℕ) (w : World) (r : Report) → Reports w r → Tells name (call standard w Stats .answer) r
+stats-tells name w r R = tells name r (call standard w Stats .answer) (stats-told w) (R .answer) (R .text)

@@ -1,0 +1,157 @@
+-- The line was read as one of five, and each turned out as it must.
+use borrow.Author.Needs.{needs}
+use Rattle.lines.specs.declared.Op.the-variants as Op
+use Rattle.script.proofs.Turning.{turns}
+use Rattle.script.proofs.take_turn.Tie as tie
+use Rattle.script.proofs.take_turn.Statement.{statement}
+
+read-line-requires : tie.Need-read-line-requires
+read-line-requires c κs = search needs
+
+enum-told : tie.Need-enum-told
+enum-told c = search needs
+
+bad-requires : tie.Need-bad-requires
+bad-requires c κs = search needs
+
+enum-told-2 : tie.Need-enum-told-2
+enum-told-2 c = search needs
+
+region-requires : tie.Need-region-requires
+region-requires c κs = search needs
+
+enum-told-3 : tie.Need-enum-told-3
+enum-told-3 c = search needs
+
+boot-now-requires : tie.Need-boot-now-requires
+boot-now-requires c κs = search needs
+
+enum-told-4 : tie.Need-enum-told-4
+enum-told-4 c = search needs
+
+stats-now-requires : tie.Need-stats-now-requires
+stats-now-requires c κs = search needs
+
+enum-known-op : tie.Need-enum-known-op
+enum-known-op c = search needs
+
+call-now-requires : tie.Need-call-now-requires
+call-now-requires c κs = search needs
+
+same-length : tie.Need-same-length
+same-length c = search needs
+
+returns : tie.Need-returns
+returns c =
+    let d = c .before .before in
+    let t = d .before .before in
+    let q = t .before .before .before in
+    let line = q .before .before .before .before .before .before .args .line .now in
+    (turns line (q .read-line .result) (q .read-line .ensures) Op.Bad (t .enum-told .given .1) (d .bad .ensures .0 _), d .bad .ensures .1)
+
+same-length-2 : tie.Need-same-length-2
+same-length-2 c = search needs
+
+returns-2 : tie.Need-returns-2
+returns-2 c =
+    let d = c .before .before in
+    let t = d .before .before in
+    let q = t .before .before .before in
+    let line = q .before .before .before .before .before .before .args .line .now in
+    (turns line (q .read-line .result) (q .read-line .ensures) Op.Region (t .enum-told2 .given .1) (d .region .ensures .0 _), d .region .ensures .1)
+
+same-length-3 : tie.Need-same-length-3
+same-length-3 c = search needs
+
+same-length-4 : tie.Need-same-length-4
+same-length-4 c = search needs
+
+same-length-5 : tie.Need-same-length-5
+same-length-5 c = search needs
+
+same-length-6 : tie.Need-same-length-6
+same-length-6 c = search needs
+
+returns-3 : tie.Need-returns-3
+returns-3 c =
+    let d = c .before .before .before .before in
+    let t = d .before .before .before .before .before in
+    let q = t .before .before .before in
+    let line = q .before .before .before .before .before .before .args .line .now in
+    (turns line (q .read-line .result) (q .read-line .ensures) Op.Boot (t .enum-told3 .given .1) (d .boot-now .ensures .0), d .boot-now .ensures .1)
+
+same-length-7 : tie.Need-same-length-7
+same-length-7 c = search needs
+
+same-length-8 : tie.Need-same-length-8
+same-length-8 c = search needs
+
+same-length-9 : tie.Need-same-length-9
+same-length-9 c = search needs
+
+same-length-10 : tie.Need-same-length-10
+same-length-10 c = search needs
+
+returns-4 : tie.Need-returns-4
+returns-4 c =
+    let d = c .before .before in
+    let t = d .before .before .before .before .before in
+    let q = t .before .before .before in
+    let line = q .before .before .before .before .before .before .args .line .now in
+    (turns line (q .read-line .result) (q .read-line .ensures) Op.Stats (t .enum-told4 .given .1) (d .stats-now .ensures .0), d .stats-now .ensures .1)
+
+same-length-11 : tie.Need-same-length-11
+same-length-11 c = search needs
+
+same-length-12 : tie.Need-same-length-12
+same-length-12 c = search needs
+
+same-length-13 : tie.Need-same-length-13
+same-length-13 c = search needs
+
+same-length-14 : tie.Need-same-length-14
+same-length-14 c = search needs
+
+returns-5 : tie.Need-returns-5
+returns-5 c =
+    let d = c .before .before .before .before .before .before .before .before in
+    let t = d .before .before .before .before .before .before in
+    let q = t .before .before .before in
+    let line = q .before .before .before .before .before .before .args .line .now in
+    let g = t .op .given in
+    (turns line (q .read-line .result) (q .read-line .ensures) (Op.Call (g .0 .0)) (g .1) (d .call-now .ensures .0), d .call-now .ensures .1)
+
+pub take-turn-spec : {M : Type 1} → statement M
+take-turn-spec =
+    tie.close
+    (tie.spec
+    read-line-requires
+    enum-told
+    bad-requires
+    enum-told-2
+    region-requires
+    enum-told-3
+    boot-now-requires
+    enum-told-4
+    stats-now-requires
+    enum-known-op
+    call-now-requires
+    same-length
+    returns
+    same-length-2
+    returns-2
+    same-length-3
+    same-length-4
+    same-length-5
+    same-length-6
+    returns-3
+    same-length-7
+    same-length-8
+    same-length-9
+    same-length-10
+    returns-4
+    same-length-11
+    same-length-12
+    same-length-13
+    same-length-14
+    returns-5)

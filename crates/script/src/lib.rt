@@ -1,0 +1,476 @@
+// The run of a script: each line is read, done and answered, and the answers follow one another (01, "The script program"). `jilakkor_run` is exported for C and
+// Rust, and the program `jilakkor` calls it.
+use address::PhysAddr;
+use definition::Counters;
+use definition::FrameAllocFlags;
+use definition::Links;
+use definition::MemoryRegion;
+use definition::MemoryRegionKind;
+use definition::Pass;
+use definition::Row;
+use exam::Answer;
+use exam::Outcome;
+use exam::State;
+use lines::Ask;
+use lines::Op;
+ghost use mathlib.Core.Path.{_≡_};
+ghost use Prim.Native.Nat.{_+_, _%_, _≤_, _<_, _^_};
+ghost use lib.ListN.{length, getD};
+ghost use Rattle.definition.specs.Calls.{Stats};
+ghost use Rattle.definition.specs.Script.{BootNow, Ask as Asks, lineOf, flagsOf, kindOf, room};
+ghost use Rattle.exam.specs.Promise.{worldOf, Leaves};
+ghost use Rattle.text.specs.Writing.{Wrote};
+ghost use Rattle.lines.specs.Reading.{askName, nameOf, callOf};
+ghost use Rattle.script.specs.Running.{Names, unbooted as «unbooted_def», Fresh, Bounded, Bad, Enters, Adds, Does, Turns, RanAll, Ran};
+
+// ---- what is printed
+
+// A name with spaces behind it, and how many bytes it has.
+pub struct Name(pub [u8; 6], pub usize);
+
+fn ask_name(op: Ask) -> Name
+    ensures { λ r. ⌜ Names (askName op) r ⌝ }
+{
+    match op {
+        Ask::Alloc => Name(*b"alloc ", 5),
+        Ask::Take => Name(*b"take  ", 4),
+        Ask::Split => Name(*b"split ", 5),
+        Ask::Free => Name(*b"free  ", 4),
+        Ask::Zero => Name(*b"zero  ", 4),
+        Ask::Dirty => Name(*b"dirty ", 5),
+        Ask::Find => Name(*b"find  ", 4),
+        Ask::Queue => Name(*b"queue ", 5),
+        Ask::Fill => Name(*b"fill  ", 4),
+        Ask::Copy => Name(*b"copy  ", 4),
+        Ask::Pcopy => Name(*b"pcopy ", 5),
+        Ask::Round => Name(*b"round ", 5),
+        Ask::Lend => Name(*b"lend  ", 4),
+        Ask::Back => Name(*b"back  ", 4),
+        Ask::Low => Name(*b"low   ", 3),
+    }
+}
+
+fn op_name(op: Op) -> Name
+    ensures { λ r. ⌜ Names (nameOf op) r ⌝ }
+{
+    match op {
+        Op::Bad => Name(*b"bad   ", 3),
+        Op::Region => Name(*b"region", 6),
+        Op::Boot => Name(*b"boot  ", 4),
+        Op::Stats => Name(*b"stats ", 5),
+        Op::Call(a) => ask_name(a),
+    }
+}
+
+fn put_op(out: &mut [u8], at: usize, op: Op) -> usize
+    requires { ⌜ at + 6 ≤ length (now out) ⌝ }
+    ensures { λ r. ⌜ Wrote (now (out .entry)) at (nameOf op) (now (out .exit)) r ⌝ }
+    ensures { λ r. ⌜ r ≤ at + 6 ⌝ }
+{
+    let name = op_name(op);
+    let bytes = name.0;
+    let len = name.1;
+    text::put_text(out, at, &bytes[..len])
+}
+
+// "op, 0, address, bytes", or the refusal's number in place of 0: a name of at most 6 bytes, three numbers of at most 20 digits, and four marks.
+fn put_line(out: &mut [u8], at: usize, op: Op, y: Answer) -> usize
+    requires { ⌜ at + 70 ≤ length (now out) ⌝ }
+    ensures { λ r. ⌜ Wrote (now (out .entry)) at (lineOf (nameOf op) (y .number) (y .address) (y .bytes)) (now (out .exit)) r ⌝ }
+    ensures { λ r. ⌜ r ≤ at + 70 ⌝ }
+{
+    let next = put_op(out, at, op);
+    let next = text::put_named(out, next, b",", y.number as u64);
+    let next = text::put_named(out, next, b",", y.address);
+    let next = text::put_named(out, next, b",", y.bytes);
+    text::put_text(out, next, b"\n")
+}
+
+// ---- what is kept
+
+// What is kept from line to line beside the loans: the first eight entries of the map and how many were read, whether a boot was accepted, and the store's state.
+pub struct Running {
+    pub map: [MemoryRegion; 8],
+    pub count: usize,
+    pub booted: bool,
+    pub state: State,
+}
+
+// What is kept after a line, and the place behind its text.
+pub struct Turn {
+    pub running: Running,
+    pub at: usize,
+}
+
+// The state before a boot: no region, and all counters 0.
+fn unbooted() -> State
+    ensures { λ r. ⌜ r ≡ «unbooted_def» ⌝ }
+{
+    let none = Links {
+        front: 0,
+        back: 0,
+        count: 0,
+    };
+    let lists = [none; 6];
+    let unused = Row {
+        start: PhysAddr(0),
+        pages: 0,
+        lists,
+    };
+    let rows = [unused; 8];
+    let counters = Counters {
+        kernel_used: 0,
+        page_data: 0,
+        idle: 0,
+        total: 0,
+        allocated: 0,
+        freed: 0,
+        reclaimed: 0,
+        waiting: 0,
+        pager_outstanding: 0,
+    };
+    let pass = Pass {
+        rounds: 0,
+        freed: 0,
+    };
+    State {
+        rows,
+        counters,
+        queued: 0,
+        pass,
+    }
+}
+
+// What is kept before the first line.
+fn fresh() -> Running
+    ensures { λ r. ⌜ Fresh r ⌝ }
+{
+    let unused = MemoryRegion {
+        start: PhysAddr(0),
+        length: 0,
+        kind: MemoryRegionKind::Reserved,
+    };
+    let map = [unused; 8];
+    let state = unbooted();
+    Running {
+        map,
+        count: 0,
+        booted: false,
+        state,
+    }
+}
+
+// ---- the lines
+
+// A line that can't be read, or that may not come now: `bad,17,0,0`.
+fn bad(running: Running, answer: &mut [u8], at: usize) -> Turn
+    requires { ⌜ at + 512 ≤ length (now answer) ⌝ }
+    ensures { λ r. ⌜ Bad running (now (answer .entry)) at (now (answer .exit)) r ⌝ }
+    ensures { λ r. ⌜ Bounded running at r ⌝ }
+{
+    let next = put_line(answer, at, Op::Bad, exam::refused(17));
+    Turn { running, at: next }
+}
+
+// "0 UsableRam, 1 Reserved, 2 BootloaderReserved".
+fn kind_of(n: u64) -> MemoryRegionKind
+    ensures { λ r. ⌜ r ≡ kindOf n ⌝ }
+{
+    if n == 0 {
+        return MemoryRegionKind::UsableRam;
+    }
+    if n == 1 {
+        return MemoryRegionKind::Reserved;
+    }
+    MemoryRegionKind::BootloaderReserved
+}
+
+fn size_of(n: u64) -> usize
+    ensures { λ r. ⌜ r ≡ n ⌝ }
+{
+    n as usize
+}
+
+// The first eight entries of the map, with one more read; past the eighth there is no place for it.
+fn entered(map: [MemoryRegion; 8], count: usize, entry: MemoryRegion) -> [MemoryRegion; 8]
+    ensures { λ r. ⌜ Enters map count entry r ⌝ }
+{
+    let mut next = map;
+    if count < 8 {
+        next[count] = entry;
+    }
+    next
+}
+
+// An entry more of the map, which prints nothing.
+fn region(running: Running, n: [u64; 5], answer: &mut [u8], at: usize) -> Turn
+    requires { ⌜ (at + 512 ≤ length (now answer)) × (running .count + 1 < 2 ^ 64) ⌝ }
+    ensures { λ r. ⌜ Adds running (λ i. getD n i 0) (now (answer .entry)) at (now (answer .exit)) r ⌝ }
+    ensures { λ r. ⌜ Bounded running at r ⌝ }
+{
+    if running.booted {
+        return bad(running, answer, at);
+    }
+    let entry = MemoryRegion {
+        start: PhysAddr(n[0]),
+        length: size_of(n[1]),
+        kind: kind_of(n[2]),
+    };
+    let count = running.count;
+    let first = running.map;
+    let map = entered(first, count, entry);
+    let state = running.state;
+    let next = Running {
+        map,
+        count: count + 1,
+        booted: running.booted,
+        state,
+    };
+    Turn { running: next, at }
+}
+
+fn boot_now(
+    running: Running,
+    records: &mut [u8],
+    memory: &[u8],
+    queue: &[u64],
+    answer: &mut [u8],
+    at: usize,
+) -> Turn
+    requires { ⌜ at + 512 ≤ length (now answer) ⌝ }
+    ensures { λ r. ⌜ Does BootNow (nameOf (Op.Boot)) running (record { records = now (records .entry); memory = now (memory .entry); queue = now (queue .entry) }) (now (answer .entry)) at (record { records = now (records .exit); memory = now (memory .entry); queue = now (queue .entry) }) (now (answer .exit)) r ⌝ }
+    ensures { λ r. ⌜ Bounded running at r ⌝ }
+{
+    if running.booted {
+        return bad(running, answer, at);
+    }
+    let map = running.map;
+    let count = running.count;
+    let o = boot::boot(running.state, map, count, records, memory, queue);
+    let y = o.answer;
+    let at = put_line(answer, at, Op::Boot, y);
+    let state = o.state;
+    let next = Running {
+        map,
+        count,
+        booted: y.number == 0,
+        state,
+    };
+    Turn { running: next, at }
+}
+
+// The statistics answer by a text, of at most 368 bytes.
+fn stats_now(
+    running: Running,
+    records: &[u8],
+    memory: &[u8],
+    queue: &[u64],
+    answer: &mut [u8],
+    at: usize,
+) -> Turn
+    requires { ⌜ at + 512 ≤ length (now answer) ⌝ }
+    ensures { λ r. ⌜ Does (Asks Stats) (nameOf (Op.Stats)) running (record { records = now (records .entry); memory = now (memory .entry); queue = now (queue .entry) }) (now (answer .entry)) at (record { records = now (records .entry); memory = now (memory .entry); queue = now (queue .entry) }) (now (answer .exit)) r ⌝ }
+    ensures { λ r. ⌜ Bounded running at r ⌝ }
+{
+    if !running.booted {
+        return bad(running, answer, at);
+    }
+    let report = counts::stats(running.state, records, memory, queue);
+    if report.number != 0 {
+        let at = put_line(answer, at, Op::Stats, exam::refused(report.number));
+        return Turn { running, at };
+    }
+    let text = report.text;
+    let len = report.len;
+    let at = text::put_text(answer, at, &text[..len]);
+    Turn { running, at }
+}
+
+// "1 ZEROED + 2 KERNEL + 4 WAIT_OK".
+fn flags_of(n: u64) -> FrameAllocFlags
+    ensures { λ r. ⌜ r ≡ flagsOf n ⌝ }
+{
+    FrameAllocFlags {
+        zeroed: n % 2 == 1,
+        kernel: n / 2 % 2 == 1,
+        wait_ok: n / 4 % 2 == 1,
+    }
+}
+
+fn byte_of(n: u64) -> u8
+    ensures { λ r. ⌜ r ≡ n % 256 ⌝ }
+{
+    (n % 256) as u8
+}
+
+// A call that leaves the state as it is.
+fn kept(state: State, answer: Answer) -> Outcome
+    ensures { λ r. ⌜ r ≡ record { state = state; answer = answer } ⌝ }
+{
+    Outcome { state, answer }
+}
+
+fn fill(state: State, records: &mut [u8], memory: &mut [u8], queue: &[u64], n: [u64; 5]) -> Answer
+    ensures { λ r. ⌜ Leaves (worldOf state (now (records .entry)) (now (memory .entry)) (now (queue .entry))) (callOf (Ask.Fill) (λ i. getD n i 0)) (worldOf state (now (records .exit)) (now (memory .exit)) (now (queue .entry))) r ⌝ }
+{
+    let byte = byte_of(n[3]);
+    ranges::fill(
+        state,
+        records,
+        memory,
+        queue,
+        PhysAddr(n[0]),
+        n[1],
+        n[2],
+        byte,
+    )
+}
+
+fn copy(state: State, records: &mut [u8], memory: &mut [u8], queue: &[u64], n: [u64; 5]) -> Answer
+    ensures { λ r. ⌜ Leaves (worldOf state (now (records .entry)) (now (memory .entry)) (now (queue .entry))) (callOf (Ask.Copy) (λ i. getD n i 0)) (worldOf state (now (records .exit)) (now (memory .exit)) (now (queue .entry))) r ⌝ }
+{
+    let to = PhysAddr(n[0]);
+    let from = PhysAddr(n[2]);
+    copies::copy(state, records, memory, queue, to, n[1], from, n[3], n[4])
+}
+
+fn pcopy(state: State, records: &mut [u8], memory: &mut [u8], queue: &[u64], n: [u64; 5]) -> Answer
+    ensures { λ r. ⌜ Leaves (worldOf state (now (records .entry)) (now (memory .entry)) (now (queue .entry))) (callOf (Ask.Pcopy) (λ i. getD n i 0)) (worldOf state (now (records .exit)) (now (memory .exit)) (now (queue .entry))) r ⌝ }
+{
+    let to = PhysAddr(n[0]);
+    let from = PhysAddr(n[2]);
+    copies::pcopy(state, records, memory, queue, to, n[1], from, n[3])
+}
+
+// The calls that answer by numbers.
+fn ask(
+    state: State,
+    records: &mut [u8],
+    memory: &mut [u8],
+    queue: &mut [u64],
+    op: Ask,
+    n: [u64; 5],
+) -> Outcome
+    ensures { λ r. ⌜ Leaves (worldOf state (now (records .entry)) (now (memory .entry)) (now (queue .entry))) (callOf op (λ i. getD n i 0)) (worldOf (r .state) (now (records .exit)) (now (memory .exit)) (now (queue .exit))) (r .answer) ⌝ }
+{
+    let pa = PhysAddr(n[0]);
+    match op {
+        Ask::Alloc => grants::alloc(state, records, memory, queue, n[0], n[1], flags_of(n[2])),
+        Ask::Take => grants::take(state, records, memory, queue, n[0], n[1], flags_of(n[2])),
+        Ask::Split => kept(state, frames::split(state, records, memory, queue, pa)),
+        Ask::Free => frames::free(state, records, memory, queue, pa),
+        Ask::Zero => kept(state, ranges::zero(state, records, memory, queue, pa)),
+        Ask::Dirty => kept(state, ranges::dirty(state, records, memory, queue, pa)),
+        Ask::Find => kept(state, frames::find(state, records, memory, queue, pa)),
+        Ask::Queue => reclaim::queue(state, records, memory, queue, pa),
+        Ask::Fill => kept(state, fill(state, records, memory, queue, n)),
+        Ask::Copy => kept(state, copy(state, records, memory, queue, n)),
+        Ask::Pcopy => kept(state, pcopy(state, records, memory, queue, n)),
+        Ask::Round => reclaim::round(state, records, memory, queue),
+        Ask::Lend => counts::lend(state, records, memory, queue, size_of(n[0])),
+        Ask::Back => counts::back(state, records, memory, queue, size_of(n[0])),
+        Ask::Low => kept(state, counts::low(state, records, memory, queue)),
+    }
+}
+
+fn call_now(
+    running: Running,
+    op: Ask,
+    n: [u64; 5],
+    records: &mut [u8],
+    memory: &mut [u8],
+    queue: &mut [u64],
+    answer: &mut [u8],
+    at: usize,
+) -> Turn
+    requires { ⌜ at + 512 ≤ length (now answer) ⌝ }
+    ensures { λ r. ⌜ Does (Asks (callOf op (λ i. getD n i 0))) (askName op) running (record { records = now (records .entry); memory = now (memory .entry); queue = now (queue .entry) }) (now (answer .entry)) at (record { records = now (records .exit); memory = now (memory .exit); queue = now (queue .exit) }) (now (answer .exit)) r ⌝ }
+    ensures { λ r. ⌜ Bounded running at r ⌝ }
+{
+    if !running.booted {
+        return bad(running, answer, at);
+    }
+    let o = ask(running.state, records, memory, queue, op, n);
+    let y = o.answer;
+    let at = put_line(answer, at, Op::Call(op), y);
+    let map = running.map;
+    let state = o.state;
+    let next = Running {
+        map,
+        count: running.count,
+        booted: true,
+        state,
+    };
+    Turn { running: next, at }
+}
+
+// One line: read, done and answered.
+fn take_turn(
+    line: &[u8],
+    running: Running,
+    records: &mut [u8],
+    memory: &mut [u8],
+    queue: &mut [u64],
+    answer: &mut [u8],
+    at: usize,
+) -> Turn
+    requires { ⌜ (at + 512 ≤ length (now answer)) × (running .count + 1 < 2 ^ 64) ⌝ }
+    ensures { λ r. ⌜ Turns running (record { records = now (records .entry); memory = now (memory .entry); queue = now (queue .entry) }) (now (line .entry)) (now (answer .entry)) at (record { records = now (records .exit); memory = now (memory .exit); queue = now (queue .exit) }) (now (answer .exit)) r ⌝ }
+    ensures { λ r. ⌜ Bounded running at r ⌝ }
+{
+    let read = lines::read_line(line);
+    let op = read.op;
+    let n = read.numbers;
+    match op {
+        Op::Bad => bad(running, answer, at),
+        Op::Region => region(running, n, answer, at),
+        Op::Boot => boot_now(running, records, memory, queue, answer, at),
+        Op::Stats => stats_now(running, records, memory, queue, answer, at),
+        Op::Call(a) => call_now(running, a, n, records, memory, queue, answer, at),
+    }
+}
+
+// The lines, one after the other, behind the header.
+fn run_all(
+    script: &[u8],
+    records: &mut [u8],
+    memory: &mut [u8],
+    queue: &mut [u64],
+    answer: &mut [u8],
+) -> usize
+    requires { ⌜ room (now script) ≤ length (now answer) ⌝ }
+    ensures { λ r. ⌜ RanAll (now (script .entry)) (record { records = now (records .entry); memory = now (memory .entry); queue = now (queue .entry) }) (now (answer .entry)) (record { records = now (records .exit); memory = now (memory .exit); queue = now (queue .exit) }) (now (answer .exit)) r ⌝ }
+{
+    let mut w = text::put_text(answer, 0, b"op,refusal,address,bytes\n");
+    let mut running = fresh();
+    let mut at: usize = 0;
+    while at < script.len() {
+        let cursor = lines::next_line(script, at);
+        let end = cursor.end;
+        let t = take_turn(&script[at..end], running, records, memory, queue, answer, w);
+        running = t.running;
+        w = t.at;
+        at = cursor.next;
+    }
+    w
+}
+
+// The whole script. Returns the bytes written; 0 with nothing written and nothing run where the answer slice is under 512 bytes for each line plus 512.
+#[no_mangle]
+pub extern "C" fn jilakkor_run(
+    script: &[u8],
+    records: &mut [u8],
+    memory: &mut [u8],
+    queue: &mut [u64],
+    answer: &mut [u8],
+) -> usize
+    ensures { λ r. ⌜ Ran (now (script .entry)) (record { records = now (records .entry); memory = now (memory .entry); queue = now (queue .entry) }) (now (answer .entry)) (record { records = now (records .exit); memory = now (memory .exit); queue = now (queue .exit) }) (now (answer .exit)) r ⌝ }
+{
+    if answer.len() < 512 {
+        return 0;
+    }
+    if (answer.len() - 512) / 512 < lines::count_lines(script) {
+        return 0;
+    }
+    run_all(script, records, memory, queue, answer)
+}
