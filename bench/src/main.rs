@@ -2,7 +2,7 @@
 //! in plain Rust, a grant that splits a frame against the kernel's own, and a
 //! region's layout against a plain fill of its records; and the audit against
 //! the same audit in plain Rust; and whole calls against the kernel's own, and
-//! against memset and memmove. README.md says what the figures mean.
+//! against memset and memmove; and the run of a script. README.md says what the figures mean.
 
 mod audit;
 mod calls;
@@ -13,6 +13,7 @@ mod plain_audit;
 mod rattle;
 mod records;
 mod regions;
+mod script;
 mod stack;
 mod whole;
 
@@ -30,6 +31,10 @@ fn main() {
     if runs("calls") {
         calls::run();
         stack::run();
+    }
+    // The kernel boots once in a process, so that this part is never run with another.
+    if part.as_deref() == Some("script") {
+        script::run();
     }
 }
 

@@ -72,6 +72,23 @@ mod built {
             }
         }
     }
+
+    /// Lines of a script after its boot.
+    pub struct Lines(oracle::Script);
+
+    impl Lines {
+        pub fn boot(map: &str) -> Option<Lines> {
+            let mut lines = Lines(oracle::Script::default());
+            lines.answer(map);
+            Some(lines)
+        }
+
+        pub fn answer(&mut self, lines: &str) {
+            for line in lines.lines() {
+                black_box(self.0.answer(black_box(line.as_bytes())));
+            }
+        }
+    }
 }
 
 #[cfg(feature = "original")]
@@ -102,4 +119,16 @@ impl Calls {
     pub fn grants_and_frees(&self, _: usize) {}
 
     pub fn finds(&self, _: u64, _: usize) {}
+}
+
+#[cfg(not(feature = "original"))]
+pub struct Lines;
+
+#[cfg(not(feature = "original"))]
+impl Lines {
+    pub fn boot(_: &str) -> Option<Lines> {
+        None
+    }
+
+    pub fn answer(&mut self, _: &str) {}
 }

@@ -1,5 +1,5 @@
-//! The exported drivers of the crates leaves and drivers, and the audit of the
-//! crate words. A slice is passed as its address and its length; they test all
+//! The exported drivers of the crates leaves and drivers, the audit of the crate
+//! words, and the run of the crate script. A slice is passed as its address and its length; they test all
 //! that they are given, so any call is sound whose slices are.
 
 extern "C" {
@@ -14,6 +14,18 @@ extern "C" {
         length: usize,
         memory_len: usize,
         queue_len: usize,
+    ) -> usize;
+    fn jilakkor_run(
+        script: *const u8,
+        script_len: usize,
+        records: *mut u8,
+        records_len: usize,
+        memory: *mut u8,
+        memory_len: usize,
+        queue: *mut u64,
+        queue_len: usize,
+        answer: *mut u8,
+        answer_len: usize,
     ) -> usize;
     fn leaves_new(records: *mut u8, length: usize, start: u64, pages: usize) -> usize;
     fn leaves_grants(
@@ -152,4 +164,38 @@ calls! {
     fill: drivers_fill(size);
     /// Copies one to another.
     copy: drivers_copy(size);
+}
+
+/// The loans of the script program, and room for the answers to so many lines.
+pub struct Script {
+    records: [u8; 256],
+    memory: Vec<u8>,
+    queue: [u64; 64],
+    answer: Vec<u8>,
+}
+
+impl Script {
+    pub fn new(lines: usize) -> Script {
+        let (memory, answer) = (vec![0; 65536], vec![0; 512 * lines + 512]);
+        Script { records: [0; 256], memory, queue: [0; 64], answer }
+    }
+
+    /// Runs a script; the bytes of its answers.
+    pub fn run(&mut self, script: &[u8]) -> usize {
+        let Script { records, memory, queue, answer } = self;
+        unsafe {
+            jilakkor_run(
+                script.as_ptr(),
+                script.len(),
+                records.as_mut_ptr(),
+                records.len(),
+                memory.as_mut_ptr(),
+                memory.len(),
+                queue.as_mut_ptr(),
+                queue.len(),
+                answer.as_mut_ptr(),
+                answer.len(),
+            )
+        }
+    }
 }

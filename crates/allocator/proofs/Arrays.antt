@@ -23,6 +23,7 @@ use Rattle.world.specs.Stands.StandRows.{stand-none, stand-more}
 use Rattle.world.specs.Tables.{Sane, Table}
 use Rattle.world.proofs.Sheets.{good-at}
 use Rattle.world.proofs.Tables.{used-row}
+use Rattle.allocator.proofs.Turning.{stands-at, used-most}
 
 -- ---- what is left of a list: xs, of which x is the first and ys the rest
 
@@ -49,17 +50,8 @@ range-past k m h = let e : m - k ≡ 0 = omega arith in rw e refl
 
 -- ---- the rows in use
 
-used-most : (rows : List Row) → length (usedRows rows) ≤ length rows
-unfolding usedRows
-used-most [] = omega arith
-used-most (row ∷ rows) = go (eqb (row .pages) 0) (used-most rows)
-  where
-    go : (t : Bool) → length (usedRows rows) ≤ length rows → length (cond t [] (row ∷ usedRows rows)) ≤ length (row ∷ rows)
-    go true h = omega arith
-    go false h = omega arith
-
 -- a row that has pages, behind rows in use, is in use
-used-more : (rows : List Row) (i : ℕ) → i ≤ length (usedRows rows) → i < length rows → (rowAt rows i .pages ≡ 0 → ⊥) → i < length (usedRows rows)
+pub used-more : (rows : List Row) (i : ℕ) → i ≤ length (usedRows rows) → i < length rows → (rowAt rows i .pages ≡ 0 → ⊥) → i < length (usedRows rows)
 unfolding usedRows
 used-more [] i h l p = absurd (omega arith)
 used-more (row ∷ rows) i h l p = go (eqb (row .pages) 0) refl i h l p (used-more rows)
@@ -108,21 +100,13 @@ base-row rows i h = rw (add-one, ← used-row rows i h) (base-next 0 (usedRows r
 
 -- ---- the regions that they stand for
 
-stand-length : {f : ℕ → Record} {n base : ℕ} {fs : Frames} {rows : List Row} {rs : List AllocationRegion} → StandRows f n fs base rows rs → length rs ≡ length rows
+pub stand-length : {f : ℕ → Record} {n base : ℕ} {fs : Frames} {rows : List Row} {rs : List AllocationRegion} → StandRows f n fs base rows rs → length rs ≡ length rows
 stand-length stand-none = refl
 stand-length (stand-more S Ss) = ap suc (stand-length Ss)
 
-stand-at
-    : {f : ℕ → Record} {n base : ℕ} {fs : Frames} {rows : List Row} {rs : List AllocationRegion} → StandRows f n fs base rows rs → (i : ℕ) → i < length rows
-    → StandsRow f n (baseAt base rows i) (rowAt rows i) fs (regionAt rs i)
-unfolding baseAt
-stand-at stand-none i h = absurd (omega arith)
-stand-at (stand-more S Ss) zero h = S
-stand-at (stand-more S Ss) (suc i) h = stand-at Ss i (omega arith)
-
 module _ {f : ℕ → Record} {n : ℕ} {rows : List Row} {a : PhysicalFrameAllocator} (T : Table f n rows a) (i : ℕ) where
   pub region-stands : i < length (usedRows rows) → StandsRow f n (baseAt 0 (usedRows rows) i) (rowAt rows i) (a .frames) (regionAt (a .regions) i)
-  region-stands h = rw (used-row rows i h) at (stand-at (T .stands) i h)
+  region-stands h = rw (used-row rows i h) at (stands-at (T .stands) i h)
 
   region-first : i < length (usedRows rows) → drop i (a .regions) ≡ regionAt (a .regions) i ∷ drop (i + 1) (a .regions)
   region-first h = drop-at (a .regions) i _ (omega (arith, stand-length (T .stands)))

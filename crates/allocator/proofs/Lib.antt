@@ -1,7 +1,7 @@
+pub mod Turning
 pub mod Arrays
 pub mod Listing
 pub mod Seeing
-pub mod Turning
 pub mod Barren
 pub mod InOrder
 pub mod Standing

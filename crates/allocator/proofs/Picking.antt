@@ -27,7 +27,9 @@ use Rattle.world.proofs.Tables.{table-set, used-set}
 use Rattle.allocator.specs.declared.Picked.{Picked}
 use Rattle.allocator.specs.Spots.{HeldAt, InRows, PicksBy, passBy}
 use Rattle.allocator.proofs.Barren.{granted-held, nothing-granted, unchanged}
-use Rattle.allocator.proofs.InOrder.{base-first, base-next, base-set, row-good, row-tiled, table-many, table-row, used-most, used-next}
+use Rattle.allocator.proofs.Arrays.{base-first, base-row, region-stands, row-good, stand-length, used-more}
+use Rattle.allocator.proofs.InOrder.{base-set, row-tiled}
+use Rattle.allocator.proofs.Turning.{used-most}
 
 -- the region of the row j has nothing
 abbrev pub HasNone : (ℕ → Record) → List Row → (l : ℕ) (tryZero onlyZero : Bool) → ℕ → Type 0
@@ -50,7 +52,7 @@ module _ {f : ℕ → Record} {n : ℕ} {rows : List Row} (S : Sane f n rows) (l
   region-alike
       : {a : PhysicalFrameAllocator} → Table f n rows a
       → Alike (fromOf row) base (row .pages) (levelsOf (a .frames) (regionAt (a .regions) i)) has (given l t o (a .frames) (a .regions) i)
-  region-alike T = alike-allocate (table-row T i h .same) (row-tiled S i h) l few t o
+  region-alike T = alike-allocate (region-stands T i h .same) (row-tiled S i h) l few t o
 
   region-none : {a : PhysicalFrameAllocator} → Table f n rows a → HasNone f rows l t o i → given l t o (a .frames) (a .regions) i .page ≡ none
   region-none T e = region-alike T .page ∙ ap (shifted (fromOf row) base) e
@@ -113,7 +115,7 @@ module _ {f : ℕ → Record} {n : ℕ} {rows : List Row} (S : Sane f n rows) (l
           let q = shift (fromOf (rowAt rows i)) first p in
           let L = region-alike S l few t o i h T in
           let k : given l t o (a .frames) (a .regions) i .page ≡ some q = L .page ∙ ap (shifted (fromOf (rowAt rows i)) first) paged in
-          rw (pass-found l t o (a .frames) (a .regions) i q (rw (table-many T) h) (none-before T i (omega arith) before) k)
+          rw (pass-found l t o (a .frames) (a .regions) i q (rw (stand-length (T .stands)) h) (none-before T i (omega arith) before) k)
           (record {
             turned = table-set T i h (A .became) W (L .carried);
             none-found = λ d. absurd (false≢true (sym d));
@@ -125,7 +127,7 @@ module _ {f : ℕ → Record} {n : ℕ} {rows : List Row} (S : Sane f n rows) (l
   -- none has
   picks-none : ((j : ℕ) → j < length (usedRows rows) → HasNone f rows l t o j) → {r : Picked} → r .rows ≡ rows → r .found ≡ false → PicksBy (passBy l t o) f rows f n r
   picks-none b {r} d e a T =
-      rw (pass-none l t o (a .frames) (a .regions) (λ j k. none-before T (length (usedRows rows)) (omega arith) b j (omega (arith, table-many T))))
+      rw (pass-none l t o (a .frames) (a .regions) (λ j k. none-before T (length (usedRows rows)) (omega arith) b j (omega (arith, stand-length (T .stands)))))
       (record {
         turned = rw d (record { table = T; spans = refl; outside = λ q k. refl });
         none-found = λ k. refl;
@@ -152,7 +154,7 @@ module _ (f : ℕ → Record) (n : ℕ) (rows : List Row) (l : ℕ) (t o : Bool)
   module _ (S : Sane f n rows) (few : l < 3) {g : ℕ → Record} {m base i : ℕ} (G : Gone g m base i) where
     -- a row with pages is in use, and one without is behind those in use
     pub gone-here : i < 8 → (rowAt rows i .pages ≡ 0 → ⊥) → i < length (usedRows rows)
-    gone-here h p = used-next rows i (G .used) (omega (arith, S .eight)) p
+    gone-here h p = used-more rows i (G .used) (omega (arith, S .eight)) p
 
     pub gone-past : rowAt rows i .pages ≡ 0 → i ≡ length (usedRows rows)
     gone-past p = go (ℕ-discrete i (length (usedRows rows)))
@@ -182,7 +184,7 @@ module _ (f : ℕ → Record) (n : ℕ) (rows : List Row) (l : ℕ) (t o : Bool)
               same = N .0;
               size = k ∙ G .size;
               used = omega arith;
-              based = ap (λ (b : ℕ). b + managed (rowAt rows i .pages)) (G .based) ∙ sym (base-next rows i h);
+              based = ap (λ (b : ℕ). b + managed (rowAt rows i .pages)) (G .based) ∙ sym (base-row rows i h);
               before = λ j u. up-to (N .1) j u (ℕ-discrete j i);
             }
           where

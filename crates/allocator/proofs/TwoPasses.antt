@@ -43,7 +43,7 @@ pass-nothing l t o fs (r ∷ rs) e = go (allocate l (levelsOf fs r) t o) (alloca
 
 -- ---- two passes
 
-turned-then
+pub turned-then
     : {f g h : ℕ → Record} {n : ℕ} {rows rows2 rows3 : List Row} {a b : PhysicalFrameAllocator} → Turned f rows g n rows2 a → Turned g rows2 h n rows3 b
     → Turned f rows h n rows3 b
 turned-then A B = record { table = B .table; spans = B .spans ∙ A .spans; outside = λ q k. B .outside q (rw (A .spans) k) ∙ A .outside q k }

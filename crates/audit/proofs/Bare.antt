@@ -2,18 +2,19 @@
 -- numbers that the code compares.
 use Prim.Native.Nat.{ℕ, _+_, _/_, _≤_, _<_}
 use mathlib.Core.Bool.{true, false}
-use mathlib.Core.List.{List, _∷_}
-use mathlib.Core.Path.{_≡_, sym, ap, _∙_}
+use mathlib.Core.List.{List, [], _∷_}
+use mathlib.Core.Path.{_≡_, refl, sym, ap, _∙_}
 use native.Mathlib.Omega.{arith}
 use borrow.Author.Tests.{lt-ltb, le-ltb}
 use lib.Dec.{ltb}
+use lib.ListN.{length}
 use Rattle.definition.specs.declared.Row.{Row}
 use Rattle.definition.specs.Board.{standard}
 use Rattle.definition.specs.Basics.{any}
 use Rattle.definition.specs.Allocator.{AllocationRegion, total}
 use Rattle.definition.specs.Boot.{shares, overlap}
-use Rattle.definition.specs.World.{bareRegion}
-use Rattle.definition.specs.Torn.{bareRegions}
+use Rattle.definition.specs.World.{bareRegion, usedRows}
+use Rattle.definition.specs.Torn.{bareRegions, regionsOf}
 use Rattle.audit.proofs.Onward.{and-on, and-off, or-on, or-off, sum-on}
 
 module _ (r t : Row) {m n : ℕ} (d : m ≡ r .start .0 / 4096) (e : n ≡ t .start .0 / 4096) where
@@ -40,3 +41,12 @@ module _ {xs ys : List Row} {x : Row} (e : xs ≡ x ∷ ys) where
   pub overlap-off : any (shares standard (bareRegion standard x)) (bareRegions standard ys) ≡ true → overlap standard (bareRegions standard xs) ≡ true
   unfolding overlap
   overlap-off h = ap (overlap standard) regions-on ∙ or-off _ h
+
+overlap-few : (xs : List Row) → length xs < 2 → overlap standard (bareRegions standard xs) ≡ false
+unfolding overlap any bareRegions
+overlap-few [] h = refl
+overlap-few (x ∷ []) h = refl
+overlap-few (x ∷ (y ∷ xs)) h = absurd (omega arith)
+
+pub overlap-none : (rows : List Row) → length (usedRows rows) < 2 → overlap standard (regionsOf standard rows) ≡ false
+overlap-none rows h = overlap-few (usedRows rows) h

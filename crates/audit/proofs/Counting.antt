@@ -1,23 +1,21 @@
 -- Sums over the rows in use, as a loop over them adds them up: of managed pages, of idle pages, and within a row of the pages on its lists. What a region
 -- holds is bounded by the heads that it can have, so that no sum of held pages wraps.
-use Prim.Native.Nat.{ℕ, zero, suc, _+_, _-_, _*_, _/_, _%_, _^_, _≤_, _<_}
+use Prim.Native.Nat.{ℕ, zero, suc, _+_, _-_, _*_, _/_, _%_, _≤_, _<_}
 use mathlib.Core.Bool.{Bool, true, false, cond, _&&_}
 use mathlib.Core.List.{List, [], _∷_}
 use mathlib.Core.Path.{_≡_, refl, ap}
-use native.Mathlib.Nat.{mul-le-mul-right}
 use native.Mathlib.Omega.{arith}
 use borrow.Author.Tests.{ltb-true}
 use lib.Dec.{leb, ltb, eqb}
-use lib.ListN.{length, getD, drop}
+use lib.ListN.{length, drop}
 use Rattle.definition.specs.declared.Record.{Record}
-use Rattle.definition.specs.declared.Links.{Links}
 use Rattle.definition.specs.declared.Row.{Row}
 use Rattle.definition.specs.Board.{standard}
-use Rattle.definition.specs.Basics.{sum, range, bit}
+use Rattle.definition.specs.Basics.{sum, bit}
 use Rattle.definition.specs.Frame.{size, levels}
 use Rattle.definition.specs.Allocator.{tablePages, managed}
 use Rattle.definition.specs.Boot.{managedPages}
-use Rattle.definition.specs.World.{noLinks, bareRegion, usedRows}
+use Rattle.definition.specs.World.{bareRegion, usedRows}
 use Rattle.definition.specs.Torn.{
   Records,
   bareRegions,
@@ -76,25 +74,6 @@ idle-rows base (row ∷ rows) = ap (λ (n : ℕ). idleRow row + n) (idle-rows (b
 pub idle-all : (rows : List Row) → idlePages standard (placed standard rows) ≡ leftOf idleRow rows 0
 unfolding leftOf
 idle-all rows = idle-rows 0 (usedRows rows)
-
--- ---- the lists of a row
-
-pub sum-last : (w : ℕ → ℕ) (a n : ℕ) → sum w (range a (n + 1)) ≡ sum w (range a n) + w (a + n)
-unfolding sum range
-sum-last w a zero = let e : a + 0 ≡ a = omega arith in rw e (omega arith)
-sum-last w a (suc n) =
-    let e : a + 1 + n ≡ a + suc n = omega arith in
-    let s : suc n + 1 ≡ suc (n + 1) = omega arith in
-    rw s (omega (arith, rw e at (sum-last w (a + 1) n)))
-
--- the pages on the list k of six, which is of the level k / 2
-abbrev pub listWeight : List Links → ℕ → ℕ
-listWeight lists k = size (k / 2) * getD lists k noLinks .count
-
-pub weight-most : (lists : List Links) (k : ℕ) → k < 6 → getD lists k noLinks .count < 4294967296 → listWeight lists k ≤ 2 ^ 50
-weight-most lists k h m =
-    let l : k / 2 < levels = omega arith in
-    omega (arith, mul-le-mul-right (getD lists k noLinks .count) (size-most l))
 
 -- ---- the pages that a region holds
 

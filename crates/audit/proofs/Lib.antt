@@ -5,4 +5,5 @@ pub mod Booted
 pub mod Bare
 pub mod Counting
 pub mod Regions
+pub mod Surveying
 pub mod Sheets

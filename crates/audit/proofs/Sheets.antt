@@ -1,21 +1,28 @@
--- The torn sheet as one test and as a record of its sentences say the same. The audit's five tests, one after another, are that one test, whatever the
+-- The torn sheet as one test and as a record of its sentences say the same. The audit's tests, in an order of their own, are that one test, whatever the
 -- bytes of the memory and the places of the queue.
-use Prim.Native.Nat.{ℕ}
-use mathlib.Core.Bool.{Bool, true, false, not, _&&_}
+use Prim.Native.Nat.{ℕ, _-_, _*_, _/_, _≤_, _<_}
+use mathlib.Core.Bool.{Bool, true, false, not, _&&_, false≢true}
 use mathlib.Core.List.{List}
 use mathlib.Core.Path.{_≡_, refl, sym, ap, _∙_}
-use borrow.Author.Tests.{not-true, not-false}
-use lib.Dec.{eqb}
-use lib.ListN.{length}
+use native.Mathlib.Omega.{arith}
+use borrow.Author.Tests.{le-leb, leb-true, not-true, not-false}
+use lib.Dec.{leb, eqb}
+use lib.ListN.{length, drop}
 use Rattle.definition.specs.declared.Row.{Row}
 use Rattle.definition.specs.declared.Counters.{Counters}
 use Rattle.definition.specs.declared.Pass.{Pass}
 use Rattle.definition.specs.Board.{Board, standard}
-use Rattle.definition.specs.World.{World, recordAt}
+use Rattle.definition.specs.Basics.{all}
+use Rattle.definition.specs.Allocator.{AllocationRegion, total}
+use Rattle.definition.specs.Boot.{managedPages, overlap}
+use Rattle.definition.specs.World.{World, recordAt, usedRows}
 use Rattle.definition.specs.Torn.{
   Placed,
   Records,
   recordsOf,
+  isNoRow,
+  regionsOf,
+  rowAsBoot,
   rowsAsBoot,
   loansLong,
   placed,
@@ -33,9 +40,11 @@ use Rattle.definition.specs.Torn.{
   Sound,
   sound,
 }
-use Rattle.definition.proofs.Tests.{and-left, and-right}
-use Rattle.scan.specs.declared.Whole.{Whole}
-use Rattle.audit.specs.Sheet.{wholeRegions, AllAudited, Exact}
+use Rattle.definition.proofs.Tests.{and-left, and-right, and-true}
+use Rattle.scan.proofs.Members.{refuse}
+use Rattle.audit.specs.declared.Surveyed.{Surveyed}
+use Rattle.audit.specs.Sheet.{wholeRegions, surveyTest, Found, countsAs, Exact}
+use Rattle.audit.proofs.Regions.{loans-fit}
 
 -- ---- the test and the record
 
@@ -148,13 +157,6 @@ module _ (g : Given) where
       && (totalCounts standard (g .rows) (g .counters)
       && (kernelCounts standard records (g .rows) (g .counters) && pageCounts standard records (g .rows) (g .counters)))
 
-  -- the same, against the pages that the regions were found to hold
-  abbrev pub foundTest : Whole → Bool
-  foundTest whole =
-      idleCounts standard (g .rows) (g .counters)
-      && (totalCounts standard (g .rows) (g .counters)
-      && (eqb (g .counters .«kernel_used») (whole .kernel) && eqb (g .counters .«page_data») (whole .page)))
-
   abbrev pub restTest : Bool
   restTest = noneWaiting (g .counters) && (queueWithin (g .queued) (g .queueLen) && passWithin standard (g .pass))
 
@@ -183,22 +185,93 @@ module _ (g : Given) where
       (pageCounts standard records (g .rows) (g .counters))
       restTest)))
 
-  pub torn-rows : rowsTest ≡ false → Answers false
-  torn-rows a = exact false (rw a)
+  torn : (five ≡ true → ⊥) → Answers false
+  torn n = exact false (refuse n)
 
-  pub torn-loans : rowsTest ≡ true → loansTest ≡ false → Answers false
-  torn-loans a b = exact false (rw (a, b))
+  abbrev regionsIn : List AllocationRegion
+  regionsIn = regionsOf standard (g .rows)
 
-  module _ (p : (rowsTest ≡ true) × (loansTest ≡ true)) (whole : Whole) (h : AllAudited records regions whole) where
-    pub torn-regions : whole .ok ≡ false → Answers false
-    torn-regions e = exact false (rw (p .0, p .1, sym (h .exact) ∙ e))
+  abbrev surveyed : Bool
+  surveyed = surveyTest records (length (g .records) / 16) (g .rows)
 
-    module _ (ok : whole .ok ≡ true) where
-      found-five : (t : Bool) → foundTest whole ≡ t → (t && restTest) ≡ five
-      found-five t d = rw (p .0, p .1, sym (h .exact) ∙ ok, ← h .kernel ok, ← h .page ok, d)
+  abbrev unusedTest : Bool
+  unusedTest = all isNoRow (drop (length (usedRows (g .rows))) (g .rows))
 
-      pub torn-counts : foundTest whole ≡ false → Answers false
-      torn-counts d = exact false (found-five false d)
+  abbrev bootTest : Bool
+  bootTest = all (rowAsBoot standard) (usedRows (g .rows))
 
-      pub rest-decides : foundTest whole ≡ true → (r : Bool) → r ≡ restTest → Answers r
-      rest-decides d r e = exact r (e ∙ found-five true d)
+  abbrev recordsTest : Bool
+  recordsTest = leb (managedPages standard regionsIn) (length (g .records) / 16)
+
+  -- two rows share no page, and there are few enough
+  abbrev lastTest : Bool
+  lastTest = not (overlap standard regionsIn) && leb (total regionsIn) 1048576
+
+  -- where there are eight rows of six lists, as their type says, the sheet's test of the rows has four parts, of which the survey makes two
+  module _ (shape : rowsTest ≡ (unusedTest && (bootTest && lastTest))) where
+    last-two : rowsTest ≡ true → lastTest ≡ true
+    last-two t = and-right bootTest lastTest (and-right unusedTest (bootTest && lastTest) (sym shape ∙ t))
+
+    pub torn-survey : surveyed ≡ false → Answers false
+    torn-survey e =
+        torn (λ t.
+        let r : (unusedTest && (bootTest && lastTest)) ≡ true = sym shape ∙ and-left _ _ t in
+        let l = and-right rowsTest _ t in
+        let m = loans-fit (g .rows) (length (g .records)) (g .memoryLen) (and-left _ _ l) in
+        let b = and-left bootTest lastTest (and-right unusedTest (bootTest && lastTest) r) in
+        let w = and-left regionsTest _ (and-right loansTest _ l) in
+        let fit : recordsTest ≡ true = le-leb (managedPages standard regionsIn) (length (g .records) / 16) m in
+        false≢true
+        (sym e
+        ∙ and-true {a = unusedTest} (and-left unusedTest (bootTest && lastTest) r) (and-true {a = bootTest} b (and-true {a = recordsTest} fit w))))
+
+    pub torn-total : 1048576 < total regionsIn → Answers false
+    torn-total l =
+        torn (λ t. omega (arith, leb-true (total regionsIn) 1048576 (and-right (not (overlap standard regionsIn)) _ (last-two (and-left _ _ t)))))
+
+    pub torn-apart : not (overlap standard regionsIn) ≡ false → Answers false
+    torn-apart e = torn (λ t. false≢true (sym e ∙ and-left _ _ (last-two (and-left _ _ t))))
+
+    pub torn-memory : g .memoryLen < 4096 * managedPages standard regionsIn → Answers false
+    unfolding loansLong
+    torn-memory l =
+        torn (λ t.
+        let m = and-right (leb (16 * managedPages standard regionsIn) (length (g .records))) _ (and-left loansTest _ (and-right rowsTest _ t)) in
+        omega (arith, leb-true (4096 * managedPages standard regionsIn) (g .memoryLen) m))
+
+    -- where all of these are passed, the counters and the rest decide
+    module _ (s : surveyed ≡ true) (few : total regionsIn ≤ 1048576) (apart : not (overlap standard regionsIn) ≡ true)
+        (memory : 4096 * managedPages standard regionsIn ≤ g .memoryLen) where
+      -- what the survey has passed behind the unused rows
+      others : (bootTest && (recordsTest && regionsTest)) ≡ true
+      others = and-right unusedTest _ s
+
+      rows-pass : rowsTest ≡ true
+      rows-pass =
+          shape
+          ∙ and-true {a = unusedTest}
+          (and-left unusedTest (bootTest && (recordsTest && regionsTest)) s)
+          (and-true {a = bootTest} (and-left bootTest _ others) (and-true apart (le-leb (total regionsIn) 1048576 few)))
+
+      loans-pass : loansTest ≡ true
+      unfolding loansLong
+      loans-pass =
+          let m = leb-true (managedPages standard regionsIn) (length (g .records) / 16) (and-left recordsTest _ (and-right bootTest _ others)) in
+          and-true
+          (le-leb (16 * managedPages standard regionsIn) (length (g .records)) (omega arith))
+          (le-leb (4096 * managedPages standard regionsIn) (g .memoryLen) memory)
+
+      regions-pass : regionsTest ≡ true
+      regions-pass = and-right recordsTest _ (and-right bootTest _ others)
+
+      module _ (seen : Surveyed) (h : Found records (g .rows) seen) where
+        found-five : (t : Bool) → countsAs (g .counters) seen ≡ t → (t && restTest) ≡ five
+        found-five t d =
+            let c : countsTest ≡ t = sym (rw (h .idle, h .total, h .kernel, h .page)) ∙ d in
+            rw (rows-pass, loans-pass, regions-pass, c)
+
+        pub torn-counts : countsAs (g .counters) seen ≡ false → Answers false
+        torn-counts d = exact false (found-five false d)
+
+        pub rest-decides : countsAs (g .counters) seen ≡ true → (r : Bool) → r ≡ restTest → Answers r
+        rest-decides d r e = exact r (e ∙ found-five true d)

@@ -1,13 +1,13 @@
-// The torn sheet of all that a later call is given (01, "Torn unless all hold"), a function for each sentence, and `audit`, which is true exactly
-// where every sentence holds: on any rows, numbers and bytes whatever, reading nothing outside the loans.
+// The torn sheet of all that a later call is given (01, "Torn unless all hold"). `survey` makes the tests of each row and its region in one pass over the
+// rows, other functions those of all rows together, of the counters and of the rest. `audit` is true exactly where every sentence holds: on any rows,
+// numbers and bytes whatever, reading nothing outside the loans. Boot asks four of them of the rows that it keeps.
 use definition::Counters;
 use definition::Links;
 use definition::Pass;
 use definition::Row;
-use scan::Whole;
-ghost use mathlib.Core.Bool.{true, _&&_};
+ghost use mathlib.Core.Bool.{true, false, not, _&&_};
 ghost use mathlib.Core.Path.{_≡_};
-ghost use Prim.Native.Nat.{ℕ, _+_, _≤_, _<_, _^_};
+ghost use Prim.Native.Nat.{_+_, _≤_, _<_};
 ghost use lib.Dec.{eqb};
 ghost use lib.ListN.{length, drop};
 ghost use Rattle.definition.specs.Board.{standard};
@@ -27,31 +27,26 @@ ghost use Rattle.definition.specs.Torn.{
   rowAsBoot,
   rowsAsBoot,
   loansLong,
-  placed,
-  listedPages,
-  idlePages,
-  idleCounts,
-  totalCounts,
   noneWaiting,
   queueWithin,
   passWithin,
 };
 ghost use Rattle.record.specs.Records.{pagesIn};
-ghost use Rattle.scan.specs.Sheet.{placedAt};
-ghost use Rattle.audit.specs.Sheet.{rowAt, AllAudited, Exact};
+ghost use Rattle.audit.specs.Sheet.{rowAt, Few, Visited, Surveys, countsAs, Exact};
 
 // ---- "the rows' starts and pages are such as boot makes"
+
+// Both tests are made before either is looked at: without a branch at each number, the zeros of a row are read as vectors.
+fn both(a: bool, b: bool) -> bool
+    ensures { λ r. ⌜ r ≡ (a && b) ⌝ }
+{
+    if a { b } else { false }
+}
 
 fn is_no_links(l: Links) -> bool
     ensures { λ r. ⌜ r ≡ isNoLinks l ⌝ }
 {
-    if l.front != 0 {
-        return false;
-    }
-    if l.back != 0 {
-        return false;
-    }
-    l.count == 0
+    both(l.front == 0, both(l.back == 0, l.count == 0))
 }
 
 // An unused row is all zeros.
@@ -59,53 +54,20 @@ fn is_no_row(row: Row) -> bool
     ensures { λ r. ⌜ r ≡ isNoRow row ⌝ }
 {
     let start = row.start;
-    if start.raw() != 0 {
-        return false;
-    }
-    if row.pages != 0 {
-        return false;
-    }
     let lists = row.lists;
+    let mut none = both(start.raw() == 0, row.pages == 0);
     let mut k: usize = 0;
     while k < 6 {
-        if is_no_links(lists[k]) {
-            k += 1;
-        } else {
-            return false;
-        }
+        none = both(none, is_no_links(lists[k]));
+        k += 1;
     }
-    true
+    none
 }
 
-// How many rows are in use: those before the first that has no pages.
-fn used_rows(rows: [Row; 8]) -> usize
-    ensures { λ r. ⌜ (r ≡ length (usedRows rows)) × (r ≤ 8) ⌝ }
+fn is_unused(row: Row) -> bool
+    ensures { λ r. ⌜ r ≡ eqb (row .pages) 0 ⌝ }
 {
-    let mut i: usize = 0;
-    while i < 8 {
-        let row = rows[i];
-        if row.pages == 0 {
-            return i;
-        }
-        i += 1;
-    }
-    8
-}
-
-// The rows behind those in use are unused.
-fn rest_unused(rows: [Row; 8], used: usize) -> bool
-    requires { ⌜ used ≤ 8 ⌝ }
-    ensures { λ r. ⌜ r ≡ all isNoRow (drop used rows) ⌝ }
-{
-    let mut i = used;
-    while i < 8 {
-        if is_no_row(rows[i]) {
-            i += 1;
-        } else {
-            return false;
-        }
-    }
-    true
+    row.pages == 0
 }
 
 // A page edge, more than one page, an end by 2^40, which is the page 2^28. The sheet also asks for more pages than the tables take: so it is with
@@ -126,21 +88,6 @@ fn row_as_boot(row: Row) -> bool
     }
     if 268435456 - pages < start.page_number() {
         return false;
-    }
-    true
-}
-
-fn each_as_boot(rows: [Row; 8], used: usize) -> bool
-    requires { ⌜ used ≡ length (usedRows rows) ⌝ }
-    ensures { λ r. ⌜ r ≡ all (rowAsBoot standard) (usedRows rows) ⌝ }
-{
-    let mut i: usize = 0;
-    while i < used {
-        if row_as_boot(rows[i]) {
-            i += 1;
-        } else {
-            return false;
-        }
     }
     true
 }
@@ -205,20 +152,15 @@ pub fn total_pages(rows: [Row; 8], used: usize) -> usize
     pages
 }
 
-fn rows_as_boot(rows: [Row; 8], used: usize) -> bool
-    requires { ⌜ used ≡ length (usedRows rows) ⌝ }
-    ensures { λ r. ⌜ r ≡ rowsAsBoot standard rows ⌝ }
+// No two rows in use share a page. A single row shares none, and then the rows are not copied to be looked at.
+fn apart(rows: [Row; 8], used: usize) -> bool
+    requires { ⌜ (used ≡ length (usedRows rows)) × (all (rowAsBoot standard) (usedRows rows) ≡ true) ⌝ }
+    ensures { λ r. ⌜ r ≡ not (overlap standard (regionsOf standard rows)) ⌝ }
 {
-    if !rest_unused(rows, used) {
-        return false;
+    if used < 2 {
+        return true;
     }
-    if !each_as_boot(rows, used) {
-        return false;
-    }
-    if overlaps(rows, used) {
-        return false;
-    }
-    total_pages(rows, used) <= 1048576
+    !overlaps(rows, used)
 }
 
 // ---- "and the loans long enough"
@@ -249,89 +191,115 @@ pub fn loans_long(rows: [Row; 8], used: usize, records: usize, memory: usize) ->
     4096 * pages <= memory
 }
 
-// ---- the regions' records: heads and lists
+// ---- the rows and their regions
 
-fn regions_whole(records: &[u8], rows: [Row; 8], used: usize) -> Whole
-    requires { ⌜ (used ≡ length (usedRows rows)) × (rowsAsBoot standard rows ≡ true) ⌝ }
-    requires { ⌜ managedPages standard (regionsOf standard rows) ≤ pagesIn (now records) ⌝ }
-    ensures { λ r. ⌜ AllAudited (recordAt (now (records .entry))) (placed standard rows) r ⌝ }
+// What the rows up to one are found to be: how many are in use, their pages with the tables and without, and the pages that their regions hold.
+struct Surveyed {
+    ok: bool,
+    used: usize,
+    total: usize,
+    managed: usize,
+    page: usize,
+    kernel: usize,
+}
+
+fn torn_rows() -> Surveyed
+    ensures { λ r. ⌜ r .ok ≡ false ⌝ }
 {
-    let mut base: usize = 0;
-    let mut page: usize = 0;
-    let mut kernel: usize = 0;
+    Surveyed {
+        ok: false,
+        used: 0,
+        total: 0,
+        managed: 0,
+        page: 0,
+        kernel: 0,
+    }
+}
+
+// A row in use, behind those that were seen: that it is as boot makes it, that the loan has its records, and that its region is whole.
+fn visit(records: &[u8], row: Row, seen: Surveyed) -> Surveyed
+    requires { ⌜ Few seen × (seen .used < 8) ⌝ }
+    ensures { λ r. ⌜ Visited (recordAt (now (records .entry))) (pagesIn (now (records .entry))) row seen r ⌝ }
+{
+    if !row_as_boot(row) {
+        return torn_rows();
+    }
+    let start = row.start;
+    let tables = region::table_pages(row.pages);
+    let past = seen.managed + (row.pages - tables);
+    if records.len() / 16 < past {
+        return torn_rows();
+    }
+    let whole = scan::region_whole(
+        records,
+        start.page_number() + tables,
+        seen.managed,
+        past,
+        row,
+    );
+    if !whole.ok {
+        return torn_rows();
+    }
+    Surveyed {
+        ok: true,
+        used: seen.used + 1,
+        total: seen.total + row.pages,
+        managed: past,
+        page: seen.page + whole.page,
+        kernel: seen.kernel + whole.kernel,
+    }
+}
+
+// All rows, each looked at once: those in use, and behind them the unused ones. One function does all of it, since each that picks a row by its number
+// copies the eight; and it picks the row anew for each test, so that an unused one is read where it stands.
+fn survey(records: &[u8], rows: [Row; 8]) -> Surveyed
+    ensures { λ r. ⌜ Surveys (recordAt (now (records .entry))) (pagesIn (now (records .entry))) rows r ⌝ }
+{
+    let mut seen = Surveyed {
+        ok: true,
+        used: 0,
+        total: 0,
+        managed: 0,
+        page: 0,
+        kernel: 0,
+    };
     let mut i: usize = 0;
-    while i < used {
-        let row = rows[i];
-        let start = row.start;
-        let tables = region::table_pages(row.pages);
-        let past = base + (row.pages - tables);
-        let whole = scan::region_whole(records, start.page_number() + tables, base, past, row);
-        if !whole.ok {
-            return Whole {
-                ok: false,
-                page: 0,
-                kernel: 0,
-            };
+    while i < 8 {
+        if is_unused(rows[i]) {
+            if !is_no_row(rows[i]) {
+                return torn_rows();
+            }
+        } else {
+            if seen.used < i {
+                return torn_rows();
+            }
+            seen = visit(records, rows[i], seen);
+            if !seen.ok {
+                return torn_rows();
+            }
         }
-        page += whole.page;
-        kernel += whole.kernel;
-        base = past;
         i += 1;
     }
-    Whole {
-        ok: true,
-        page,
-        kernel,
-    }
+    seen
 }
 
 // ---- "idle, total, kernel and page counts equal those of the rows and records"
 
-// The pages on the lists of a row.
-fn listed_pages(row: Row) -> usize
-    ensures { λ r. ⌜ ((base : ℕ) → r ≡ listedPages (placedAt base row)) × (r < 2 ^ 56) ⌝ }
+// Whether the counters are those of what was found. Idle are the pages that nobody holds, tables among them.
+fn counted(counters: Counters, seen: Surveyed) -> bool
+    requires { ⌜ seen .page + seen .kernel ≤ seen .total ⌝ }
+    ensures { λ r. ⌜ r ≡ countsAs counters seen ⌝ }
 {
-    let lists = row.lists;
-    let mut pages: usize = 0;
-    let mut k: usize = 0;
-    while k < 6 {
-        let l = lists[k];
-        pages += level::pages_at(k / 2) * (l.count as usize);
-        k += 1;
-    }
-    pages
-}
-
-// The pages that nobody holds, tables among them.
-fn idle_pages(rows: [Row; 8], used: usize) -> usize
-    requires { ⌜ (used ≡ length (usedRows rows)) × (rowsAsBoot standard rows ≡ true) ⌝ }
-    ensures { λ r. ⌜ r ≡ idlePages standard (placed standard rows) ⌝ }
-{
-    let mut pages: usize = 0;
-    let mut i: usize = 0;
-    while i < used {
-        let row = rows[i];
-        pages += listed_pages(row) + region::table_pages(row.pages);
-        i += 1;
-    }
-    pages
-}
-
-// Whether the counters are those of the rows, and of the pages that the regions were found to hold.
-fn counted(rows: [Row; 8], used: usize, counters: Counters, whole: Whole) -> bool
-    requires { ⌜ (used ≡ length (usedRows rows)) × (rowsAsBoot standard rows ≡ true) ⌝ }
-    ensures { λ r. ⌜ r ≡ idleCounts standard rows counters && (totalCounts standard rows counters && (eqb (counters .«kernel_used») (whole .kernel) && eqb (counters .«page_data») (whole .page))) ⌝ }
-{
-    if counters.idle != idle_pages(rows, used) {
+    if counters.idle != seen.total - seen.page - seen.kernel {
         return false;
     }
-    if counters.total != total_pages(rows, used) {
+    if counters.total != seen.total {
         return false;
     }
-    if counters.kernel_used != whole.kernel {
+    if counters.kernel_used != seen.kernel {
         return false;
     }
-    counters.page_data == whole.page
+    counters.page_data == seen.page
 }
 
 // ---- "`waiting` is 0; the queue's count is within its loan; pass rounds are at most 1,001 and freed at most 100 × rounds"
@@ -372,18 +340,20 @@ pub fn audit(
 ) -> bool
     ensures { λ r. ⌜ Exact rows counters queued pass (now (records .entry)) «memory_len» «queue_len» r ⌝ }
 {
-    let used = used_rows(rows);
-    if !rows_as_boot(rows, used) {
+    let seen = survey(records, rows);
+    if !seen.ok {
         return false;
     }
-    if !loans_long(rows, used, records.len(), memory_len) {
+    if 1048576 < seen.total {
         return false;
     }
-    let whole = regions_whole(records, rows, used);
-    if !whole.ok {
+    if !apart(rows, seen.used) {
         return false;
     }
-    if !counted(rows, used, counters, whole) {
+    if memory_len < 4096 * seen.managed {
+        return false;
+    }
+    if !counted(counters, seen) {
         return false;
     }
     within(counters, queued, queue_len, pass)

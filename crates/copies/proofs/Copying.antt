@@ -3,11 +3,12 @@ use Prim.Native.Nat.{ℕ, _+_, _*_, _/_, _%_}
 use mathlib.Core.Bool.{Bool, true, false, cond, false≢true}
 use mathlib.Core.Path.{_≡_, refl, sym, _∙_}
 use native.Mathlib.Decide.{ℕ-discrete}
+use native.Mathlib.Omega.{arith}
 use borrow.Author.Tests.{eq-eqb, ne-eqb}
 use lib.Dec.{eqb, ltb}
-use lib.ListN.{length, take, drop}
+use lib.ListN.{length}
 use Rattle.definition.specs.Board.{standard}
-use Rattle.definition.specs.Contents.{bytesAt, copyContentsFrom, copyContentsFromPhysaddr, isZeroedAt, zeroRange}
+use Rattle.definition.specs.Contents.{copyContentsFrom, copyContentsFromPhysaddr, isZeroedAt, zeroRange}
 use Rattle.definition.specs.Calls.{Copy, perform}
 use Rattle.definition.specs.Store.{Store}
 use Rattle.definition.specs.World.{World, decode, encode, recordAt}
@@ -17,29 +18,20 @@ use Rattle.audit.proofs.Sheets.{sound-is}
 use Rattle.world.specs.Refusals.{lower}
 use Rattle.world.proofs.Leaving.{sound-table}
 use Rattle.world.proofs.Refusing.{two-frames}
-use Rattle.world.proofs.RoundTrip.{decode-stands}
-use Rattle.world.proofs.Writing.{memory-read}
 use Rattle.allocator.specs.declared.Seen.{Seen}
 use Rattle.allocator.specs.Spots.{numberAt}
 use Rattle.exam.specs.declared.Exam.{Exam}
 use Rattle.exam.specs.Promise.{Examined, Leaves, Looks}
 use Rattle.exam.proofs.Promises.{Small, examined-held, examined-none, examined-number, examined-range, leaves-done, leaves-refused, refusedBy}
 use Rattle.exam.proofs.Tests.{frame-seen}
+use Rattle.ranges.proofs.Held.{examined-ends, held-in}
 use Rattle.copies.specs.Copies.{Spans}
-use Rattle.copies.proofs.Held.{held-ends, held-lies, store-frame}
 
 -- ---- the three ways
 
 module _ (w : World) (S : Sound standard w) {r : Seen} {off len : ℕ} (P : Spans (recordAt (w .records)) (w .rows) (length (w .memory)) r off len) where
-  -- the store's bytes of a range of a held frame are the loan's
-  pub span-bytes
-      : bytesAt (decode standard w .memory) (4096 * numberAt (w .rows) (r .spot) + off) len ≡ take len (drop (4096 * r .spot .page + off) (w .memory))
-  span-bytes =
-      let d = decode-stands w S in
-      memory-read (held-lies w S (P .held) off len (P .range)) (decode standard w .memory) (w .memory) (d .fits) (d .memory)
-
   span-zeroed : isZeroedAt (decode standard w) (numberAt (w .rows) (r .spot)) ≡ eqb (r .marks / 4 % 2) 1
-  span-zeroed = rw (store-frame w S (P .held)) refl
+  span-zeroed = rw (held-in S (P .held) refl) refl
 
 module _
     (w : World) (S : Sound standard w) {to from : Seen} {off soff len : ℕ}
@@ -87,7 +79,7 @@ module _ (w : World) (t : sound standard w ≡ true) {a off len : ℕ} {r : Exam
       record {
         held = examined-held E z;
         range = examined-range E z;
-        ends = held-ends w (sound-is standard w t) (examined-held E z) off len (examined-range E z);
+        ends = omega (arith, examined-ends E z);
       }
 
 -- no refusal is the lower of two where each is none

@@ -1,4 +1,3 @@
-pub mod Held
 pub mod Reading
 pub mod Writing
 pub mod Copying

@@ -1,24 +1,19 @@
 -- A read leaves the world as it was, and answers with the refusal of the frame or with the part of the loan that starts at the frame's offset.
-use Prim.Native.Nat.{ℕ, _+_, _*_, _≤_}
-use mathlib.Core.Bool.{true}
+use Prim.Native.Nat.{ℕ, _+_, _*_, _/_}
 use mathlib.Core.List.{[]}
 use mathlib.Core.Path.{_≡_, refl, sym, ap, _∙_}
 use native.Mathlib.Decide.{ℕ-discrete}
 use native.Mathlib.Omega.{arith}
-use lib.ListN.{length, take, drop}
+use lib.ListN.{take, drop}
 use Rattle.definition.specs.Board.{standard}
 use Rattle.definition.specs.Contents.{bytesAt}
 use Rattle.definition.specs.Refusal.{lowest}
 use Rattle.definition.specs.Calls.{Answer, Bytes, Done, Read, Refused, Text, answerNumber, names, perform, sheet}
 use Rattle.definition.specs.World.{World, decode}
-use Rattle.definition.specs.Torn.{Left, Sound, call, sound}
-use Rattle.audit.proofs.Sheets.{sound-is}
+use Rattle.definition.specs.Torn.{Left, call}
 use Rattle.world.proofs.Calling.{done-call, none-met}
-use Rattle.world.proofs.Places.{Lies}
 use Rattle.world.proofs.Refusing.{one-frame}
-use Rattle.world.proofs.RoundTrip.{decode-stands, round-trip}
-use Rattle.world.proofs.Writing.{memory-read}
-use Rattle.allocator.specs.Spots.{numberAt}
+use Rattle.world.proofs.RoundTrip.{round-trip}
 use Rattle.exam.specs.declared.Exam.{Exam}
 use Rattle.exam.specs.Promise.{Examined, Leaves, told}
 use Rattle.exam.proofs.Promises.{
@@ -32,8 +27,8 @@ use Rattle.exam.proofs.Promises.{
   examined-sound,
   refusedBy,
 }
+use Rattle.ranges.proofs.Held.{examined-whole, held-read}
 use Rattle.copies.specs.Copies.{Lends, Numbers, bytesOf}
-use Rattle.copies.proofs.Held.{held-ends, held-lies}
 
 -- ---- an answer's number and bytes, by what is told of it
 
@@ -68,26 +63,13 @@ module _ (w : World) (small : Small w) {a off len : ℕ} {r : Exam} (E : Examine
   -- ---- done
 
   module _ (z : r .number ≡ 0) where
-    abbrev t : sound standard w ≡ true
-    t = examined-sound E z
-
-    S : Sound standard w
-    S = sound-is standard w t
-
     abbrev at : ℕ
     at = 4096 * r .seen .spot .page + off
 
-    -- the range in the loan
-    pub read-ends : 4096 * r .seen .spot .page + (off + len) ≤ length (w .memory)
-    read-ends = held-ends w S (examined-held E z) off len (examined-range E z)
-
-    lies : Lies (decode standard w .allocator .regions) (a + off) at len
-    lies =
-        let e : 4096 * numberAt (w .rows) (r .seen .spot) + off ≡ a + off = omega (arith, examined-number E z, examined-edge E z) in
-        rw e at (held-lies w S (examined-held E z) off len (examined-range E z))
-
     bytes-are : bytesAt (decode standard w .memory) (a + off) len ≡ take len (drop at (w .memory))
-    bytes-are = memory-read lies (decode standard w .memory) (w .memory) (decode-stands w S .fits) (decode-stands w S .memory)
+    bytes-are =
+        let e : 4096 * (a / 4096) + off ≡ a + off = omega (arith, examined-edge E z) in
+        rw e at (held-read (examined-whole E z) (examined-held E z) (examined-number E z) off len (examined-range E z))
 
     performed : perform standard (decode standard w) (Read a off len) ≡ record { store = decode standard w; answer = Bytes (take len (drop at (w .memory))) }
     unfolding perform
@@ -95,9 +77,9 @@ module _ (w : World) (small : Small w) {a off len : ℕ} {r : Exam} (E : Examine
 
     called : call standard w (Read a off len) ≡ record { world = w; answer = Bytes (take len (drop at (w .memory))) }
     called =
-        done-call w (Read a off len) t (record { store = decode standard w; answer = Bytes (take len (drop at (w .memory))) }) w
+        done-call w (Read a off len) (examined-sound E z) (record { store = decode standard w; answer = Bytes (take len (drop at (w .memory))) }) w
         (none-met (lowest (sheet standard (decode standard w) (names (Read a off len)))) (one-frame (decode standard w) a off len ∙ examined-none E z))
-        performed (round-trip w S small)
+        performed (round-trip w (examined-whole E z) small)
 
     pub read-done : Lends w (Read a off len) (take len (drop at (w .memory)))
     read-done = record { world = ap (λ (l : Left). l .world) called; bytes = sym (ap (λ (l : Left). bytesOf (l .answer)) called) }

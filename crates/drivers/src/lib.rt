@@ -1,5 +1,5 @@
 // What bench/ times of the calls: loops over a store of one region, exported on slices and numbers. Nothing else calls them. Each boots the store first, and
-// stops at the first call that is refused, so that its answer says how many were accepted.
+// stops at the first call that is refused, so that its answer says how many were accepted. What it leaves in the loans is what those calls leave (`Drives`).
 use address::PhysAddr;
 use definition::Counters;
 use definition::FrameAllocFlags;
@@ -10,10 +10,15 @@ use definition::Pass;
 use definition::Row;
 use exam::Outcome;
 use exam::State;
-ghost use Prim.Native.Nat.{_≤_};
+ghost use mathlib.Core.Path.{_≡_};
+ghost use Rattle.definition.specs.Calls.{Alloc, Find, Zero, Fill, Copy};
+ghost use Rattle.exam.specs.Promise.{worldOf};
+ghost use Rattle.drivers.specs.Driving.{Drives, bootedWorld, grantAndFree, held, noState, onFrame, plain, toSecond, turn, turns};
 
 // A state with no region, as there is before a boot.
-fn unbooted() -> State {
+fn unbooted() -> State
+    ensures { λ r. ⌜ r ≡ noState ⌝ }
+{
     let none = Links {
         front: 0,
         back: 0,
@@ -50,7 +55,9 @@ fn unbooted() -> State {
 }
 
 // The store of a map with one usable entry. Where the map is refused it has no region, and refuses all that follows.
-fn booted(records: &mut [u8], memory: &[u8], queue: &[u64], start: u64, length: usize) -> State {
+fn booted(records: &mut [u8], memory: &[u8], queue: &[u64], start: u64, length: usize) -> State
+    ensures { λ r. ⌜ bootedWorld (now (records .entry)) (now (memory .entry)) (now (queue .entry)) start length ≡ worldOf r (now (records .exit)) (now (memory .entry)) (now (queue .entry)) ⌝ }
+{
     let unused = MemoryRegion {
         start: PhysAddr::new(0),
         length: 0,
@@ -62,18 +69,14 @@ fn booted(records: &mut [u8], memory: &[u8], queue: &[u64], start: u64, length: 
         length,
         kind: MemoryRegionKind::UsableRam,
     };
-    let outcome = boot::boot(unbooted(), map, 8, records, memory, queue);
+    let outcome = boot::boot(unbooted(), map, 1, records, memory, queue);
     outcome.state
 }
 
 // A frame of `size` bytes, with no flags.
-fn granted(
-    state: State,
-    records: &mut [u8],
-    memory: &mut [u8],
-    queue: &[u64],
-    size: u64,
-) -> Outcome {
+fn granted(state: State, records: &mut [u8], memory: &mut [u8], queue: &[u64], size: u64) -> Outcome
+    ensures { λ r. ⌜ turn (Alloc (plain size)) (worldOf state (now (records .entry)) (now (memory .entry)) (now (queue .entry))) ≡ (record { world = worldOf (r .state) (now (records .exit)) (now (memory .exit)) (now (queue .entry)); answer = r .answer }) ⌝ }
+{
     let flags = FrameAllocFlags {
         zeroed: false,
         kernel: false,
@@ -90,18 +93,17 @@ fn holding(
     start: u64,
     length: usize,
     size: u64,
-) -> Outcome {
+) -> Outcome
+    ensures { λ r. ⌜ held (now (records .entry)) (now (memory .entry)) (now (queue .entry)) start length size ≡ (record { world = worldOf (r .state) (now (records .exit)) (now (memory .exit)) (now (queue .entry)); answer = r .answer }) ⌝ }
+{
     let state = booted(records, memory, queue, start, length);
     granted(state, records, memory, queue, size)
 }
 
 // A grant of 4 KiB, and the free of its frame; the answer is that of the first that is refused, else the free's.
-fn granted_and_freed(
-    state: State,
-    records: &mut [u8],
-    memory: &mut [u8],
-    queue: &[u64],
-) -> Outcome {
+fn granted_and_freed(state: State, records: &mut [u8], memory: &mut [u8], queue: &[u64]) -> Outcome
+    ensures { λ r. ⌜ grantAndFree (worldOf state (now (records .entry)) (now (memory .entry)) (now (queue .entry))) ≡ (record { world = worldOf (r .state) (now (records .exit)) (now (memory .exit)) (now (queue .entry)); answer = r .answer }) ⌝ }
+{
     let grant = granted(state, records, memory, queue, 4096);
     let frame = grant.answer;
     if frame.number != 0 {
@@ -126,7 +128,7 @@ pub extern "C" fn drivers_grants(
     length: usize,
     times: usize,
 ) -> usize
-    ensures { λ r. ⌜ r ≤ times ⌝ }
+    ensures { λ r. ⌜ Drives (turns grantAndFree times 0 (bootedWorld (now (records .entry)) (now (memory .entry)) (now (queue .entry)) start length)) (now (records .exit)) (now (memory .exit)) r ⌝ }
 {
     let mut state = booted(records, memory, queue, start, length);
     let mut i: usize = 0;
@@ -153,7 +155,7 @@ pub extern "C" fn drivers_finds(
     address: u64,
     times: usize,
 ) -> usize
-    ensures { λ r. ⌜ r ≤ times ⌝ }
+    ensures { λ r. ⌜ Drives (turns (turn (Find address)) times 0 (bootedWorld (now (records .entry)) (now (memory .entry)) (now (queue .entry)) start length)) (now (records .exit)) (now (memory .exit)) r ⌝ }
 {
     let state = booted(records, memory, queue, start, length);
     let mut i: usize = 0;
@@ -178,7 +180,7 @@ pub extern "C" fn drivers_zero(
     size: u64,
     times: usize,
 ) -> usize
-    ensures { λ r. ⌜ r ≤ times ⌝ }
+    ensures { λ r. ⌜ Drives (onFrame Zero times (held (now (records .entry)) (now (memory .entry)) (now (queue .entry)) start length size)) (now (records .exit)) (now (memory .exit)) r ⌝ }
 {
     let grant = holding(records, memory, queue, start, length, size);
     let frame = grant.answer;
@@ -205,7 +207,7 @@ pub extern "C" fn drivers_fill(
     size: u64,
     times: usize,
 ) -> usize
-    ensures { λ r. ⌜ r ≤ times ⌝ }
+    ensures { λ r. ⌜ Drives (onFrame (λ a. Fill a 0 size 85) times (held (now (records .entry)) (now (memory .entry)) (now (queue .entry)) start length size)) (now (records .exit)) (now (memory .exit)) r ⌝ }
 {
     let grant = holding(records, memory, queue, start, length, size);
     let frame = grant.answer;
@@ -231,7 +233,7 @@ fn copy_all(
     size: u64,
     times: usize,
 ) -> usize
-    ensures { λ r. ⌜ r ≤ times ⌝ }
+    ensures { λ r. ⌜ Drives (turns (turn (Copy target 0 source 0 size)) times 0 (worldOf state (now (records .entry)) (now (memory .entry)) (now (queue .entry)))) (now (records .exit)) (now (memory .exit)) r ⌝ }
 {
     let to = PhysAddr::new(target);
     let from = PhysAddr::new(source);
@@ -257,7 +259,7 @@ pub extern "C" fn drivers_copy(
     size: u64,
     times: usize,
 ) -> usize
-    ensures { λ r. ⌜ r ≤ times ⌝ }
+    ensures { λ r. ⌜ Drives (toSecond size times (held (now (records .entry)) (now (memory .entry)) (now (queue .entry)) start length size)) (now (records .exit)) (now (memory .exit)) r ⌝ }
 {
     let first = holding(records, memory, queue, start, length, size);
     let from = first.answer;

@@ -33,16 +33,12 @@ use Rattle.allocator.specs.declared.Picked.{Picked}
 use Rattle.allocator.specs.declared.Spot.{Spot}
 use Rattle.allocator.specs.Spots.{HeldAt, InRows, PicksBy, TurnsBy, markAt, numberAt, splitAt}
 use Rattle.allocator.proofs.Standing.{sane-table, standing}
+use Rattle.allocator.proofs.TwoPasses.{turned-then}
 use Rattle.allocator.proofs.Turning.{spot-good, spot-index, stands-at, table-held}
 use Rattle.exam.specs.declared.State.{State}
 use Rattle.grants.specs.declared.Granted.{Granted}
 use Rattle.grants.specs.Granting.{Finds, GivesBy, Holds, Near, Ready, counted, zeroedBytes}
 use Rattle.grants.proofs.Marking.{none-left, split-none, split-some, try-none, try-some}
-
-turned-then
-    : {f g h : ℕ → Record} {n : ℕ} {rows rows2 rows3 : List Row} {a b : PhysicalFrameAllocator} → Turned f rows g n rows2 a → Turned g rows2 h n rows3 b
-    → Turned f rows h n rows3 b
-turned-then A B = record { table = B .table; spans = B .spans ∙ A .spans; outside = λ q k. B .outside q (rw (A .spans) k) ∙ A .outside q k }
 
 -- ---- the frame at a spot
 

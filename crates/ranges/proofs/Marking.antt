@@ -3,7 +3,6 @@
 use Prim.Native.Nat.{ℕ, _+_, _*_, _/_, _%_, _<_}
 use mathlib.Core.Bool.{Bool, true, false}
 use mathlib.Core.List.{List}
-use mathlib.Core.Option.{Option, some}
 use mathlib.Core.Path.{_≡_, refl, sym, ap, _∙_}
 use native.Mathlib.Omega.{arith}
 use lib.Dec.{eqb}
@@ -11,14 +10,12 @@ use lib.ListN.{length, getD, replicate}
 use Rattle.definition.specs.Board.{standard}
 use Rattle.definition.specs.Boot.{recordSize}
 use Rattle.definition.specs.Contents.{filled, fillFrame, frameBytes, setNotZero, writeFrame, written, zeroFrame}
-use Rattle.definition.specs.Frame.{Frame, changed, withZeroed}
-use Rattle.definition.specs.Allocator.{PhysicalFrameAllocator}
+use Rattle.definition.specs.Frame.{withZeroed}
 use Rattle.definition.specs.Store.{Memory, mark, withMemory}
 use Rattle.definition.specs.Calls.{Call, Dirty, Fill, Write, Zero, done, perform}
 use Rattle.definition.specs.World.{World, decode, encode, recordAt}
 use Rattle.definition.specs.Torn.{Sound}
 use Rattle.record.specs.Records.{pagesIn, withBytes}
-use Rattle.region.specs.Rep.{marked}
 use Rattle.world.specs.Refusals.{frameRefusal, rangeOf, refusalOf}
 use Rattle.world.specs.Tables.{Turned}
 use Rattle.world.proofs.Leaving.{left-by, sound-table, unwritten}
@@ -31,15 +28,9 @@ use Rattle.exam.specs.declared.Answer.{Answer}
 use Rattle.exam.specs.declared.Exam.{Exam}
 use Rattle.exam.specs.Promise.{Examined, HeldSeen, Leaves, bytesIf}
 use Rattle.exam.proofs.Promises.{examined-bytes, examined-held, examined-none, examined-number, examined-range, examined-sound, leaves-done}
-use Rattle.ranges.proofs.Held.{examined-size, examined-whole, frameIn, held-filled, held-in, held-written}
+use Rattle.ranges.proofs.Held.{examined-whole, held-filled, held-in, held-size, held-written}
 
 -- ---- the marks
-
--- with the KERNEL mark that the frame has, other marks are another ZEROED mark
-marked-own
-    : (zeroed kernel : Bool) (x : Option Frame) (f : Frame) → x ≡ some f → kernel ≡ f .kernel
-    → marked zeroed kernel x ≡ changed (withZeroed zeroed) x
-marked-own zeroed kernel x f e k = rw (e, k) refl
 
 -- the world with other records and another memory
 abbrev pub relent : World → (records memory : List ℕ) → World
@@ -58,30 +49,20 @@ module _
     {w : World} {r : Seen} {p : ℕ} (S : Sound standard w) (H : HeldSeen (recordAt (w .records)) (w .rows) r) (N : numberAt (w .rows) (r .spot) ≡ p)
     {zeroed kernel : Bool} {records : List ℕ} (M : Remarked w r zeroed kernel records)
   where
-    abbrev frames-as : PhysicalFrameAllocator
-    frames-as = mark (withZeroed zeroed) (decode standard w) p .allocator
-
-    mark-is : markAt zeroed kernel p (decode standard w .allocator) ≡ frames-as
-    mark-is =
-        let own : kernel ≡ eqb (recordAt (w .records) (r .spot .page) .marks / 8 % 2) 1 = M .own ∙ ap (λ (m : ℕ). eqb (m / 8 % 2) 1) (H .marks) in
-        rw (marked-own zeroed kernel (decode standard w .allocator .frames p) (frameIn (recordAt (w .records) (r .spot .page))) (held-in S H N) own) refl
-
-    turned : Turned (recordAt (w .records)) (w .rows) (recordAt records) (pagesIn records) (w .rows) frames-as
+    -- with the KERNEL mark that the frame has, other marks are another ZEROED mark
+    turned
+        : Turned (recordAt (w .records)) (w .rows) (recordAt records) (pagesIn records) (w .rows) (mark (withZeroed zeroed) (decode standard w) p .allocator)
     turned =
         let e : pagesIn (w .records) ≡ pagesIn records = ap (λ (n : ℕ). n / recordSize) (sym (M .as-long)) in
-        rw (← mark-is, ← N) (M .turns (decode standard w .allocator) (rw e at (sound-table w S)))
+        rw (held-in S H N) (rw (N, M .own, held-in S H N) at (M .turns (decode standard w .allocator) (rw e at (sound-table w S))))
 
     pub marked-left
         : (m : Memory) (memory : List ℕ) → Rewritten (decode standard w .allocator .regions) (w .memory) m memory
         → encode standard (mark (withZeroed zeroed) (withMemory (decode standard w) m) p) w ≡ relent w records memory
     marked-left m memory R =
         let d = decode-stands w S in
-        left-by w S (mark (withZeroed zeroed) (withMemory (decode standard w) m) p) (relent w records memory) turned (M .as-long) (M .before) (M .after) R (d .counters)
-        (d .pass)
-        (d .queue)
-        (d .queued)
-        (d .room)
-        refl
+        left-by w S (mark (withZeroed zeroed) (withMemory (decode standard w) m) p) (relent w records memory) turned (M .as-long) (M .before) (M .after) R
+        (d .counters) (d .pass) (d .queue) (d .queued) (d .room) refl
 
 -- where bytes are rewritten and every mark stays, as in a copy of zeros into part of a frame
 pub written-left
@@ -91,17 +72,7 @@ pub written-left
 written-left {w} S small m memory R =
     let d = decode-stands w S in
     left-by w S (withMemory (decode standard w) m) (relent w (w .records) memory)
-    (record { table = sound-table w S; spans = refl; outside = λ q h. refl })
-    refl
-    small
-    small
-    R
-    (d .counters)
-    (d .pass)
-    (d .queue)
-    (d .queued)
-    (d .room)
-    refl
+    (record { table = sound-table w S; spans = refl; outside = λ q h. refl }) refl small small R (d .counters) (d .pass) (d .queue) (d .queued) (d .room) refl
 
 -- ---- a call on one held frame
 
@@ -143,7 +114,7 @@ zero-done {w} {a} {x} E z M n k {memory} e =
     let bytes : n ≡ frameBytes standard (decode standard w) (a / 4096) = k ∙ sym (examined-bytes E z) in
     let p : 4096 * (a / 4096) + 0 ≡ 4096 * (a / 4096) = omega arith in
     let q : 4096 * (x .seen .spot .page) + 0 ≡ 4096 * (x .seen .spot .page) = omega arith in
-    let R = rw (p, q) at (held-filled (examined-whole E z) (examined-held E z) (examined-number E z) 0 n 0 (omega (arith, examined-size E z))) in
+    let R = rw (p, q) at (held-filled (examined-whole E z) (examined-held E z) (examined-number E z) 0 n (omega (arith, held-size (examined-held E z))) 0) in
     marked-done E z M (filled (4096 * (a / 4096)) n 0 (decode standard w .memory)) memory (rw e R) (Zero a) n (one-frame (decode standard w) a 0 0)
     (rw bytes refl)
 
@@ -156,7 +127,7 @@ pub fill-done
 unfolding perform fillFrame setNotZero
 fill-done {w} {a} {off} {len} {x} E z M byte {memory} e =
     marked-done E z M (filled (4096 * (a / 4096) + off) len byte (decode standard w .memory)) memory
-    (rw e (held-filled (examined-whole E z) (examined-held E z) (examined-number E z) off len byte (examined-range E z))) (Fill a off len byte) len
+    (rw e (held-filled (examined-whole E z) (examined-held E z) (examined-number E z) off len (examined-range E z) byte)) (Fill a off len byte) len
     (one-frame (decode standard w) a off len)
     refl
 
@@ -168,6 +139,6 @@ pub write-done
 unfolding perform writeFrame setNotZero
 write-done {w} {a} {off} {len} {x} E z M bytes {memory} l e =
     marked-done E z M (written (4096 * (a / 4096) + off) bytes (decode standard w .memory)) memory
-    (rw e (held-written (examined-whole E z) (examined-held E z) (examined-number E z) off bytes (rw l (examined-range E z)))) (Write a off bytes) len
+    (rw e (held-written (examined-whole E z) (examined-held E z) (examined-number E z) off len (examined-range E z) bytes l)) (Write a off bytes) len
     (rw l (one-frame (decode standard w) a off len))
     (rw l refl)

@@ -1,5 +1,5 @@
 -- What stands for a state, and how it changes.
-use Prim.Native.Nat.{ℕ, _+_, _*_, _<_, _^_}
+use Prim.Native.Nat.{ℕ, zero, suc, _+_, _*_, _<_, _^_}
 use mathlib.Core.Bool.{Bool, true, false}
 use mathlib.Core.List.{List, [], _∷_, _++_}
 use mathlib.Core.Logic.{_≢_}
@@ -8,19 +8,19 @@ use mathlib.Core.Path.{_≡_, refl, sym, ap, _∙_, subst, fun-ext}
 use native.Mathlib.Decide.{ℕ-discrete, decLt}
 use native.Mathlib.Omega.{arith}
 use lib.ListN.{getD, set, length-set, List·getD-eq-default}
-use lib.Seq.{getD-set-same, getD-set-other}
+use lib.Seq.{getD-set-same, getD-set-other, set-getD}
 use Rattle.definition.proofs.Basics.{upd-all, upd-other, upd-same}
-use Rattle.definition.specs.Basics.{Popped, behind, bit, popBack, upd}
+use Rattle.definition.specs.Basics.{Popped, behind, popBack, upd}
 use Rattle.definition.specs.Frame.{Found, Frame, Levels, free, levelAllocate, nothing, orElse, popFrom, popped, slot}
 use Rattle.definition.specs.World.{frameOf, levelOf, marksOf, noLinks, pagesOf, slotOf, walk}
 use Rattle.definition.specs.declared.Links.{Links}
 use Rattle.definition.specs.declared.Record.{Record}
 use Rattle.definition.specs.declared.Row.{Row}
 use Rattle.list.proofs.Count.{push-fits}
-use Rattle.list.proofs.Laws.{all-append, all-head, all-left, all-map, all-right, all-zip, linked-frame, linked-pages, out-last, pushed-linked}
-use Rattle.list.specs.Linked.{All, Apart, Linked, Out, Pushed, Taken}
+use Rattle.list.proofs.Laws.{all-append, all-head, all-left, all-map, all-right, all-zip, linked-frame, linked-pages, linked-sound, out-last, pushed-linked}
+use Rattle.list.specs.Linked.{All, Apart, Linked, Out, Pushed, Sound, Taken}
 use Rattle.list.specs.Linked.All.{all-more, all-none}
-use Rattle.region.specs.Rep.{Answers, Becomes, Inside, Listed, Loose, Rep, SoundRow, listUp, managed, pageOf, stateOf}
+use Rattle.region.specs.Rep.{Answers, Becomes, Inside, Listed, Loose, Rep, SoundRow, freeRecord, listUp, managed, pageOf, stateOf, withList}
 use Rattle.region.specs.declared.FoundPage.the-variants.{At, Nothing}
 use Rattle.region.specs.declared.Got.{Got}
 
@@ -83,7 +83,7 @@ module _
     (loose : Out p xs → Loose (g p)) (sub : (q : ℕ) → q ≢ p → Out q xs → Out q (s .free k))
   where
     abbrev w : Row
-    w = record { start = row .start; pages = row .pages; lists = set (row .lists) k r }
+    w = withList row k r
 
     abbrev t : Levels
     t = record { frames = fr; free = upd (s .free) k xs }
@@ -181,7 +181,7 @@ module _ {f : ℕ → Record} {n first : ℕ} {row : Row} {s : Levels} {k : ℕ}
     left-alone : (q : ℕ) → Out q (s .free k) → q ≢ p → g q ≡ f q
     left-alone q o m = T .others q (subst (λ (xs : List ℕ). Out q xs) (sym (linked-pages (R .lists k h))) o)
 
-    pub pop-page : Answers f first row g n (record { row = record { start = row .start; pages = row .pages; lists = set (row .lists) k r }; found = At p }) (popFrom s k)
+    pub pop-page : Answers f first row g n (record { row = withList row k r; found = At p }) (popFrom s k)
     pop-page =
         rw (popFrom-some s k rest p ends)
         (record {
@@ -254,51 +254,57 @@ module _
 slot-of-free : (l : ℕ) (z k : Bool) → slotOf (some (record { level = l; allocated = false; zeroed = z; kernel = k })) ≡ slot l z
 slot-of-free l z k = refl
 
+-- a list without the page p, where p's record changes
+pub linked-past : {f : ℕ → Record} {n : ℕ} {l : Links} {xs : List ℕ} (p : ℕ) (v : Record) → Linked f n l xs → Out p xs → Linked (upd f p v) n l xs
+linked-past {f = f} p v L o = linked-frame (all-map (λ q b. upd-other f p v q (λ e. b (sym e))) o) L
+
 module _
     {f : ℕ → Record} {n first : ℕ} {row : Row} {s : Levels} {p : ℕ} (l : ℕ) (z k : Bool)
     (R : Rep f n first row s) (i : Inside first (row .pages) p) (h : slot l z < 6) (o : (j : ℕ) → Out p (s .free j))
   where
-    abbrev rec : Record
-    rec = record { marks = 1 + 2 * 0 + 4 * bit z + 8 * bit k; level = l; earlier = 0; later = 0 }
-
     abbrev f1 : ℕ → Record
-    f1 = upd f p rec
+    f1 = upd f p (freeRecord l z k)
 
     abbrev x : Option Frame
     x = some (record { level = l; allocated = false; zeroed = z; kernel = k })
 
-    pub up-linked : Linked f1 n (getD (row .lists) (slot l z) noLinks) (s .free (slot l z))
-    up-linked = linked-frame (all-map (λ q b. upd-other f p rec q (λ e. b (sym e))) (o (slot l z))) (R .lists (slot l z) h)
+    abbrev old : Links
+    old = getD (row .lists) (slot l z) noLinks
 
-    pub up-inside : p < n
-    up-inside = omega (arith, R .fits, i .high)
+    linked : Linked f1 n old (s .free (slot l z))
+    linked = linked-past p (freeRecord l z k) (R .lists (slot l z) h) (o (slot l z))
 
-    pub up-small : (p + 1 < 2 ^ 32) × (getD (row .lists) (slot l z) noLinks .count + 1 < 2 ^ 32)
-    up-small = (
-      omega (arith, R .small, i .high),
-      omega
-          (arith, R .small, push-fits (R .lists (slot l z) h) (all-map (λ q a. a .inside .high) (R .listed (slot l z))) (i .high) (o (slot l z))),
+    -- what a push asks
+    pub up-asks : Sound f n old × ((p < n) × (Out p (pagesOf f old) × ((p + 1 < 2 ^ 32) × (old .count + 1 < 2 ^ 32))))
+    up-asks = (
+      linked-sound (R .lists (slot l z) h),
+      (
+        omega (arith, R .fits, i .high),
+        (
+          rw (linked-pages (R .lists (slot l z) h)) (o (slot l z)),
+          (
+            omega (arith, R .small, i .high),
+            omega
+                (arith, R .small, push-fits (R .lists (slot l z) h) (all-map (λ q a. a .inside .high) (R .listed (slot l z))) (i .high) (o (slot l z))),
+          ),
+        ),
+      ),
     )
-
-    pub up-out : Out p (pagesOf f1 (getD (row .lists) (slot l z) noLinks))
-    up-out = rw (linked-pages up-linked) (o (slot l z))
 
     marked : (q : ℕ) → Inside first (row .pages) q → f1 q .marks ≡ marksOf (upd (s .frames) p x q)
     marked =
-        upd-all (λ q r. Inside first (row .pages) q → r .marks ≡ marksOf (upd (s .frames) p x q)) f p rec (λ c. rw (upd-same (s .frames) p x) refl)
+        upd-all (λ q r. Inside first (row .pages) q → r .marks ≡ marksOf (upd (s .frames) p x q)) f p (freeRecord l z k) (λ c. rw (upd-same (s .frames) p x) refl)
         (λ q m. rw (upd-other (s .frames) p x q m) (R .marks q))
 
     leveled : (q : ℕ) → Inside first (row .pages) q → f1 q .level ≡ levelOf (upd (s .frames) p x q)
     leveled =
-        upd-all (λ q r. Inside first (row .pages) q → r .level ≡ levelOf (upd (s .frames) p x q)) f p rec (λ c. rw (upd-same (s .frames) p x) refl)
+        upd-all (λ q r. Inside first (row .pages) q → r .level ≡ levelOf (upd (s .frames) p x q)) f p (freeRecord l z k) (λ c. rw (upd-same (s .frames) p x) refl)
         (λ q m. rw (upd-other (s .frames) p x q m) (R .level q))
 
-    module _ {g : ℕ → Record} {r : Links} (T : Pushed f1 (getD (row .lists) (slot l z) noLinks) (p ∷ []) g n r) where
-      pub up
-          : Becomes f first row g n (record { start = row .start; pages = row .pages; lists = set (row .lists) (slot l z) r })
-          (listUp s p l z k)
+    module _ {g : ℕ → Record} {r : Links} (T : Pushed f1 old (p ∷ []) g n r) where
+      pub up : Becomes f first row g n (withList row (slot l z) r) (listUp s p l z k)
       up =
-          one-list R h i (pushed-linked T up-linked)
+          one-list R h i (pushed-linked T linked)
           (all-append
           (all-zip
           (λ q a b. record { slotted = rw (upd-other (s .frames) p x q (λ e. b (sym e))) (a .slotted); inside = a .inside })
@@ -307,10 +313,39 @@ module _
           (all-more (record { slotted = rw (upd-same (s .frames) p x) refl; inside = i }) all-none))
           (λ q c. T .marks q ∙ marked q c) (λ q c. T .level q ∙ leveled q c)
           (λ j m. o j)
-          (λ q a m. T .others q (rw (linked-pages up-linked) a) (all-more m all-none) ∙ upd-other f p rec q m)
+          (λ q a m. T .others q (rw (linked-pages linked) a) (all-more m all-none) ∙ upd-other f p (freeRecord l z k) q m)
           (λ q m. upd-other (s .frames) p x q m)
           (λ b. absurd (out-last (s .free (slot l z)) b refl))
           (λ q m b. all-left (s .free (slot l z)) _ b)
+
+-- ---- the list k is out of the row, and is put back once it has changed
+
+set-set : (xs : List Links) (k : ℕ) (a b : Links) → set (set xs k a) k b ≡ set xs k b
+set-set [] k a b = refl
+set-set (x ∷ xs) zero a b = refl
+set-set (x ∷ xs) (suc k) a b = ap (λ (ys : List Links). x ∷ ys) (set-set xs k a b)
+
+pub taken-out
+    : {f : ℕ → Record} {n first : ℕ} {row : Row} {s : Levels} (k : ℕ) → Rep f n first row s
+    → Becomes f first row f n (withList row k (getD (row .lists) k noLinks)) s
+taken-out {row = row} k R = rw (set-getD (row .lists) k noLinks) (stays R)
+
+module _
+    {f g : ℕ → Record} {n first : ℕ} {row : Row} {s : Levels} {old : Links} (l : ℕ) (z k : Bool)
+    (B : Becomes f first row g n (withList row (slot l z) old) s) (h : slot l z < 6) {p : ℕ} (i : Inside first (row .pages) p) (o : (j : ℕ) → Out p (s .free j))
+  where
+    ours : getD (set (row .lists) (slot l z) old) (slot l z) noLinks ≡ old
+    ours = getD-set-same (row .lists) (slot l z) old noLinks (omega (arith, length-set (row .lists) (slot l z) old, B .rep .six))
+
+    pub out-asks : l < 3 → Sound g n old × (((l < 3) × (p < n)) × (Out p (pagesOf g old) × ((p + 1 < 2 ^ 32) × (old .count + 1 < 2 ^ 32))))
+    out-asks m = let a = rw ours at (up-asks l z k (B .rep) i h o) in (a .0, ((m, a .1 .0), a .1 .1))
+
+    pub out-next
+        : {g1 : ℕ → Record} {r : Links} → Pushed (upd g p (freeRecord l z k)) old (p ∷ []) g1 n r
+        → Becomes f first row g1 n (withList row (slot l z) r) (listUp s p l z k)
+    out-next {g1} {r} T =
+        let U = up l z k (B .rep) i h o {g = g1} {r = r} (rw ours T) in
+        then B (rw (set-set (row .lists) (slot l z) old r) at U)
 
 -- ---- a frame that is on no list changes
 

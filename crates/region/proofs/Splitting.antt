@@ -100,8 +100,8 @@ module _ {s : Levels} {first pages page l : ℕ} (S : Splits s first pages page 
 
 -- all children, and then the first
 pub whole
-    : {f g h : ℕ → Record} {first n m : ℕ} {row r t : Row} (s : Levels) (page l : ℕ) (z : Bool) (i : ℕ)
-    → Becomes f first row g n r (children i s page l z) → i ≡ 511 → z ≡ isZeroed (s .frames page)
-    → Becomes g first r h m t (listUp (stateOf g r) page l z false) → Becomes f first row h m t (split s page l)
+    : {f g : ℕ → Record} {first n : ℕ} {row r : Row} (s : Levels) (page l : ℕ) (z : Bool) (i : ℕ)
+    → Becomes f first row g n r (listUp (children i s page l z) page l z false) → i ≡ 511 → z ≡ isZeroed (s .frames page)
+    → Becomes f first row g n r (split s page l)
 unfolding split
-whole s page l z i B e d C = rw (← e, ← d) (next B page l z false C)
+whole s page l z i B e d = rw (← e, ← d) B

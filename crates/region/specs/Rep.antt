@@ -7,12 +7,12 @@ use mathlib.Core.List.{List, [], _∷_}
 use mathlib.Core.Option.{Option, none, some}
 use mathlib.Core.Path.{_≡_}
 use mathlib.Core.Logic.{_≢_}
-use lib.ListN.{getD, length, replicate}
+use lib.ListN.{getD, set, length, replicate}
 use Rattle.address.specs.declared.PhysAddr.{PhysAddr}
 use Rattle.definition.specs.declared.Record.{Record}
 use Rattle.definition.specs.declared.Links.{Links}
 use Rattle.definition.specs.declared.Row.{Row}
-use Rattle.definition.specs.Basics.{upd}
+use Rattle.definition.specs.Basics.{bit, upd}
 use Rattle.definition.specs.Board.{standard}
 use Rattle.definition.specs.Frame.{Frame, Levels, Found, size, push, change, withAllocated, isAllocated, splitAndKeep, highest, organize}
 use Rattle.definition.specs.Allocator.{tablePages, contains}
@@ -78,6 +78,14 @@ pageOf (At p) = some p
 pub record Answers (f : ℕ → Record) (first : ℕ) (row : Row) (g : ℕ → Record) (n : ℕ) (r : Got) (a : Found) : Type 0 where
   pub became : Becomes f first row g n (r .row) (a .levels)
   pub found : pageOf (r .found) ≡ a .page
+
+-- a row with another list k
+abbrev pub withList : Row → ℕ → Links → Row
+withList row k l = record { start = row .start; pages = row .pages; lists = set (row .lists) k l }
+
+-- the record of a free frame that is on no list yet
+abbrev pub freeRecord : (level : ℕ) → (zeroed kernel : Bool) → Record
+freeRecord l z k = record { marks = 1 + 2 * 0 + 4 * bit z + 8 * bit k; level = l; earlier = 0; later = 0 }
 
 -- a frame that is free is put on the back of its list
 abbrev pub listUp : Levels → ℕ → ℕ → Bool → Bool → Levels

@@ -6,11 +6,13 @@ use definition::Links;
 use definition::Record;
 use definition::Row;
 use list::Popped;
+ghost use mathlib.Core.List.{[], _∷_};
 ghost use mathlib.Core.Path.{_≡_};
 ghost use Prim.Native.Nat.{ℕ, _+_, _-_, _*_, _/_, _%_, _≤_, _<_, _^_};
 ghost use Rattle.definition.specs.Board.{standard};
 ghost use Rattle.definition.specs.Allocator.{tablePages};
-ghost use Rattle.definition.specs.World.{recordAt};
+ghost use Rattle.definition.specs.Basics.{upd};
+ghost use Rattle.definition.specs.World.{recordAt, pagesOf};
 ghost use Rattle.definition.specs.Frame.{
   popFrom,
   doAllocate,
@@ -22,7 +24,7 @@ ghost use Rattle.definition.specs.Frame.{
   split as «split_def»,
 };
 ghost use Rattle.record.specs.Records.{pagesIn};
-ghost use Rattle.list.specs.Linked.{Out};
+ghost use Rattle.list.specs.Linked.{Out, Pushed, Sound};
 ghost use Rattle.region.specs.Rep.{
   Inside,
   managed,
@@ -35,6 +37,7 @@ ghost use Rattle.region.specs.Rep.{
   Becomes,
   Answers,
   stateOf,
+  freeRecord,
   listUp,
   keptLevels,
   markedLevels,
@@ -118,6 +121,35 @@ fn level_allocate(
     }
 }
 
+// A free frame's record at the page, and the page on the back of a list. It takes the one list, and not the row, so that 512 in turn copy little.
+fn admit(
+    records: &mut [u8],
+    list: Links,
+    page: usize,
+    level: usize,
+    zeroed: bool,
+    kernel: bool,
+) -> Links
+    requires { ⌜ Sound (recordAt (now records)) (pagesIn (now records)) list ⌝ }
+    requires { ⌜ (level < 3) × (page < pagesIn (now records)) ⌝ }
+    requires { ⌜ Out page (pagesOf (recordAt (now records)) list) ⌝ }
+    requires { ⌜ (page + 1 < 2 ^ 32) × (list .count + 1 < 2 ^ 32) ⌝ }
+    ensures { λ r. ⌜ Pushed (upd (recordAt (now (records .entry))) page (freeRecord level zeroed kernel)) list (page ∷ []) (recordAt (now (records .exit))) (pagesIn (now (records .exit))) r ⌝ }
+{
+    let marks = record::free_marks(zeroed, kernel);
+    record::store(
+        records,
+        page,
+        Record {
+            marks,
+            level: level as u32,
+            earlier: 0,
+            later: 0,
+        },
+    );
+    list::push_back(records, list, page)
+}
+
 // AllocationRegionLevel::admit_one and free, frame.rs 127 and 97: a free frame at the page, on the back of its list.
 fn push(
     records: &mut [u8],
@@ -133,20 +165,9 @@ fn push(
     requires { ⌜ ((k : ℕ) → Out page (stateOf (recordAt (now records)) row .free k)) ⌝ }
     ensures { λ r. ⌜ Becomes (recordAt (now (records .entry))) first row (recordAt (now (records .exit))) (pagesIn (now (records .exit))) r (listUp (stateOf (recordAt (now (records .entry))) row) page level zeroed kernel) ⌝ }
 {
-    let marks = record::free_marks(zeroed, kernel);
-    record::store(
-        records,
-        page,
-        Record {
-            marks,
-            level: level as u32,
-            earlier: 0,
-            later: 0,
-        },
-    );
     let k = slot(level, zeroed);
     let l = row.lists[k];
-    let longer = list::push_back(records, l, page);
+    let longer = admit(records, l, page, level, zeroed, kernel);
     let mut r = row;
     r.lists[k] = longer;
     r
@@ -160,21 +181,17 @@ fn split(records: &mut [u8], first: usize, row: Row, page: usize, level: usize) 
 {
     let zeroed = record::is_zeroed(record::marks(records, page));
     let step = level::pages_at(level);
-    let mut r = row;
+    let k = slot(level, zeroed);
+    let mut l = row.lists[k];
     let mut i: usize = 0;
     while i < 511 {
-        r = push(
-            records,
-            first,
-            r,
-            page + (i + 1) * step,
-            level,
-            zeroed,
-            false,
-        );
+        l = admit(records, l, page + (i + 1) * step, level, zeroed, false);
         i += 1;
     }
-    push(records, first, r, page, level, zeroed, false)
+    let all = admit(records, l, page, level, zeroed, false);
+    let mut r = row;
+    r.lists[k] = all;
+    r
 }
 
 // AllocationRegion::do_allocate, frame.rs 182: where the level has none, one of the next larger level is split.

@@ -4,6 +4,7 @@ use mathlib.Core.Bool.{Bool, true, false, cond}
 use mathlib.Core.List.{List, [], _∷_}
 use mathlib.Core.Logic.{inl, inr}
 use mathlib.Core.Path.{_≡_, refl, sym, ap, _∙_, subst}
+use native.Mathlib.Nat.{mod-one}
 use native.Mathlib.Omega.{arith}
 use native.Mathlib.Decide.{ℕ-discrete, decLe, decLt}
 use borrow.Author.Tests.{eq-eqb, eqb-true, ltb-true, leb-true, lt-ltb, le-leb, lt-leb}
@@ -15,7 +16,7 @@ use Rattle.definition.specs.World.{isAdmitted}
 use Rattle.definition.specs.Torn.{Records, isBlank, pagesOfRecord, headsFrom}
 use Rattle.definition.proofs.Tests.{and-left, and-right, range-in}
 use Rattle.level.proofs.Sizes.{size-positive}
-use Rattle.scan.specs.Sheet.{headAt}
+use Rattle.scan.specs.Sheet.{headAt, headPages}
 use Rattle.scan.proofs.Pigeon.{Mem, Distinct}
 
 -- ---- one head
@@ -58,6 +59,38 @@ module _ (f : Records) (from base past h : ℕ) where
         eq-eqb ((from + (h - base)) % size (f h .level)) 0 g,
         le-leb (h + size (f h .level)) past e,
       )
+
+  -- a frame of one page has nothing inside
+  pub head-small : f h .marks % 2 ≡ 1 → f h .marks < 16 → f h .level ≡ 0 → h < past → headAt f from base past h ≡ true
+  unfolding all range
+  head-small a k z l =
+      let one : size (f h .level) ≡ 1 = ap size z in
+      head-rest a k (omega arith) (rw one (mod-one (from + (h - base)))) (omega arith) ∙ rw one
+
+  -- ---- its pages
+
+  pub pages-none : false ≡ headAt f from base past h → 0 ≡ headPages f from base past h
+  unfolding headPages
+  pages-none e = rw (← e)
+
+  pub pages-some : headAt f from base past h ≡ true → size (f h .level) ≡ headPages f from base past h
+  unfolding headPages
+  pages-some e = rw e
+
+  pub none-pages : headPages f from base past h ≡ 0 → headAt f from base past h ≡ false
+  unfolding headPages
+  none-pages e = go (headAt f from base past h) refl
+    where
+      go : (t : Bool) → headAt f from base past h ≡ t → headAt f from base past h ≡ false
+      go true d = absurd (omega (arith, size-positive (f h .level), pages-some d))
+      go false d = d
+
+  pub some-pages : (headPages f from base past h ≡ 0 → ⊥) → headAt f from base past h ≡ true
+  some-pages n = go (headAt f from base past h) refl
+    where
+      go : (t : Bool) → headAt f from base past h ≡ t → headAt f from base past h ≡ true
+      go true d = d
+      go false d = absurd (n (sym (pages-none (sym d))))
 
 pub pages-small : (r : Record) → r .level < 3 → pagesOfRecord r ≡ size (r .level)
 pages-small r l = rw (lt-ltb (r .level) levels l)

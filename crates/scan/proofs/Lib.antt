@@ -5,5 +5,6 @@ pub mod Nodes
 pub mod Ends
 pub mod Tallies
 pub mod Scanning
+pub mod Pages
 pub mod Listings
 pub mod Rows

@@ -1,9 +1,9 @@
 -- Where a region is tiled and its lists walk, every unheld head is on its list just where each list has as many nodes as there are
--- heads that belong on it: the nodes are such heads, and no two are one.
+-- heads that belong on it: the nodes are such heads, and no two are one. More than that no list has.
 use Prim.Native.Nat.{ℕ, _-_, _/_, _%_, _≤_, _<_}
 use mathlib.Core.Bool.{Bool, true, false, not, _&&_, _||_}
 use mathlib.Core.List.{List, [], reverseAux}
-use mathlib.Core.Path.{_≡_, refl, sym, _∙_, subst}
+use mathlib.Core.Path.{_≡_, refl, subst}
 use native.Mathlib.Omega.{arith}
 use borrow.Author.Tests.{eq-eqb, ne-eqb, eqb-true, not-true}
 use lib.Dec.{eqb}
@@ -12,11 +12,12 @@ use Rattle.definition.specs.declared.Links.{Links}
 use Rattle.definition.specs.Basics.{all, range, member}
 use Rattle.definition.specs.World.{noLinks, walk, pagesOf}
 use Rattle.definition.specs.Torn.{Records, isHeldRecord, classOf}
-use Rattle.definition.proofs.Tests.{same-test, and-left, and-right, and-true, range-in, in-range}
-use Rattle.scan.specs.Sheet.{headAt, headsOf, tiledAt, unheldAt, listAt, listedAt, fullAt, walksAt}
+use Rattle.definition.proofs.Tests.{and-left, and-right, range-in}
+use Rattle.scan.specs.Sheet.{headAt, headsOf, tiledAt, listAt, listedAt, walksAt}
 use Rattle.scan.proofs.Pigeon.{Mem, Distinct, pigeon, fewer}
 use Rattle.scan.proofs.Members.{or-else, or-right, all-in, in-all, mem-member, member-mem, keep, sum-keep, kept, keeps, keep-distinct}
 use Rattle.scan.proofs.Heads.{head-facts, Steps, steps-of, steps-distinct, admitted-head}
+use Rattle.scan.proofs.Pages.{unheldAt}
 use Rattle.scan.proofs.Nodes.{Met, walks-met, walks-distinct, walk-length, mem-back}
 
 -- an unheld head that belongs on the list k
@@ -74,53 +75,48 @@ module _ (f : Records) (from base past : ℕ) (tiled : tiledAt f from base past 
         mem-back h nodes
         (pigeon back (keep (belongs f k) hs) back-distinct back-kept (omega (arith, back-length, kept-length)) h (keeps (belongs f k) h hs b m))
 
+    pub lists-most : l .count ≤ unheldAt k f base past
+    lists-most = omega (arith, fewer back (keep (belongs f k) hs) back-distinct back-kept, back-length, kept-length)
+
     -- every one is: as many
     pub lists-full : ((h : ℕ) → Mem h hs → belongs f k h ≡ true → Mem h (pagesOf f l)) → l .count ≡ unheldAt k f base past
     unfolding pagesOf
     lists-full every =
-        let up : length back ≤ length (keep (belongs f k) hs) = fewer back (keep (belongs f k) hs) back-distinct back-kept in
         let down : length (keep (belongs f k) hs) ≤ length nodes =
         fewer (keep (belongs f k) hs) nodes (keep-distinct (belongs f k) hs (steps-distinct f past base hs steps))
         (λ x m. let p = kept (belongs f k) x hs m in every x (p .0) (p .1)) in
-        omega (arith, back-length, kept-length, walk-length f (l .count) (l .front))
+        omega (arith, lists-most, kept-length, walk-length f (l .count) (l .front))
 
   -- ---- the six
 
-  module _ (lists : List Links) (tally : List ℕ) (counted : (k : ℕ) → k < 6 → getD tally k 0 ≡ unheldAt k f base past) where
+  module _ (lists : List Links) (w : all (listAt f base past lists) (range 0 6) ≡ true) where
     abbrev at : ℕ → Links
     at k = getD lists k noLinks
 
     abbrev onList : ℕ → Bool
     onList h = isHeldRecord (f h) || member h (pagesOf f (at (classOf (f h))))
 
-    abbrev full : ℕ → Bool
-    full = fullAt f base past lists tally
+    walks : (k : ℕ) → k < 6 → listAt f base past lists k ≡ true
+    walks k l = range-in (listAt f base past lists) 0 6 w k (omega arith) (omega arith)
 
-    onto : (all (listAt f base past lists) (range 0 6) && listedAt f lists base past) ≡ true → all full (range 0 6) ≡ true
+    pub at-most : (k : ℕ) → k < 6 → at k .count ≤ unheldAt k f base past
+    at-most k l = lists-most k (at k) (walks k l)
+
+    -- every unheld head is on its list: as many nodes as there are such heads
+    pub listed-counts : listedAt f lists base past ≡ true → (k : ℕ) → k < 6 → at k .count ≡ unheldAt k f base past
     unfolding listedAt
-    onto t = in-range full 0 6 (λ k a b.
-        let w = range-in (listAt f base past lists) 0 6 (and-left _ _ t) k a b in
-        let every : (h : ℕ) → Mem h hs → belongs f k h ≡ true → Mem h (pagesOf f (at k)) =
-        λ h m o.
+    listed-counts t k l =
+        lists-full k (at k) (walks k l) (λ h m o.
         let c = eqb-true (classOf (f h)) k (and-right (not (isHeldRecord (f h))) _ o) in
-        let q = all-in onList hs (and-right (all (listAt f base past lists) (range 0 6)) _ t) h m in
+        let q = all-in onList hs t h m in
         subst (λ (j : ℕ). Mem h (pagesOf f (at j))) c
-        (member-mem h (pagesOf f (at (classOf (f h)))) (or-right (isHeldRecord (f h)) _ q (not-true (isHeldRecord (f h)) (and-left _ _ o)))) in
-        and-true w (eq-eqb (at k .count) (getD tally k 0) (lists-full k (at k) w every ∙ sym (counted k (omega arith)))))
+        (member-mem h (pagesOf f (at (classOf (f h)))) (or-right (isHeldRecord (f h)) _ q (not-true (isHeldRecord (f h)) (and-left _ _ o)))))
 
-    from-full : all full (range 0 6) ≡ true → (all (listAt f base past lists) (range 0 6) && listedAt f lists base past) ≡ true
+    pub counts-listed : ((k : ℕ) → k < 6 → at k .count ≡ unheldAt k f base past) → listedAt f lists base past ≡ true
     unfolding listedAt
-    from-full t =
-        and-true
-        (in-range (listAt f base past lists) 0 6 (λ k a b. and-left _ _ (range-in full 0 6 t k a b)))
-        (in-all onList hs (λ h m. or-else (isHeldRecord (f h)) _ (λ e.
+    counts-listed c =
+        in-all onList hs (λ h m. or-else (isHeldRecord (f h)) _ (λ e.
         let d = head-facts f from base past h (all-in (headAt f from base past) hs all-heads h m) in
         let small : classOf (f h) < 6 = omega (arith, d .level) in
-        let q = range-in full 0 6 t (classOf (f h)) (omega arith) small in
-        let w = and-left (listAt f base past lists (classOf (f h))) _ q in
-        let c = eqb-true (at (classOf (f h)) .count) (getD tally (classOf (f h)) 0) (and-right (listAt f base past lists (classOf (f h))) _ q) in
         mem-member h (pagesOf f (at (classOf (f h))))
-        (full-lists (classOf (f h)) (at (classOf (f h))) w (c ∙ counted (classOf (f h)) small) h m (unheld-belongs f h e)))))
-
-    pub listed-full : all full (range 0 6) ≡ (all (listAt f base past lists) (range 0 6) && listedAt f lists base past)
-    listed-full = same-test from-full onto
+        (full-lists (classOf (f h)) (at (classOf (f h))) (walks (classOf (f h)) small) (c (classOf (f h)) small) h m (unheld-belongs f h e))))

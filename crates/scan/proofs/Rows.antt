@@ -3,13 +3,13 @@ use Prim.Native.Nat.{ℕ, zero, suc, _-_}
 use mathlib.Core.Bool.{Bool, true, false, _&&_, false≢true}
 use mathlib.Core.List.{List}
 use mathlib.Core.Path.{_≡_, refl, sym, ap, _∙_, subst, fun-ext}
-use lib.ListN.{getD}
+use native.Mathlib.Omega.{arith}
 use Rattle.definition.specs.Board.{standard}
 use Rattle.definition.specs.Basics.{all, sum, range}
 use Rattle.definition.specs.Allocator.{first}
 use Rattle.definition.specs.World.{bareRegion}
-use Rattle.definition.specs.Torn.{Placed, Records, past as pastOf, isNode, walks, linksAt, tiled, heldAlone, listsWalk, unheldListed, heldPages}
-use Rattle.definition.proofs.Tests.{and-left, and-right}
+use Rattle.definition.specs.Torn.{Placed, Records, past as pastOf, isNode, walks, linksAt, listedPages, tiled, heldAlone, listsWalk, unheldListed, heldPages}
+use Rattle.definition.proofs.Tests.{same-test, and-left, and-right, and-true}
 use Rattle.scan.specs.declared.Scanned.{Scanned}
 use Rattle.scan.specs.Sheet.{
   tiledRow,
@@ -26,12 +26,12 @@ use Rattle.scan.specs.Sheet.{
   walksAt,
   listAt,
   listedAt,
-  fullAt,
   Tallied,
   Audited,
 }
-use Rattle.scan.proofs.Members.{all-both}
-use Rattle.scan.proofs.Listings.{listed-full}
+use Rattle.scan.proofs.Members.{refuse, all-both}
+use Rattle.scan.proofs.Pages.{unheldAt, pagesOfSix, listed-six, six-same, same-six, region-pages}
+use Rattle.scan.proofs.Listings.{at-most, listed-counts, counts-listed}
 
 -- ---- the world's clauses, row by row
 
@@ -112,30 +112,72 @@ module _ (f : Records) (x : Placed) where
         go false b d = refl
 
     pub torn-heads : r .ok ≡ false → Audited f x (record { ok = false; page = 0; kernel = 0 })
-    torn-heads e = record { exact = heads-torn e; page = λ z. absurd (false≢true z); kernel = λ z. absurd (false≢true z) }
+    torn-heads e =
+        record {
+          exact = heads-torn e;
+          page = λ z. absurd (false≢true z);
+          kernel = λ z. absurd (false≢true z);
+          pages = λ z. absurd (false≢true z);
+        }
 
     module _ (ok : r .ok ≡ true) where
       both : (tiledAt f from (x .base) past && aloneAt f (x .base) past) ≡ true
       both = sym (t .exact) ∙ ok
 
-      row-test : all (fullAt f (x .base) past (x .row .lists) (r .tally)) (range 0 6) ≡ wholeRow f x
-      row-test =
-          let a : tiledAt f from (x .base) past ≡ true = and-left _ _ both in
+      is-tiled : tiledAt f from (x .base) past ≡ true
+      is-tiled = and-left _ _ both
+
+      -- the lists decide what is left of the sheet
+      lists-decide : (all (listAt f (x .base) past (x .row .lists)) (range 0 6) && listedAt f (x .row .lists) (x .base) past) ≡ wholeRow f x
+      lists-decide =
           let b : aloneAt f (x .base) past ≡ true = and-right (tiledAt f from (x .base) past) _ both in
-          listed-full f from (x .base) past a (x .row .lists) (r .tally) (t .unheld ok)
-          ∙ ap (λ (c : Bool). c && listedAt f (x .row .lists) (x .base) past) lists-at
+          ap (λ (c : Bool). c && listedAt f (x .row .lists) (x .base) past) lists-at
           ∙ ap (λ (c : Bool). walksRow f x && c) listed-at
           ∙ sym
-          (ap (λ (c : Bool). c && (aloneRow f x && (walksRow f x && listedRow f x))) (sym tiled-at ∙ a)
+          (ap (λ (c : Bool). c && (aloneRow f x && (walksRow f x && listedRow f x))) (sym tiled-at ∙ is-tiled)
           ∙ ap (λ (c : Bool). c && (walksRow f x && listedRow f x)) (sym alone-at ∙ b))
 
-      pub torn-lists : all (fullAt f (x .base) past (x .row .lists) (r .tally)) (range 0 6) ≡ false
-          → Audited f x (record { ok = false; page = 0; kernel = 0 })
-      torn-lists e = record { exact = sym e ∙ row-test; page = λ z. absurd (false≢true z); kernel = λ z. absurd (false≢true z) }
+      -- the pages that belong on lists are those that nobody holds
+      unheld-pages : pagesOfSix (λ k. unheldAt k f (x .base) past) ≡ past - x .base - r .page - r .kernel
+      unheld-pages = omega (arith, region-pages f from (x .base) past is-tiled (omega arith), t .page ok, t .kernel ok)
 
-      pub whole-row : all (fullAt f (x .base) past (x .row .lists) (r .tally)) (range 0 6) ≡ true
-          → Audited f x (record { ok = true; page = getD (r .tally) 6 0; kernel = getD (r .tally) 7 0 })
-      whole-row e = record { exact = sym e ∙ row-test; page = λ z. t .page ok ∙ held-at false; kernel = λ z. t .kernel ok ∙ held-at true }
+      module _ (w : all (listAt f (x .base) past (x .row .lists)) (range 0 6) ≡ true) where
+        full-listed : listedPages x ≡ past - x .base - r .page - r .kernel → listedAt f (x .row .lists) (x .base) past ≡ true
+        full-listed e =
+            counts-listed f from (x .base) past is-tiled (x .row .lists) w
+            (six-same (λ k. linksAt x k .count) (λ k. unheldAt k f (x .base) past)
+            (at-most f from (x .base) past is-tiled (x .row .lists) w)
+            (sym (listed-six x) ∙ e ∙ sym unheld-pages))
+
+        listed-full : listedAt f (x .row .lists) (x .base) past ≡ true → listedPages x ≡ past - x .base - r .page - r .kernel
+        listed-full l =
+            listed-six x
+            ∙ same-six (λ k. linksAt x k .count) (λ k. unheldAt k f (x .base) past) (listed-counts f from (x .base) past is-tiled (x .row .lists) w l)
+            ∙ unheld-pages
+
+      pub torn-pages : (listedPages x ≡ past - x .base - r .page - r .kernel → ⊥) → Audited f x (record { ok = false; page = 0; kernel = 0 })
+      torn-pages n =
+          record {
+            exact = refuse (λ e.
+                let d = lists-decide ∙ e in
+                n (listed-full (and-left _ _ d) (and-right (all (listAt f (x .base) past (x .row .lists)) (range 0 6)) _ d)));
+            page = λ z. absurd (false≢true z);
+            kernel = λ z. absurd (false≢true z);
+            pages = λ z. absurd (false≢true z);
+          }
+
+      pub by-lists : listedPages x ≡ past - x .base - r .page - r .kernel → (b : Bool) → b ≡ all (listAt f (x .base) past (x .row .lists)) (range 0 6)
+          → Audited f x (record { ok = b; page = r .page; kernel = r .kernel })
+      by-lists e b q =
+          record {
+            exact =
+                same-test
+                (λ h. sym lists-decide ∙ and-true (sym q ∙ h) (full-listed (sym q ∙ h) e))
+                (λ h. q ∙ and-left _ _ (lists-decide ∙ h));
+            page = λ z. t .page ok ∙ held-at false;
+            kernel = λ z. t .kernel ok ∙ held-at true;
+            pages = λ z. omega (arith, t .few ok);
+          }
 
 -- the scan of a region that is given by numbers
 pub placed-tally : (f : Records) (x : Placed) (from past : ℕ) (r : Scanned)
@@ -144,7 +186,6 @@ pub placed-tally : (f : Records) (x : Placed) (from past : ℕ) (r : Scanned)
 placed-tally f x from past r a b t =
     subst (λ (p : ℕ). Tallied f (first standard (bareRegion standard (x .row))) (x .base) p r) b (subst (λ (n : ℕ). Tallied f n (x .base) past r) a t)
 
-pub placed-full : (f : Records) (x : Placed) (past : ℕ) (tally : List ℕ) (b : Bool) → past ≡ pastOf standard x
-    → all (fullAt f (x .base) past (x .row .lists) tally) (range 0 6) ≡ b
-    → all (fullAt f (x .base) (pastOf standard x) (x .row .lists) tally) (range 0 6) ≡ b
-placed-full f x past tally b e h = subst (λ (p : ℕ). all (fullAt f (x .base) p (x .row .lists) tally) (range 0 6) ≡ b) e h
+pub placed-walks : (f : Records) (x : Placed) (past : ℕ) (b : Bool) → past ≡ pastOf standard x
+    → b ≡ all (listAt f (x .base) past (x .row .lists)) (range 0 6) → b ≡ all (listAt f (x .base) (pastOf standard x) (x .row .lists)) (range 0 6)
+placed-walks f x past b e h = subst (λ (p : ℕ). b ≡ all (listAt f (x .base) p (x .row .lists)) (range 0 6)) e h

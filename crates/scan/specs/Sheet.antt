@@ -1,6 +1,6 @@
 -- The torn sheet of one placed row: each clause of `Torn` over the rows is `all` over the clause here. The code gets the region by numbers: `from` is
 -- the page frame number of its first managed page, `base` that page's number in the records, `past` the number behind its last.
-use Prim.Native.Nat.{ℕ, zero, suc, _+_, _-_, _*_, _/_, _%_, _<_}
+use Prim.Native.Nat.{ℕ, zero, suc, _+_, _-_, _%_, _≤_}
 use mathlib.Core.Bool.{Bool, true, false, not, cond, _&&_, _||_}
 use mathlib.Core.List.{List}
 use mathlib.Core.Path.{_≡_}
@@ -12,8 +12,23 @@ use Rattle.definition.specs.declared.Row.{Row}
 use Rattle.definition.specs.Board.{standard}
 use Rattle.definition.specs.Basics.{all, sum, range, member}
 use Rattle.definition.specs.Frame.{size, levels}
-use Rattle.definition.specs.World.{isAdmitted, noLinks, pagesOf}
-use Rattle.definition.specs.Torn.{Placed, Records, headsFrom, heads, isBlank, isHead, isHeldRecord, aloneIfHeld, classOf, listWalks, onItsList, heldAs}
+use Rattle.definition.specs.Allocator.{managed}
+use Rattle.definition.specs.World.{isAdmitted, noLinks, pagesOf, bareRegion}
+use Rattle.definition.specs.Torn.{
+  Placed,
+  Records,
+  headsFrom,
+  heads,
+  isBlank,
+  isHead,
+  isHeldRecord,
+  aloneIfHeld,
+  classOf,
+  listWalks,
+  onItsList,
+  listedPages,
+  heldAs,
+}
 use Rattle.scan.specs.declared.Scanned.{Scanned}
 use Rattle.scan.specs.declared.Whole.{Whole}
 
@@ -51,6 +66,14 @@ headAt f from base past h =
     && (eqb ((from + (h - base)) % size (f h .level)) 0
     && (leb (h + size (f h .level)) past && all (λ q. isBlank (f q)) (range (h + 1) (size (f h .level) - 1))))))
 
+-- the pages of a head, 0 where there is none
+unfoldable pub headPages : Records → (from base past h : ℕ) → ℕ
+headPages f from base past h = cond (headAt f from base past h) (size (f h .level)) 0
+
+-- the neighbours 0 of a held head
+abbrev pub alone : Record → Bool
+alone r = eqb (r .earlier) 0 && eqb (r .later) 0
+
 abbrev pub headsOf : Records → (base past : ℕ) → List ℕ
 headsOf f base past = headsFrom f (past - base) base past
 
@@ -62,13 +85,6 @@ aloneAt f base past = all (λ h. aloneIfHeld (f h)) (headsOf f base past)
 
 unfoldable pub heldAt : Bool → Records → (base past : ℕ) → ℕ
 heldAt kernel f base past = sum (λ h. heldAs kernel (f h)) (headsOf f base past)
-
--- 1 for an unheld head that belongs on the list k
-abbrev pub unheldAs : ℕ → Record → ℕ
-unheldAs k r = cond (not (isHeldRecord r) && eqb (classOf r) k) 1 0
-
-unfoldable pub unheldAt : ℕ → Records → (base past : ℕ) → ℕ
-unheldAt k f base past = sum (λ h. unheldAs k (f h)) (headsOf f base past)
 
 -- the number `at` names an unheld frame of the region and the list k
 unfoldable pub onAt : Records → (base past k at : ℕ) → Bool
@@ -98,29 +114,18 @@ listAt f base past lists k =
 unfoldable pub listedAt : Records → List Links → (base past : ℕ) → Bool
 listedAt f lists base past = all (λ h. isHeldRecord (f h) || member h (pagesOf f (getD lists (classOf (f h)) noLinks))) (headsOf f base past)
 
--- the place of a head in a tally, by its marks and level: that of its list where it is unheld, else 6, or 7 with KERNEL
-unfoldable pub placeOf : ℕ → ℕ → ℕ
-placeOf m l = cond (eqb (m / 2 % 2) 1) (6 + m / 8 % 2) (l * 2 + m / 4 % 2)
-
--- what a head adds there, by its marks and pages: 1 where it is unheld, else its pages
-unfoldable pub shareOf : ℕ → ℕ → ℕ
-shareOf m pages = cond (eqb (m / 2 % 2) 1) pages 1
-
 -- ---- what the functions answer
 
--- whether the heads are as the sheet says, and if so the unheld ones of each list, and the pages held without and with KERNEL
+-- whether the heads are as the sheet says, and if so the pages held without and with KERNEL
 pub record Tallied (f : Records) (from base past : ℕ) (r : Scanned) : Type 0 where
   pub exact : r .ok ≡ (tiledAt f from base past && aloneAt f base past)
-  pub unheld : r .ok ≡ true → (k : ℕ) → k < 6 → getD (r .tally) k 0 ≡ unheldAt k f base past
-  pub page : r .ok ≡ true → getD (r .tally) 6 0 ≡ heldAt false f base past
-  pub kernel : r .ok ≡ true → getD (r .tally) 7 0 ≡ heldAt true f base past
+  pub page : r .ok ≡ true → r .page ≡ heldAt false f base past
+  pub kernel : r .ok ≡ true → r .kernel ≡ heldAt true f base past
+  pub few : r .ok ≡ true → r .page + r .kernel ≤ past - base
 
--- list k walks, and has as many nodes as the tally says
-abbrev pub fullAt : Records → (base past : ℕ) → List Links → List ℕ → ℕ → Bool
-fullAt f base past lists tally k = listAt f base past lists k && eqb (getD lists k noLinks .count) (getD tally k 0)
-
--- whether a row's region is whole, and if so the pages held without and with KERNEL
+-- whether a row's region is whole, and if so the pages held without and with KERNEL, which with those on its lists are all that it manages
 pub record Audited (f : Records) (x : Placed) (r : Whole) : Type 0 where
   pub exact : r .ok ≡ wholeRow f x
   pub page : r .ok ≡ true → r .page ≡ heldRow false f x
   pub kernel : r .ok ≡ true → r .kernel ≡ heldRow true f x
+  pub pages : r .ok ≡ true → listedPages x + r .page + r .kernel ≡ managed standard (bareRegion standard (x .row))

@@ -3,68 +3,69 @@
 // first managed page, `base` that page's number in the records, `past` the number behind its last.
 use definition::Links;
 use definition::Row;
-ghost use mathlib.Core.Bool.{_&&_};
+ghost use mathlib.Core.Bool.{false};
 ghost use mathlib.Core.Path.{_≡_};
-ghost use Prim.Native.Nat.{_+_, _-_, _*_, _/_, _%_, _≤_, _<_, _^_};
-ghost use lib.Dec.{eqb};
+ghost use Prim.Native.Nat.{_+_, _-_, _≤_, _<_, _^_};
 ghost use Rattle.definition.specs.Board.{standard};
 ghost use Rattle.definition.specs.Basics.{all, range};
-ghost use Rattle.definition.specs.Frame.{levels};
 ghost use Rattle.definition.specs.Allocator.{first};
 ghost use Rattle.definition.specs.World.{recordAt, bareRegion};
-ghost use Rattle.definition.specs.Torn.{past as pastOf, aloneIfHeld};
+ghost use Rattle.definition.specs.Torn.{past as pastOf, listedPages};
 ghost use Rattle.record.specs.Records.{pagesIn};
 ghost use Rattle.scan.specs.Sheet.{
   placedAt,
-  headAt,
+  headPages,
+  alone,
   onAt,
   nodeAt,
   backNodeAt,
   walksAt,
-  placeOf,
-  shareOf,
-  fullAt,
+  listAt,
   Tallied,
   Audited,
 };
 
 // ---- the heads
 
-// "ADMITTED, aligned heads of level 0 to 2 with no mark bits but those named, .. zeros inside".
-fn is_head(records: &[u8], from: usize, base: usize, past: usize, h: usize) -> bool
+// "ADMITTED, aligned heads of level 0 to 2 with no mark bits but those named, .. zeros inside": the pages of such a head, 0 where there is none. A frame of
+// one page is aligned and has nothing inside, and is told apart by a branch of its own, so that the step to the next head waits for no load.
+fn head_pages(records: &[u8], from: usize, base: usize, past: usize, h: usize) -> usize
     requires { ⌜ (base ≤ h) × (h < past) × (past ≤ pagesIn (now records)) × (from + (past - base) < 2 ^ 64) ⌝ }
-    ensures { λ r. ⌜ r ≡ headAt (recordAt (now (records .entry))) from base past h ⌝ }
+    ensures { λ r. ⌜ r ≡ headPages (recordAt (now (records .entry))) from base past h ⌝ }
 {
     let marks = record::marks(records, h);
     if !record::is_admitted(marks) {
-        return false;
+        return 0;
     }
     if 16 <= marks {
-        return false;
+        return 0;
     }
     let level = record::level(records, h);
+    if level == 0 {
+        return 1;
+    }
     if 3 <= level {
-        return false;
+        return 0;
     }
     let pages = level::pages_at(level as usize);
     if (from + (h - base)) % pages != 0 {
-        return false;
+        return 0;
     }
     if past - h < pages {
-        return false;
+        return 0;
     }
-    record::is_clear(records, h + 1, pages - 1)
+    if record::is_clear(records, h + 1, pages - 1) {
+        pages
+    } else {
+        0
+    }
 }
 
 // "held heads have neighbours 0".
 fn is_alone(records: &[u8], h: usize) -> bool
     requires { ⌜ h < pagesIn (now records) ⌝ }
-    ensures { λ r. ⌜ r ≡ aloneIfHeld (recordAt (now (records .entry)) h) ⌝ }
+    ensures { λ r. ⌜ r ≡ alone (recordAt (now (records .entry)) h) ⌝ }
 {
-    let marks = record::marks(records, h);
-    if !record::is_allocated(marks) {
-        return true;
-    }
     let earlier = record::earlier(records, h);
     if earlier != 0 {
         return false;
@@ -73,76 +74,54 @@ fn is_alone(records: &[u8], h: usize) -> bool
     later == 0
 }
 
-// Both tests of a head.
-fn is_good(records: &[u8], from: usize, base: usize, past: usize, h: usize) -> bool
-    requires { ⌜ (base ≤ h) × (h < past) × (past ≤ pagesIn (now records)) × (from + (past - base) < 2 ^ 64) ⌝ }
-    ensures { λ r. ⌜ r ≡ headAt (recordAt (now (records .entry))) from base past h && aloneIfHeld (recordAt (now (records .entry)) h) ⌝ }
-{
-    if is_head(records, from, base, past, h) {
-        return is_alone(records, h);
-    }
-    false
-}
-
-// The list that an unheld head belongs on.
-fn class(marks: u32, level: u32) -> usize
-    ensures { λ r. ⌜ r ≡ level * 2 + marks / 4 % 2 ⌝ }
-{
-    let dirty = (level as usize) * 2;
-    if record::is_zeroed(marks) {
-        dirty + 1
-    } else {
-        dirty
-    }
-}
-
-// The place of a head in a tally: that of its list where it is unheld, else 6, or 7 with KERNEL.
-fn place(marks: u32, level: u32) -> usize
-    requires { ⌜ level < levels ⌝ }
-    ensures { λ r. ⌜ (r ≡ placeOf marks level) × (r < 8) ⌝ }
-{
-    if record::is_allocated(marks) {
-        return if record::is_kernel(marks) { 7 } else { 6 };
-    }
-    class(marks, level)
-}
-
-// What a head adds there: 1 where it is unheld, else its pages.
-fn share(marks: u32, pages: usize) -> usize
-    ensures { λ r. ⌜ r ≡ shareOf marks pages ⌝ }
-{
-    if record::is_allocated(marks) {
-        pages
-    } else {
-        1
-    }
-}
-
 pub struct Scanned {
     pub ok: bool,
-    pub tally: [usize; 8],
+    pub page: usize,
+    pub kernel: usize,
 }
 
-// "stepping by frame size from each region's first managed page": the heads, tested and tallied. At the first that is bad it stops.
+fn torn_scan() -> Scanned
+    ensures { λ r. ⌜ r .ok ≡ false ⌝ }
+{
+    Scanned {
+        ok: false,
+        page: 0,
+        kernel: 0,
+    }
+}
+
+// "stepping by frame size from each region's first managed page": the heads, tested, and the pages of those that are held. At the first that is bad it
+// stops.
 fn scan(records: &[u8], from: usize, base: usize, past: usize) -> Scanned
     requires { ⌜ (base ≤ past) × (past ≤ pagesIn (now records)) × (from + (past - base) < 2 ^ 64) ⌝ }
     ensures { λ r. ⌜ Tallied (recordAt (now (records .entry))) from base past r ⌝ }
 {
-    let mut tally = [0usize; 8];
+    let mut page: usize = 0;
+    let mut kernel: usize = 0;
     let mut at = base;
     while at < past {
-        if is_good(records, from, base, past, at) {
-            let marks = record::marks(records, at);
-            let level = record::level(records, at);
-            let pages = level::pages_at(level as usize);
-            let k = place(marks, level);
-            tally[k] = tally[k] + share(marks, pages);
-            at = at + pages;
-        } else {
-            return Scanned { ok: false, tally };
+        let pages = head_pages(records, from, base, past, at);
+        if pages == 0 {
+            return torn_scan();
         }
+        let marks = record::marks(records, at);
+        if record::is_allocated(marks) {
+            if !is_alone(records, at) {
+                return torn_scan();
+            }
+            if record::is_kernel(marks) {
+                kernel += pages;
+            } else {
+                page += pages;
+            }
+        }
+        at += pages;
     }
-    Scanned { ok: true, tally }
+    Scanned {
+        ok: true,
+        page,
+        kernel,
+    }
 }
 
 // ---- the lists
@@ -161,14 +140,11 @@ fn is_on(records: &[u8], base: usize, past: usize, k: usize, at: u32) -> bool
     }
     let page = number - 1;
     let marks = record::marks(records, page);
-    if !record::is_admitted(marks) {
-        return false;
-    }
-    if record::is_allocated(marks) {
+    if marks % 8 != record::free_marks(k % 2 == 1, false) {
         return false;
     }
     let level = record::level(records, page);
-    class(marks, level) == k
+    (level as usize) == k / 2
 }
 
 // Whether it names such a frame, whose earlier neighbour is `prev`.
@@ -230,32 +206,36 @@ fn walk(records: &[u8], base: usize, past: usize, k: usize, links: Links) -> boo
     prev == last
 }
 
-// Whether a list walks, and has as many nodes as there are heads that belong on it.
-fn is_full(records: &[u8], base: usize, past: usize, k: usize, links: Links, heads: usize) -> bool
+// Whether all six lists walk.
+fn all_walk(records: &[u8], base: usize, past: usize, row: Row) -> bool
     requires { ⌜ past ≤ pagesIn (now records) ⌝ }
-    ensures { λ r. ⌜ r ≡ walksAt (recordAt (now (records .entry))) base past k (links .count) 0 (links .front) (links .back) && eqb (links .count) heads ⌝ }
-{
-    if walk(records, base, past, k, links) {
-        return (links.count as usize) == heads;
-    }
-    false
-}
-
-fn are_full(records: &[u8], base: usize, past: usize, row: Row, scanned: Scanned) -> bool
-    requires { ⌜ past ≤ pagesIn (now records) ⌝ }
-    ensures { λ r. ⌜ r ≡ all (fullAt (recordAt (now (records .entry))) base past (row .lists) (scanned .tally)) (range 0 6) ⌝ }
+    ensures { λ r. ⌜ r ≡ all (listAt (recordAt (now (records .entry))) base past (row .lists)) (range 0 6) ⌝ }
 {
     let lists = row.lists;
-    let tally = scanned.tally;
     let mut k: usize = 0;
     while k < 6 {
-        if is_full(records, base, past, k, lists[k], tally[k]) {
+        if walk(records, base, past, k, lists[k]) {
             k += 1;
         } else {
             return false;
         }
     }
     true
+}
+
+// The pages of the frames on the lists of a row.
+fn listed_pages(row: Row) -> usize
+    ensures { λ r. ⌜ r ≡ listedPages (placedAt 0 row) ⌝ }
+{
+    let lists = row.lists;
+    let mut pages: usize = 0;
+    let mut k: usize = 0;
+    while k < 6 {
+        let l = lists[k];
+        pages += level::pages_at(k / 2) * (l.count as usize);
+        k += 1;
+    }
+    pages
 }
 
 // ---- the region
@@ -267,7 +247,7 @@ pub struct Whole {
 }
 
 // Whether a region's heads and lists are as the sheet says, and if so the pages that it holds without KERNEL and with it. The nodes of lists that walk
-// are unheld heads, each once: that there are as many of both says that "every unheld head is on a list".
+// are unheld heads, each once: that they have as many pages as nobody holds says that "every unheld head is on a list".
 pub fn region_whole(records: &[u8], from: usize, base: usize, past: usize, row: Row) -> Whole
     requires { ⌜ (from ≡ first standard (bareRegion standard row)) × (past ≡ pastOf standard (placedAt base row)) ⌝ }
     requires { ⌜ (past ≤ pagesIn (now records)) × (from + (past - base) < 2 ^ 64) ⌝ }
@@ -276,12 +256,11 @@ pub fn region_whole(records: &[u8], from: usize, base: usize, past: usize, row: 
     let scanned = scan(records, from, base, past);
     let ok = scanned.ok;
     if ok {
-        if are_full(records, base, past, row, scanned) {
-            let tally = scanned.tally;
+        if listed_pages(row) == past - base - scanned.page - scanned.kernel {
             return Whole {
-                ok: true,
-                page: tally[6],
-                kernel: tally[7],
+                ok: all_walk(records, base, past, row),
+                page: scanned.page,
+                kernel: scanned.kernel,
             };
         }
     }

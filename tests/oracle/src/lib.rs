@@ -22,6 +22,7 @@ mod ground;
 mod kernel;
 mod physical;
 mod run;
+mod script;
 mod store;
 
 // The kernel's text names these modules from the root of its crate.
@@ -32,3 +33,4 @@ pub use call::{number, to_hex, BadLine, Call, Entry};
 pub use dump::{Dump, Page, Region};
 pub use physical::FILLER;
 pub use run::Run;
+pub use script::{Script, HEADER};

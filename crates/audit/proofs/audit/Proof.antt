@@ -1,20 +1,29 @@
--- `audit` meets its contract. Its five tests, one after another, are the sheet, as `Sheets` says, and what each has passed is what the next requires.
-use mathlib.Core.Bool.{true}
-use mathlib.Core.Path.{_≡_}
+-- `audit` meets its contract. Its tests together are the sheet, as `Sheets` says, and what each has passed is what the next requires.
+use Prim.Native.Nat.{_*_, _/_, _≤_}
+use mathlib.Core.Bool.{true, not, _&&_}
+use mathlib.Core.Path.{_≡_, refl, sym, _∙_}
+use native.Mathlib.Omega.{arith}
 use borrow.Author.Needs.{needs}
 use borrow.Author.Tests.{not-true, not-false}
-use lib.ListN.{length}
-use Rattle.audit.proofs.Regions.{loans-fit}
+use lib.Dec.{leb}
+use lib.ListN.{length, drop}
+use Rattle.definition.specs.Board.{standard}
+use Rattle.definition.specs.Basics.{all}
+use Rattle.definition.specs.Allocator.{total}
+use Rattle.definition.specs.Boot.{managedPages, overlap}
+use Rattle.definition.specs.World.{recordAt, usedRows}
+use Rattle.definition.specs.Torn.{isNoRow, regionsOf, rowAsBoot, rowsAsBoot}
+use Rattle.definition.proofs.Tests.{and-left, and-right}
+use Rattle.audit.specs.Sheet.{surveyTest, Found, countsAs}
+use Rattle.audit.proofs.Arrays.{rows-shaped}
 use Rattle.audit.proofs.Sheets.{
   stops,
   goes,
   Given,
-  rowsTest,
-  loansTest,
-  foundTest,
-  torn-rows,
-  torn-loans,
-  torn-regions,
+  torn-survey,
+  torn-total,
+  torn-apart,
+  torn-memory,
   torn-counts,
   rest-decides,
 }
@@ -33,79 +42,109 @@ given s =
       queueLen = s .args .queue-len;
     }
 
-used-rows-requires : tie.Need-used-rows-requires
-used-rows-requires c κs = search needs
+-- what the rows' type leaves of the sheet's test of them
+shape : (s : tie.Start) → let rows = s .args .rows in
+    rowsAsBoot standard rows
+    ≡ (all isNoRow (drop (length (usedRows rows)) rows)
+    && (all (rowAsBoot standard) (usedRows rows)
+    && (not (overlap standard (regionsOf standard rows)) && leb (total (regionsOf standard rows)) 1048576)))
+shape s = rows-shaped (s .args .rows) (length (usedRows (s .args .rows))) _ refl (s .good .0)
 
-rows-as-boot-requires : tie.Need-rows-as-boot-requires
-rows-as-boot-requires c κs = search needs
+survey-requires : tie.Need-survey-requires
+survey-requires c κs = search needs
 
 returns : tie.Need-returns
-returns c = torn-rows (given (c .before .before .before .before)) (stops (c .before .rows-as-boot .ensures) (c .if1 .taken))
+returns c =
+    let s = c .before .before .before .before in
+    torn-survey (given s) (shape s) (sym (c .before .before .survey .ensures .exact) ∙ not-true _ (c .if1 .taken))
 
--- the rows are such as boot makes
-booted : (c : tie.Else1) → rowsTest (given (c .before .before .before .before)) ≡ true
-booted c = goes (c .before .rows-as-boot .ensures) (c .if1 .left)
+-- the survey has passed, and found what there is
+surveyed : (c : tie.Else1) → let a = c .before .before .before .before .args in
+    surveyTest (recordAt (a .records .now)) (length (a .records .now) / 16) (a .rows) ≡ true
+surveyed c = sym (c .before .before .survey .ensures .exact) ∙ not-false _ (c .if1 .left)
 
-loans-long-requires : tie.Need-loans-long-requires
-loans-long-requires c κs = (c .before .before .used-rows .ensures .0, booted c)
+found : (c : tie.Else1) → let a = c .before .before .before .before .args in
+    Found (recordAt (a .records .now)) (a .rows) (c .before .before .survey .result)
+found c = c .before .before .survey .ensures .found (not-false _ (c .if1 .left))
 
 returns-2 : tie.Need-returns-2
 returns-2 c =
-    let g = given (c .before .before .before .before .before .before) in
-    torn-loans g (booted (c .before .before)) (stops (c .before .loans-long .ensures) (c .if2 .taken))
+    let s = c .before .before .before .before .before .before in
+    torn-total (given s) (shape s) (omega (arith, c .if2 .taken, found (c .before .before) .total))
 
--- and the loans are long enough
-long : (c : tie.Else2) → let g = given (c .before .before .before .before .before .before) in
-    (rowsTest g ≡ true) × (loansTest g ≡ true)
-long c = (booted (c .before .before), goes (c .before .loans-long .ensures) (c .if2 .left))
-
-regions-whole-requires : tie.Need-regions-whole-requires
-regions-whole-requires c κs =
-    let g = given (c .before .before .before .before .before .before) in
-    ((c .before .before .before .before .used-rows .ensures .0, long c .0), loans-fit (g .rows) (length (g .records)) (g .memoryLen) (long c .1))
+apart-requires : tie.Need-apart-requires
+apart-requires c κs =
+    let rows = c .before .before .before .before .before .before .args .rows in (
+      found (c .before .before) .used,
+      and-left _ _ (and-right (all isNoRow (drop (length (usedRows rows)) rows)) _ (surveyed (c .before .before))),
+    )
 
 returns-3 : tie.Need-returns-3
 returns-3 c =
-    let l = c .before .before .before in
-    let r = c .before .before .regions-whole in
-    torn-regions (given (l .before .before .before .before .before .before)) (long l) (r .result) (r .ensures) (not-true _ (c .if3 .taken))
+    let s = c .before .before .before .before .before .before .before .before in
+    torn-apart (given s) (shape s) (stops (c .before .apart .ensures) (c .if3 .taken))
 
-counted-requires : tie.Need-counted-requires
-counted-requires c κs =
-    let l = c .before .before .before in
-    (l .before .before .before .before .used-rows .ensures .0, long l .0)
+mul-if4 : tie.Need-mul-if4
+mul-if4 c =
+    let h = found (c .before .before .before .before .before) in
+    omega (arith, h .few .manages, c .before .before .before .if2 .left)
 
 returns-4 : tie.Need-returns-4
 returns-4 c =
-    let l = c .before .before .before .before .before in
-    let g = given (l .before .before .before .before .before .before) in
-    let r = c .before .before .before .before .regions-whole in
-    let t = stops {t = foundTest g (r .result)} (c .before .counted .ensures) (c .if4 .taken) in
-    torn-counts g (long l) (r .result) (r .ensures) (not-false _ (c .before .before .if3 .left)) t
+    let s = c .before .before .before .before .before .before .before .before .before .before in
+    torn-memory (given s) (shape s) (omega (arith, c .if4 .taken, found (c .before .before .before .before .before .before) .manages))
+
+counted-requires : tie.Need-counted-requires
+counted-requires c κs =
+    let h = found (c .before .before .before .before .before .before) .few in
+    omega (arith, h .manages, h .holds)
+
+-- few pages, none shared, and memory for those managed
+passed : (c : tie.Else4) → let a = c .before .before .before .before .before .before .before .before .before .before .args in
+    let rs = regionsOf standard (a .rows) in
+    (total rs ≤ 1048576) × (not (overlap standard rs) ≡ true) × (4096 * managedPages standard rs ≤ a .memory-len)
+passed c =
+    let h = found (c .before .before .before .before .before .before) in (
+      omega (arith, h .total, c .before .before .before .before .if2 .left),
+      goes (c .before .before .before .apart .ensures) (c .before .before .if3 .left),
+      omega (arith, h .manages, c .if4 .left),
+    )
+
+returns-5 : tie.Need-returns-5
+returns-5 c =
+    let d = c .before .before in
+    let o = d .before .before .before .before .before .before in
+    let s = o .before .before .before .before in
+    let p = passed d in
+    let seen = o .before .before .survey .result in
+    let t = stops {t = countsAs (s .args .counters) seen} (c .before .counted .ensures) (c .if5 .taken) in
+    torn-counts (given s) (shape s) (surveyed o) (p .0) (p .1) (p .2) seen (found o) t
 
 within-requires : tie.Need-within-requires
 within-requires c κs = search needs
 
-returns-5 : tie.Need-returns-5
-returns-5 c =
-    let l = c .before .before .before .before .before .before in
-    let g = given (l .before .before .before .before .before .before) in
-    let r = c .before .before .before .before .before .regions-whole in
-    let t = goes {t = foundTest g (r .result)} (c .before .before .counted .ensures) (c .before .if4 .left) in
-    rest-decides g (long l) (r .result) (r .ensures) (not-false _ (c .before .before .before .if3 .left)) t (c .within .result) (c .within .ensures)
+returns-6 : tie.Need-returns-6
+returns-6 c =
+    let d = c .before .before .before in
+    let o = d .before .before .before .before .before .before in
+    let s = o .before .before .before .before in
+    let p = passed d in
+    let seen = o .before .before .survey .result in
+    let t = goes {t = countsAs (s .args .counters) seen} (c .before .before .counted .ensures) (c .before .if5 .left) in
+    rest-decides (given s) (shape s) (surveyed o) (p .0) (p .1) (p .2) seen (found o) t (c .within .result) (c .within .ensures)
 
 pub audit-spec : {M : Type 1} → statement M
 audit-spec =
     tie.close
     (tie.spec
-    used-rows-requires
-    rows-as-boot-requires
+    survey-requires
     returns
-    loans-long-requires
     returns-2
-    regions-whole-requires
+    apart-requires
     returns-3
-    counted-requires
+    mul-if4
     returns-4
+    counted-requires
+    returns-5
     within-requires
-    returns-5)
+    returns-6)

@@ -1,13 +1,14 @@
 -- Which way the copy takes is told by the marks of the two frames.
 use Prim.Native.Nat.{_+_, _*_}
-use mathlib.Core.Path.{sym, _∙_}
+use mathlib.Core.Path.{refl, sym, _∙_}
 use native.Mathlib.Omega.{arith}
 use borrow.Author.Needs.{needs}
 use borrow.Author.Tests.{not-true, not-false}
 use Rattle.world.proofs.RoundTrip.{round-trip}
 use Rattle.allocator.specs.Spots.{numberAt}
 use Rattle.exam.specs.Promise.{worldOf}
-use Rattle.copies.proofs.Copying.{both-zeroed, from-dirty, from-zeroed, span-bytes}
+use Rattle.ranges.proofs.Held.{held-read}
+use Rattle.copies.proofs.Copying.{both-zeroed, from-dirty, from-zeroed}
 use Rattle.copies.proofs.copy_contents_from.Statement.{statement}
 use Rattle.copies.proofs.copy_contents_from.Tie as tie
 
@@ -40,7 +41,7 @@ returns c queue S =
     let P = s .pre .1 .0 in
     let Q = s .pre .1 .1 in
     rw (from-dirty w S P Q (sym (z .ensures) ∙ not-true (z .result) (c .before .before .before .before .before .before .before .before .before .if1 .taken)))
-    (c .before .before .before .before .move-into .ensures queue S (4096 * numberAt (w .rows) (s .args .from .spot) + s .args .from-offset) (span-bytes w S Q))
+    (c .before .before .before .before .move-into .ensures queue S (4096 * numberAt (w .rows) (s .args .from .spot) + s .args .from-offset) (held-read S (Q .held) refl (s .args .from-offset) (s .args .len) (Q .range)))
 
 is-zeroed-requires-2 : tie.Need-is-zeroed-requires-2
 is-zeroed-requires-2 c κs = search needs

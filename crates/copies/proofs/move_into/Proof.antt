@@ -2,7 +2,8 @@
 use mathlib.Core.Bool.{false}
 use borrow.Author.Needs.{needs}
 use Rattle.exam.specs.Promise.{worldOf}
-use Rattle.copies.proofs.Writing.{Marked, moved-into}
+use Rattle.ranges.proofs.Marking.{Remarked}
+use Rattle.copies.proofs.Writing.{moved-into}
 use Rattle.copies.proofs.move_into.Statement.{statement}
 use Rattle.copies.proofs.move_into.Tie as tie
 
@@ -33,9 +34,15 @@ returns c queue S a e =
     let s = k .before in
     let w = worldOf (s .args .state) (s .args .records .now) (s .args .memory .now) queue in
     let d = c .before .before .set-marks in
-    let M : Marked w (s .args .to) false (d .last .0) =
-    record { turns = rw (c .before .before .before .is-kernel .ensures) at (d .ensures); as-long = d .kept .0; small = λ i. c .slice-known4 .given i .fits } in
-    rw (c .before .before .before .before .before .before .before .before .copy .ensures) (moved-into w S (λ i. k .slice-known .given i .fits) (s .pre .1 .0) (d .last .0) M (s .args .from) a e)
+    let M : Remarked w (s .args .to) false (c .before .before .before .is-kernel .result) (d .last .0) =
+    record {
+      own = c .before .before .before .is-kernel .ensures;
+      turns = d .ensures;
+      as-long = d .kept .0;
+      before = λ i. k .slice-known .given i .fits;
+      after = λ i. c .slice-known4 .given i .fits;
+    } in
+    rw (c .before .before .before .before .before .before .before .before .copy .ensures) (moved-into S (s .pre .1 .0) M (s .args .from) a e)
 
 pub move-into-spec : {M : Type 1} → statement M
 move-into-spec =

@@ -7,7 +7,8 @@ use lib.ListN.{length}
 use Rattle.definition.specs.World.{World}
 use Rattle.exam.specs.Promise.{Examined, worldOf}
 use Rattle.exam.proofs.Promises.{Small}
-use Rattle.copies.proofs.Reading.{read-done, read-ends, read-refused}
+use Rattle.ranges.proofs.Held.{examined-ends}
+use Rattle.copies.proofs.Reading.{read-done, read-refused}
 use Rattle.copies.proofs.read.Statement.{statement}
 use Rattle.copies.proofs.read.Tie as tie
 
@@ -38,9 +39,9 @@ returns c =
     rw (c .part .ensures) (read-refused (world k) (small k) (examined k) (c .before .if1 .taken))
 
 ends : (c : tie.After-struct-known2) → let a = c .before .before .before .before .before .before .before .before .before .args in
-    4096 * c .before .before .before .before .before .examine .result .seen .spot .page + (a .offset + a .len) ≤ length (a .memory .now)
+    4096 * c .before .before .before .before .before .examine .result .seen .spot .page + a .offset + a .len ≤ length (a .memory .now)
 unfolding world
-ends c = let k = c .before .before .before .before .before in read-ends (world k) (small k) (examined k) (c .before .before .before .if1 .left)
+ends c = examined-ends (examined (c .before .before .before .before .before)) (c .before .before .before .if1 .left)
 
 mul-part : tie.Need-mul-part
 mul-part c = omega (arith, ends c)

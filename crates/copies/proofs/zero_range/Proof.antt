@@ -4,7 +4,8 @@ use mathlib.Core.Path.{sym, _∙_}
 use borrow.Author.Needs.{needs}
 use borrow.Author.Tests.{not-true, not-false}
 use Rattle.exam.specs.Promise.{worldOf}
-use Rattle.copies.proofs.Writing.{Marked, zero-part, zero-whole}
+use Rattle.ranges.proofs.Marking.{Remarked}
+use Rattle.copies.proofs.Writing.{zero-part, zero-whole}
 use Rattle.copies.proofs.zero_range.Statement.{statement}
 use Rattle.copies.proofs.zero_range.Tie as tie
 
@@ -27,9 +28,8 @@ returns : tie.Need-returns
 returns c queue S =
     let k = c .before .before .before .before .before .before .before .before .before in
     let s = k .before in
-    let w = worldOf (s .args .state) (s .args .records .now) (s .args .memory .now) queue in
     let r = c .before .is-whole in
-    rw (c .before .before .before .before .fill .ensures) (zero-part w S (λ i. k .slice-known .given i .fits) (s .pre .1) (sym (r .ensures) ∙ not-true (r .result) (c .if1 .taken)))
+    rw (c .before .before .before .before .fill .ensures) (zero-part S (s .pre .1) (λ i. k .slice-known .given i .fits) (sym (r .ensures) ∙ not-true (r .result) (c .if1 .taken)))
 
 is-kernel-requires : tie.Need-is-kernel-requires
 is-kernel-requires c κs = search needs
@@ -50,10 +50,16 @@ returns-2 c queue S =
     let w = worldOf (s .args .state) (s .args .records .now) (s .args .memory .now) queue in
     let r = c .before .before .before .before .before .before .before .is-whole in
     let d = c .before .before .set-marks in
-    let M : Marked w (s .args .to) true (d .last .0) =
-    record { turns = rw (c .before .before .before .is-kernel .ensures) at (d .ensures); as-long = d .kept .0; small = λ i. c .slice-known4 .given i .fits } in
+    let M : Remarked w (s .args .to) true (c .before .before .before .is-kernel .result) (d .last .0) =
+    record {
+      own = c .before .before .before .is-kernel .ensures;
+      turns = d .ensures;
+      as-long = d .kept .0;
+      before = λ i. k .slice-known .given i .fits;
+      after = λ i. c .slice-known4 .given i .fits;
+    } in
     rw (c .before .before .before .before .before .before .before .before .before .before .fill .ensures)
-    (zero-whole w S (λ i. k .slice-known .given i .fits) (s .pre .1) (sym (r .ensures) ∙ not-false (r .result) (c .before .before .before .before .before .before .if1 .left)) (d .last .0) M)
+    (zero-whole S (s .pre .1) M (sym (r .ensures) ∙ not-false (r .result) (c .before .before .before .before .before .before .if1 .left)))
 
 pub zero-range-spec : {M : Type 1} → statement M
 zero-range-spec =

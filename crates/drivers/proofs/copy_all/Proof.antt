@@ -1,15 +1,20 @@
--- No call has a condition, so that the loop only counts, and the loans keep their lengths.
+-- The state stays as it is, and the loans keep their lengths.
 use borrow.Author.Needs.{needs}
-use Prim.Native.Nat.{_-_, _≤_}
+use Prim.Native.Nat.{_-_, _<_, _^_}
 use mathlib.Core.Path.{_≡_}
 use native.Mathlib.Omega.{arith}
 use lib.ListN.{length}
+use Rattle.definition.specs.Calls.{Copy}
+use Rattle.exam.specs.Promise.{worldOf}
+use Rattle.drivers.specs.Driving.{turn}
+use Rattle.drivers.proofs.Turns.{Onward, begun, ended, leaves-turn, onward, stopped}
 use Rattle.drivers.proofs.copy_all.Statement.{statement}
 use Rattle.drivers.proofs.copy_all.Tie as tie
 
 abbrev Inv-loop : tie.InvT-loop
 Inv-loop state records₀ memory₀ queue target source size times to from i₀ records memory i =
-    (i ≤ times) × (length records ≡ length records₀) × (length memory ≡ length memory₀)
+    (times < 2 ^ 64) × (length records ≡ length records₀) × (length memory ≡ length memory₀)
+    × Onward (turn (Copy (to .0) 0 (from .0) 0 size)) times (worldOf state records₀ memory₀ queue) (worldOf state records memory queue) i
 
 abbrev μ-loop : tie.MeasureT-loop
 μ-loop state records₀ memory₀ queue target source size times to from i₀ records memory i = times - i
@@ -21,7 +26,7 @@ new-requires-2 : tie.Need-new-requires-2 Inv-loop μ-loop
 new-requires-2 c κs = search needs
 
 loop-holds : tie.Need-loop-holds Inv-loop μ-loop
-loop-holds c = omega arith
+loop-holds c = (omega arith, omega arith, omega arith, begun)
 
 copy-requires : tie.Need-copy-requires Inv-loop μ-loop
 copy-requires c κs = search needs
@@ -33,7 +38,10 @@ same-length-2 : tie.Need-same-length-2 Inv-loop μ-loop
 same-length-2 c = omega arith
 
 returns : tie.Need-returns Inv-loop μ-loop
-returns c = omega arith
+returns c =
+    let u = c .before .before .before .before .before .before in
+    rw (u .before .before .before .before .before .before .new .ensures, u .before .before .before .before .before .new2 .ensures) at
+    (stopped (u .before .before .before .before .loop .inv .3) (u .before .before .before .loop-test .taken) (leaves-turn (u .copy .ensures)) (c .if1 .taken))
 
 add-i : tie.Need-add-i Inv-loop μ-loop
 add-i c = omega arith
@@ -42,7 +50,10 @@ loop-less : tie.Need-loop-less Inv-loop μ-loop
 loop-less c = omega arith
 
 loop-again : tie.Need-loop-again Inv-loop μ-loop
-loop-again c = omega arith
+loop-again c =
+    let u = c .before .before .before .before .before .before in
+    let o = onward (u .before .before .before .before .loop .inv .3) (u .before .before .before .loop-test .taken) (leaves-turn (u .copy .ensures)) (c .if1 .left) in
+    (omega arith, omega arith, omega arith, o)
 
 same-length-3 : tie.Need-same-length-3 Inv-loop μ-loop
 same-length-3 c = omega arith
@@ -51,7 +62,7 @@ same-length-4 : tie.Need-same-length-4 Inv-loop μ-loop
 same-length-4 c = omega arith
 
 returns-2 : tie.Need-returns-2 Inv-loop μ-loop
-returns-2 c = omega arith
+returns-2 c = rw (c .before .before .before .new .ensures, c .before .before .new2 .ensures) at (ended (c .before .loop .inv .3) (λ h. omega arith))
 
 pub copy-all-spec : {M : Type 1} → statement M
 copy-all-spec =

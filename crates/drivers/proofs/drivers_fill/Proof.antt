@@ -1,15 +1,20 @@
--- The state stays that of the grant; the loop only counts, and the loans keep their lengths.
+-- The state stays that of the grant, and the loans keep their lengths.
 use borrow.Author.Needs.{needs}
-use Prim.Native.Nat.{_-_, _≤_, _<_, _^_}
+use Prim.Native.Nat.{_-_, _<_, _^_}
 use mathlib.Core.Path.{_≡_}
 use native.Mathlib.Omega.{arith}
 use lib.ListN.{length}
+use Rattle.definition.specs.Calls.{Fill}
+use Rattle.exam.specs.Promise.{worldOf}
+use Rattle.drivers.specs.Driving.{turn}
+use Rattle.drivers.proofs.Turns.{Onward, begun, ended, leaves-turn, onward, stopped}
 use Rattle.drivers.proofs.drivers_fill.Statement.{statement}
 use Rattle.drivers.proofs.drivers_fill.Tie as tie
 
 abbrev Inv-loop : tie.InvT-loop
 Inv-loop records₀ memory₀ queue start bytes size times grant pa i₀ records memory i =
-    (i ≤ times) × (times < 2 ^ 64) × (length records ≡ length records₀) × (length memory ≡ length memory₀)
+    (times < 2 ^ 64) × (length records ≡ length records₀) × (length memory ≡ length memory₀)
+    × Onward (turn (Fill (pa .0) 0 size 85)) times (worldOf (grant .state) records₀ memory₀ queue) (worldOf (grant .state) records memory queue) i
 
 abbrev μ-loop : tie.MeasureT-loop
 μ-loop records₀ memory₀ queue start bytes size times grant pa i₀ records memory i = times - i
@@ -21,7 +26,7 @@ new-requires : tie.Need-new-requires Inv-loop μ-loop
 new-requires c κs = search needs
 
 loop-holds : tie.Need-loop-holds Inv-loop μ-loop
-loop-holds c = omega arith
+loop-holds c = (omega arith, omega arith, omega arith, begun)
 
 fill-requires : tie.Need-fill-requires Inv-loop μ-loop
 fill-requires c κs = search needs
@@ -33,7 +38,11 @@ same-length-2 : tie.Need-same-length-2 Inv-loop μ-loop
 same-length-2 c = omega arith
 
 returns : tie.Need-returns Inv-loop μ-loop
-returns c = omega arith
+returns c =
+    let u = c .before .before .before .before .before .before in
+    rw (u .before .before .before .before .before .before .before .before .before .before .before .holding .ensures)
+    (rw (u .before .before .before .before .before .new .ensures) at
+    (stopped (u .before .before .before .before .loop .inv .3) (u .before .before .before .loop-test .taken) (leaves-turn (u .fill .ensures)) (c .if1 .taken)))
 
 add-i : tie.Need-add-i Inv-loop μ-loop
 add-i c = omega arith
@@ -42,7 +51,10 @@ loop-less : tie.Need-loop-less Inv-loop μ-loop
 loop-less c = omega arith
 
 loop-again : tie.Need-loop-again Inv-loop μ-loop
-loop-again c = omega arith
+loop-again c =
+    let u = c .before .before .before .before .before .before in
+    let o = onward (u .before .before .before .before .loop .inv .3) (u .before .before .before .loop-test .taken) (leaves-turn (u .fill .ensures)) (c .if1 .left) in
+    (omega arith, omega arith, omega arith, o)
 
 same-length-3 : tie.Need-same-length-3 Inv-loop μ-loop
 same-length-3 c = omega arith
@@ -51,7 +63,9 @@ same-length-4 : tie.Need-same-length-4 Inv-loop μ-loop
 same-length-4 c = omega arith
 
 returns-2 : tie.Need-returns-2 Inv-loop μ-loop
-returns-2 c = omega arith
+returns-2 c =
+    rw (c .before .before .before .before .before .before .before .before .holding .ensures)
+    (rw (c .before .before .new .ensures) at (ended (c .before .loop .inv .3) (λ h. omega arith)))
 
 pub drivers-fill-spec : {M : Type 1} → statement M
 drivers-fill-spec =

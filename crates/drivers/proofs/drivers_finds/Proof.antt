@@ -1,12 +1,17 @@
--- A lookup changes nothing, so that the loop only counts.
+-- A lookup changes nothing, so that each turn is that of the same world.
 use borrow.Author.Needs.{needs}
-use Prim.Native.Nat.{_-_, _≤_}
+use Prim.Native.Nat.{_-_}
 use native.Mathlib.Omega.{arith}
+use Rattle.definition.specs.Calls.{Find}
+use Rattle.exam.specs.Promise.{worldOf}
+use Rattle.drivers.specs.Driving.{turn}
+use Rattle.drivers.proofs.Turns.{Onward, begun, ended, leaves-turn, onward, stopped}
 use Rattle.drivers.proofs.drivers_finds.Statement.{statement}
 use Rattle.drivers.proofs.drivers_finds.Tie as tie
 
 abbrev Inv-loop : tie.InvT-loop
-Inv-loop records memory queue start bytes address times state i₀ i = i ≤ times
+Inv-loop records memory queue start bytes address times state i₀ i =
+    Onward (turn (Find address)) times (worldOf state records memory queue) (worldOf state records memory queue) i
 
 abbrev μ-loop : tie.MeasureT-loop
 μ-loop records memory queue start bytes address times state i₀ i = times - i
@@ -15,7 +20,7 @@ booted-requires : tie.Need-booted-requires Inv-loop μ-loop
 booted-requires c κs = search needs
 
 loop-holds : tie.Need-loop-holds Inv-loop μ-loop
-loop-holds c = omega arith
+loop-holds c = begun
 
 new-requires : tie.Need-new-requires Inv-loop μ-loop
 new-requires c κs = search needs
@@ -30,7 +35,11 @@ same-length-2 : tie.Need-same-length-2 Inv-loop μ-loop
 same-length-2 c = omega arith
 
 returns : tie.Need-returns Inv-loop μ-loop
-returns c = omega arith
+returns c =
+    let u = c .before .before in
+    rw (u .before .before .before .before .before .before .before .before .booted .ensures)
+    (stopped (u .before .before .before .before .before .loop .inv) (u .before .before .before .before .loop-test .taken) (leaves-turn (rw (u .before .new .ensures) at (u .find .ensures)))
+    (c .if1 .taken))
 
 add-i : tie.Need-add-i Inv-loop μ-loop
 add-i c = omega arith
@@ -39,7 +48,10 @@ loop-less : tie.Need-loop-less Inv-loop μ-loop
 loop-less c = omega arith
 
 loop-again : tie.Need-loop-again Inv-loop μ-loop
-loop-again c = omega arith
+loop-again c =
+    let u = c .before .before in
+    onward (u .before .before .before .before .before .loop .inv) (u .before .before .before .before .loop-test .taken) (leaves-turn (rw (u .before .new .ensures) at (u .find .ensures)))
+    (c .if1 .left)
 
 same-length-3 : tie.Need-same-length-3 Inv-loop μ-loop
 same-length-3 c = omega arith
@@ -48,7 +60,7 @@ same-length-4 : tie.Need-same-length-4 Inv-loop μ-loop
 same-length-4 c = omega arith
 
 returns-2 : tie.Need-returns-2 Inv-loop μ-loop
-returns-2 c = omega arith
+returns-2 c = rw (c .before .before .before .before .booted .ensures) (ended (c .before .loop .inv) (λ h. omega arith))
 
 pub drivers-finds-spec : {M : Type 1} → statement M
 drivers-finds-spec =

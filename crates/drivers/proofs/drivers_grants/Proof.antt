@@ -1,15 +1,19 @@
--- No call has a condition, so that the loop only counts, and the loans keep their lengths.
+-- Each turn is that of the world as the last left it, and the loans keep their lengths.
 use borrow.Author.Needs.{needs}
-use Prim.Native.Nat.{_-_, _≤_, _<_, _^_}
+use Prim.Native.Nat.{_-_, _<_, _^_}
 use mathlib.Core.Path.{_≡_}
 use native.Mathlib.Omega.{arith}
 use lib.ListN.{length}
+use Rattle.exam.specs.Promise.{worldOf}
+use Rattle.drivers.specs.Driving.{grantAndFree}
+use Rattle.drivers.proofs.Turns.{Onward, begun, ended, onward, stopped}
 use Rattle.drivers.proofs.drivers_grants.Statement.{statement}
 use Rattle.drivers.proofs.drivers_grants.Tie as tie
 
 abbrev Inv-loop : tie.InvT-loop
 Inv-loop records₀ memory₀ queue start bytes times state₀ i₀ records memory state i =
-    (i ≤ times) × (times < 2 ^ 64) × (length records ≡ length records₀) × (length memory ≡ length memory₀)
+    (times < 2 ^ 64) × (length records ≡ length records₀) × (length memory ≡ length memory₀)
+    × Onward grantAndFree times (worldOf state₀ records₀ memory₀ queue) (worldOf state records memory queue) i
 
 abbrev μ-loop : tie.MeasureT-loop
 μ-loop records₀ memory₀ queue start bytes times state₀ i₀ records memory state i = times - i
@@ -18,7 +22,7 @@ booted-requires : tie.Need-booted-requires Inv-loop μ-loop
 booted-requires c κs = search needs
 
 loop-holds : tie.Need-loop-holds Inv-loop μ-loop
-loop-holds c = omega arith
+loop-holds c = (omega arith, omega arith, omega arith, begun)
 
 granted-and-freed-requires : tie.Need-granted-and-freed-requires Inv-loop μ-loop
 granted-and-freed-requires c κs = search needs
@@ -30,7 +34,10 @@ same-length-2 : tie.Need-same-length-2 Inv-loop μ-loop
 same-length-2 c = omega arith
 
 returns : tie.Need-returns Inv-loop μ-loop
-returns c = omega arith
+returns c =
+    let u = c .before .before .before .before .before .before .before in
+    rw (u .before .before .before .before .before .before .before .booted .ensures)
+    (stopped (u .before .before .before .before .loop .inv .3) (u .before .before .before .loop-test .taken) (u .granted-and-freed .ensures) (c .if1 .taken))
 
 add-i : tie.Need-add-i Inv-loop μ-loop
 add-i c = omega arith
@@ -39,7 +46,10 @@ loop-less : tie.Need-loop-less Inv-loop μ-loop
 loop-less c = omega arith
 
 loop-again : tie.Need-loop-again Inv-loop μ-loop
-loop-again c = omega arith
+loop-again c =
+    let u = c .before .before .before .before .before .before .before .before in
+    let o = onward (u .before .before .before .before .loop .inv .3) (u .before .before .before .loop-test .taken) (u .granted-and-freed .ensures) (c .before .if1 .left) in
+    (omega arith, omega arith, omega arith, o)
 
 same-length-3 : tie.Need-same-length-3 Inv-loop μ-loop
 same-length-3 c = omega arith
@@ -48,7 +58,7 @@ same-length-4 : tie.Need-same-length-4 Inv-loop μ-loop
 same-length-4 c = omega arith
 
 returns-2 : tie.Need-returns-2 Inv-loop μ-loop
-returns-2 c = omega arith
+returns-2 c = rw (c .before .before .before .before .booted .ensures) (ended (c .before .loop .inv .3) (λ h. omega arith))
 
 pub drivers-grants-spec : {M : Type 1} → statement M
 drivers-grants-spec =

@@ -5,14 +5,24 @@ use borrow.Author.Needs.{needs}
 use lib.ListN.{length}
 use Rattle.definition.specs.Board.{standard}
 use Rattle.definition.specs.Calls.{Write}
-use Rattle.definition.specs.World.{decode}
+use Rattle.definition.specs.World.{World, decode}
 use Rattle.world.proofs.Refusing.{one-frame}
-use Rattle.exam.specs.Promise.{worldOf}
+use Rattle.exam.specs.Promise.{Examined, worldOf}
 use Rattle.exam.proofs.Promises.{examined-refused}
 use Rattle.ranges.proofs.Held.{examined-ends, examined-spot}
 use Rattle.ranges.proofs.Marking.{write-done}
 use Rattle.ranges.proofs.write.Statement.{statement}
 use Rattle.ranges.proofs.write.Tie as tie
+
+-- the world that was given, the frame that was examined in it, and that nothing refuses it
+abbrev world : tie.After-examine → World
+world c = let a = c .before .before .before .before .before .before .args in worldOf (a .state) (a .records .now) (a .memory .now) (a .queue .now)
+
+found : (c : tie.After-examine) → let a = c .before .before .before .before .before .before .args in Examined (world c) (a .pa .0) (a .offset) (length (a .bytes .now)) (c .examine .result)
+found c = c .examine .ensures (world c .memory) (world c .queue) refl refl
+
+none : (c : tie.Else1) → c .before .examine .result .number ≡ 0
+none c = omega (arith, c .if1 .left)
 
 examine-requires : tie.Need-examine-requires
 examine-requires c κs = search needs
@@ -25,47 +35,26 @@ same-length c = search needs
 
 returns : tie.Need-returns
 returns c =
-    let s = c .before .before .before .before .before .before .before .before in
-    let a = s .args .pa .0 in
-    let w = worldOf (s .args .state) (s .args .records .now) (s .args .memory .now) (s .args .queue .now) in
-    let E = c .before .before .examine .ensures (s .args .memory .now) (s .args .queue .now) refl refl in
+    let k = c .before .before in
+    let a = k .before .before .before .before .before .before .args in
     rw (c .refused .ensures)
-    (examined-refused E (Write a (s .args .offset) (s .args .bytes .now)) (λ i. c .before .before .before .before .before .before .before .slice-known .given i .fits) (λ t. one-frame (decode standard w) a (s .args .offset) (length (s .args .bytes .now))) (λ h. omega arith))
+    (examined-refused (found k) (Write (a .pa .0) (a .offset) (a .bytes .now)) (λ i. k .before .before .before .before .before .slice-known .given i .fits) (λ t. one-frame (decode standard (world k)) (a .pa .0) (a .offset) (length (a .bytes .now))) (λ h. omega arith))
 
 mul-write : tie.Need-mul-write
-mul-write c =
-    let s = c .before .before .before .before .before .before .before .before .before .before .before in
-    let e = c .before .before .before .before .before .examine in
-    let E = e .ensures (s .args .memory .now) (s .args .queue .now) refl refl in
-    let z : e .result .number ≡ 0 = omega (arith, c .before .before .before .before .if1 .left) in
-    omega (arith, examined-ends E z)
+mul-write c = let k = c .before .before .before .before in omega (arith, examined-ends (found (k .before)) (none k))
 
 add-write : tie.Need-add-write
-add-write c =
-    let s = c .before .before .before .before .before .before .before .before .before .before .before in
-    let e = c .before .before .before .before .before .examine in
-    let E = e .ensures (s .args .memory .now) (s .args .queue .now) refl refl in
-    let z : e .result .number ≡ 0 = omega (arith, c .before .before .before .before .if1 .left) in
-    omega (arith, examined-ends E z)
+add-write c = let k = c .before .before .before .before in omega (arith, examined-ends (found (k .before)) (none k))
 
 write-requires : tie.Need-write-requires
-write-requires c κs =
-    let s = c .before .before .before .before .before .before .before .before .before .before .before in
-    let e = c .before .before .before .before .before .examine in
-    let E = e .ensures (s .args .memory .now) (s .args .queue .now) refl refl in
-    let z : e .result .number ≡ 0 = omega (arith, c .before .before .before .before .if1 .left) in
-    examined-ends E z
+write-requires c κs = let k = c .before .before .before .before in examined-ends (found (k .before)) (none k)
 
 is-kernel-requires : tie.Need-is-kernel-requires
 is-kernel-requires c κs = search needs
 
 set-marks-requires : tie.Need-set-marks-requires
 set-marks-requires c κs =
-    let s = c .before .before .before .before .before .before .before .before .before .before .before .before .before .before .before .before .before in
-    let e = c .before .before .before .before .before .before .before .before .before .before .before .examine in
-    let E = e .ensures (s .args .memory .now) (s .args .queue .now) refl refl in
-    let z : e .result .number ≡ 0 = omega (arith, c .before .before .before .before .before .before .before .before .before .before .if1 .left) in
-    examined-spot E z
+    let k = c .before .before .before .before .before .before .before .before .before .before in examined-spot (found (k .before)) (none k)
 
 raw-requires : tie.Need-raw-requires
 raw-requires c κs = search needs
@@ -81,20 +70,17 @@ same-length-3 c = search needs
 
 returns-2 : tie.Need-returns-2
 returns-2 c =
-    let s = c .before .before .before .before .before .before .before .before .before .before .before .before .before .before .before .before .before .before .before .before .before .before in
-    let e = c .before .before .before .before .before .before .before .before .before .before .before .before .before .before .before .before .examine in
-    let E = e .ensures (s .args .memory .now) (s .args .queue .now) refl refl in
-    let z : e .result .number ≡ 0 = omega (arith, c .before .before .before .before .before .before .before .before .before .before .before .before .before .before .before .if1 .left) in
+    let k = c .before .before .before .before .before .before .before .before .before .before .before .before .before .before .before in
     rw (c .done .ensures, c .before .raw .ensures)
-    (write-done E z
+    (write-done (found (k .before)) (none k)
     (record {
       own = c .before .before .before .before .before .is-kernel .ensures;
       turns = c .before .before .before .before .set-marks .ensures;
       as-long = c .before .before .before .before .set-marks .kept .0;
-      before = λ i. c .before .before .before .before .before .before .before .before .before .before .before .before .before .before .before .before .before .before .before .before .before .slice-known .given i .fits;
+      before = λ i. k .before .before .before .before .before .before .slice-known .given i .fits;
       after = λ i. c .before .before .slice-known4 .given i .fits;
     })
-    (s .args .bytes .now) refl (c .before .before .before .before .before .before .before .before .before .before .write .ensures))
+    (k .before .before .before .before .before .before .before .args .bytes .now) refl (c .before .before .before .before .before .before .before .before .before .before .write .ensures))
 
 pub write-spec : {M : Type 1} → statement M
 write-spec =

@@ -1,20 +1,10 @@
--- A frame is stored and then pushed on a list that it is not on.
+-- A frame that is on no list is admitted to the list of its level, which is out of the row meanwhile.
 use Prim.Native.Nat.{_<_}
 use borrow.Author.Needs.{needs}
 use Rattle.definition.specs.Frame.{slot}
-use Rattle.list.proofs.Laws.{linked-sound}
-use Rattle.region.proofs.Laws.{up-linked, up-inside, up-small, up-out, up}
+use Rattle.region.proofs.Laws.{taken-out, out-asks, out-next}
 use Rattle.region.proofs.push.Statement.{statement}
 use Rattle.region.proofs.push.Tie as tie
-
-free-marks-requires : tie.Need-free-marks-requires
-free-marks-requires c κs = search needs
-
-cast-t17 : tie.Need-cast-t17
-cast-t17 c = search needs
-
-store-requires : tie.Need-store-requires
-store-requires c κs = search needs
 
 slot-requires : tie.Need-slot-requires
 slot-requires c κs = search needs
@@ -25,21 +15,14 @@ mul-l c = search needs
 element-copy-out-l : tie.Need-element-copy-out-l
 element-copy-out-l c = search needs
 
-push-back-requires : tie.Need-push-back-requires
-push-back-requires c κs =
-    let s = c .before .before .before .before .before .before .before .before .before in
-    let d = c .before .before .before .before .before .store in
-    let k = c .before .before .slot in
-    let m = c .before .before .before .before .before .before .before .free-marks in
-    let h : slot (s .args .level) (s .args .zeroed) < 6 = rw (k .ensures .0) at (k .ensures .1) in
+admit-requires : tie.Need-admit-requires
+admit-requires c κs =
+    let s = c .before .before .before .before in
     let a = s .args in
-    rw (d .ensures .1, d .kept .0, k .ensures .0, m .ensures) (
-      linked-sound (up-linked (a .level) (a .zeroed) (a .kernel) (s .pre .0) (s .pre .1 .0 .1) h (s .pre .1 .1)),
-      (
-        up-inside (a .level) (a .zeroed) (a .kernel) (s .pre .0) (s .pre .1 .0 .1) h (s .pre .1 .1),
-        (up-out (a .level) (a .zeroed) (a .kernel) (s .pre .0) (s .pre .1 .0 .1) h (s .pre .1 .1), up-small (a .level) (a .zeroed) (a .kernel) (s .pre .0) (s .pre .1 .0 .1) h (s .pre .1 .1)),
-      ),
-    )
+    let k = c .before .before .slot in
+    let h : slot (a .level) (a .zeroed) < 6 = rw (k .ensures .0) at (k .ensures .1) in
+    rw (k .ensures .0)
+    (out-asks (a .level) (a .zeroed) (a .kernel) (taken-out (slot (a .level) (a .zeroed)) (s .pre .0)) h (s .pre .1 .0 .1) (s .pre .1 .1) (s .pre .1 .0 .0))
 
 mul-longer : tie.Need-mul-longer
 mul-longer c = search needs
@@ -52,28 +35,23 @@ same-length c = search needs
 
 returns : tie.Need-returns
 returns c =
-    let s = c .before .before .before .before .before .before .before .before .before .before .before .before in
-    let d = c .before .before .before .before .before .before .before .before .store in
-    let k = c .before .before .before .before .before .slot in
-    let m = c .before .before .before .before .before .before .before .before .before .before .free-marks in
-    let h : slot (s .args .level) (s .args .zeroed) < 6 = rw (k .ensures .0) at (k .ensures .1) in
+    let s = c .before .before .before .before .before .before .before in
     let a = s .args in
-    let b = c .before .before .push-back in
-    rw (b .kept .0, d .kept .0, k .ensures .0)
-    (up (a .level) (a .zeroed) (a .kernel) (s .pre .0) (s .pre .1 .0 .1) h (s .pre .1 .1)
-    (rw (b .kept .0, d .kept .0, d .ensures .1, m .ensures, k .ensures .0) at (b .ensures)))
+    let k = c .before .before .before .before .before .slot in
+    let d = c .before .before .admit in
+    let h : slot (a .level) (a .zeroed) < 6 = rw (k .ensures .0) at (k .ensures .1) in
+    rw (d .kept .0, k .ensures .0)
+    (out-next (a .level) (a .zeroed) (a .kernel) (taken-out (slot (a .level) (a .zeroed)) (s .pre .0)) h (s .pre .1 .0 .1) (s .pre .1 .1)
+    (rw (d .kept .0, k .ensures .0) at (d .ensures)))
 
 pub push-spec : {M : Type 1} → statement M
 push-spec =
     tie.close
     (tie.spec
-    free-marks-requires
-    cast-t17
-    store-requires
     slot-requires
     mul-l
     element-copy-out-l
-    push-back-requires
+    admit-requires
     mul-longer
     element-set-from-longer
     same-length

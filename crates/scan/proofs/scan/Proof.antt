@@ -1,124 +1,159 @@
 -- `scan` meets its contract. The loop's invariant is `Scanning`: what is left decides as the whole does.
 use Prim.Native.Nat.{_+_, _-_, _≤_, _<_}
+use mathlib.Core.Bool.{true, false}
+use mathlib.Core.Logic.{⊎-elim}
 use mathlib.Core.Path.{_≡_, sym, _∙_}
 use native.Mathlib.Omega.{arith}
-use Rattle.definition.specs.Frame.{size}
-use Rattle.definition.specs.World.{recordAt}
-use Rattle.definition.specs.Torn.{pagesOfRecord}
-use Rattle.definition.proofs.Tests.{and-left}
-use Rattle.level.proofs.Sizes.{size-positive}
-use Rattle.scan.proofs.Heads.{Head, head-facts, pages-small}
-use Rattle.scan.proofs.Scanning.{share-le, Scanning, scan-start, scan-turn, scan-bad, scan-done}
 use borrow.Author.Needs.{needs}
+use borrow.Author.Tests.{not-true, not-false}
+use Rattle.definition.specs.World.{recordAt}
+use Rattle.definition.specs.Torn.{pagesOfRecord, heldAs, aloneIfHeld}
+use Rattle.definition.proofs.Tests.{and-true}
+use Rattle.scan.specs.Sheet.{headAt}
+use Rattle.scan.proofs.Heads.{head-facts, none-pages, pages-small, pages-some, some-pages}
+use Rattle.scan.proofs.Tallies.{alone-free, alone-held, held-free, held-kernel, held-page}
+use Rattle.scan.proofs.Scanning.{Scanning, scan-start, scan-turn, scan-bad, scan-done}
 use Rattle.scan.proofs.scan.Statement.{statement}
 use Rattle.scan.proofs.scan.Tie as tie
 
 abbrev Inv-loop : tie.InvT-loop
-Inv-loop records from base past tally₀ at₀ tally at = Scanning (recordAt records) from base past tally at
+Inv-loop records from base past page₀ kernel₀ at₀ page kernel at = Scanning (recordAt records) from base past page kernel at
 
 abbrev μ-loop : tie.MeasureT-loop
-μ-loop records from base past tally₀ at₀ tally at = past - at
+μ-loop records from base past page₀ kernel₀ at₀ page kernel at = past - at
 
--- what a head that passed is
-head : (c : tie.Then1 Inv-loop μ-loop) → let a = c .before .before .before .before .before .args in
-    Head (recordAt (a .records .now)) (a .from) (a .base) (a .past) (c .before .before .before .loop .at)
-head c =
+-- a head that passed
+is-head : (c : tie.Else1 Inv-loop μ-loop) → let a = c .before .before .before .before .before .args in
+    headAt (recordAt (a .records .now)) (a .from) (a .base) (a .past) (c .before .before .before .loop .at) ≡ true
+is-head c =
     let a = c .before .before .before .before .before .args in
-    let t = sym (c .before .is-good .ensures) ∙ c .if1 .taken in
-    head-facts (recordAt (a .records .now)) (a .from) (a .base) (a .past) (c .before .before .before .loop .at) (and-left _ _ t)
+    some-pages (recordAt (a .records .now)) (a .from) (a .base) (a .past) (c .before .before .before .loop .at)
+    (λ z. c .if1 .left (c .before .head-pages .ensures ∙ z))
 
 -- its pages
-room : (c : tie.After-pages-at Inv-loop μ-loop) → let a = c .before .before .before .before .before .before .before .before .args in
-    let at = c .before .before .before .before .before .before .loop .at in
-    let pages = c .pages-at .result in
+room : (c : tie.Else1 Inv-loop μ-loop) → let a = c .before .before .before .before .before .args in
+    let at = c .before .before .before .loop .at in
+    let pages = c .before .head-pages .result in
     (0 < pages) × (at + pages ≤ a .past) × (pages ≡ pagesOfRecord (recordAt (a .records .now) at))
 room c =
-    let r = recordAt (c .before .before .before .before .before .before .before .before .args .records .now) (c .before .before .before .before .before .before .loop .at) in
-    let d = head (c .before .before .before) in
-    let q : c .pages-at .result ≡ size (r .level) = cc in
-    (rw q (size-positive (r .level)), omega (arith, d .fits), q ∙ sym (pages-small r (d .level)))
+    let a = c .before .before .before .before .before .args in
+    let at = c .before .before .before .loop .at in
+    let f = recordAt (a .records .now) in
+    let d = head-facts f (a .from) (a .base) (a .past) at (is-head c) in
+    let q = c .before .head-pages .ensures ∙ sym (pages-some f (a .from) (a .base) (a .past) at (is-head c)) in
+    (omega arith, omega (arith, d .fits), q ∙ sym (pages-small (f at) (d .level)))
 
 loop-holds : tie.Need-loop-holds Inv-loop μ-loop
 loop-holds c =
     let a = c .before .args in
     scan-start (recordAt (a .records .now)) (a .from) (a .base) (a .past) (omega arith)
 
-is-good-requires : tie.Need-is-good-requires Inv-loop μ-loop
-is-good-requires c κs = search needs
+head-pages-requires : tie.Need-head-pages-requires Inv-loop μ-loop
+head-pages-requires c κs = search needs
+
+torn-scan-requires : tie.Need-torn-scan-requires Inv-loop μ-loop
+torn-scan-requires c κs = search needs
+
+returns : tie.Need-returns Inv-loop μ-loop
+returns c =
+    let a = c .before .before .before .before .before .before .args in
+    let s = c .before .before .before .before .loop in
+    let f = recordAt (a .records .now) in
+    let n = none-pages f (a .from) (a .base) (a .past) (s .at) (sym (c .before .before .head-pages .ensures) ∙ c .before .if1 .taken) in
+    scan-bad f (a .from) (a .base) (a .past) (s .page) (s .kernel) (s .at) (c .torn-scan .result)
+    (s .inv) (omega arith) (rw n) (c .torn-scan .ensures)
 
 marks-requires : tie.Need-marks-requires Inv-loop μ-loop
 marks-requires c κs = search needs
 
-level-requires : tie.Need-level-requires Inv-loop μ-loop
-level-requires c κs = search needs
+is-allocated-requires : tie.Need-is-allocated-requires Inv-loop μ-loop
+is-allocated-requires c κs = search needs
 
-cast-pages-at : tie.Need-cast-pages-at Inv-loop μ-loop
-cast-pages-at c = search needs
+is-alone-requires : tie.Need-is-alone-requires Inv-loop μ-loop
+is-alone-requires c κs = search needs
 
-pages-at-requires : tie.Need-pages-at-requires Inv-loop μ-loop
-pages-at-requires c κs =
-    let d = head (c .before .before) in
-    omega (arith, d .level, c .level .ensures)
-
-place-requires : tie.Need-place-requires Inv-loop μ-loop
-place-requires c κs =
-    let d = head (c .before .before .before) in
-    omega (arith, d .level, c .before .level .ensures)
-
-mul-tally : tie.Need-mul-tally Inv-loop μ-loop
-mul-tally c = search needs
-
-array-read-tally : tie.Need-array-read-tally Inv-loop μ-loop
-array-read-tally c = search needs
-
-share-requires : tie.Need-share-requires Inv-loop μ-loop
-share-requires c κs = search needs
-
-add-tally : tie.Need-add-tally Inv-loop μ-loop
-add-tally c =
-    let s = c .before .before .before .before .before .before .before .before .loop in
-    let r = room (c .before .before) in
-    let w = share-le (c .before .before .before .before .marks .result) (c .before .before .pages-at .result) (r .0) in
-    omega (arith, s .inv .small (c .before .place .result), c .share .ensures)
-
-mul-tally-2 : tie.Need-mul-tally-2 Inv-loop μ-loop
-mul-tally-2 c = search needs
-
-array-write-tally : tie.Need-array-write-tally Inv-loop μ-loop
-array-write-tally c = search needs
-
-add-at : tie.Need-add-at Inv-loop μ-loop
-add-at c =
-    let r = room (c .before .before) in
-    omega arith
-
-loop-less : tie.Need-loop-less Inv-loop μ-loop
-loop-less c =
-    let r = room (c .before .before) in
-    omega arith
-
-loop-again : tie.Need-loop-again Inv-loop μ-loop
-loop-again c =
-    let a = c .before .before .before .before .before .before .before .before .before .before .args in
-    let s = c .before .before .before .before .before .before .before .before .loop in
-    let pages = c .before .before .pages-at .result in
-    let r = room (c .before .before) in
-    let g = sym (c .before .before .before .before .before .before .is-good .ensures) ∙ c .before .before .before .before .before .if1 .taken in
-    scan-turn (recordAt (a .records .now)) (a .from) (a .base) (a .past) (s .tally) (s .at) (c .before .place .result) (c .share .result) pages
-    (s .inv) (omega arith) g (c .before .place .ensures .1) (cc) (cc) (r .2) (r .0) (r .1)
-
-returns : tie.Need-returns Inv-loop μ-loop
-returns c =
-    let a = c .before .before .before .before .before .args in
-    let s = c .before .before .before .loop in
-    let g = sym (c .before .is-good .ensures) ∙ c .if1 .left in
-    scan-bad (recordAt (a .records .now)) (a .from) (a .base) (a .past) (s .tally) _ (s .at) (s .inv) (omega arith) g
+torn-scan-requires-2 : tie.Need-torn-scan-requires-2 Inv-loop μ-loop
+torn-scan-requires-2 c κs = search needs
 
 returns-2 : tie.Need-returns-2 Inv-loop μ-loop
 returns-2 c =
+    let m = c .before .before .before .before .before in
+    let a = m .before .before .before .before .before .before .args in
+    let s = m .before .before .before .before .loop in
+    let f = recordAt (a .records .now) in
+    let h = sym (c .before .before .before .before .is-allocated .ensures) ∙ c .before .before .before .if2 .taken in
+    let n = alone-held (f (s .at)) _ (m .marks .ensures) h ∙ sym (c .before .before .is-alone .ensures) ∙ not-true _ (c .before .if3 .taken) in
+    scan-bad f (a .from) (a .base) (a .past) (s .page) (s .kernel) (s .at) (c .torn-scan2 .result)
+    (s .inv) (omega arith) (rw (is-head (m .before), n)) (c .torn-scan2 .ensures)
+
+is-kernel-requires : tie.Need-is-kernel-requires Inv-loop μ-loop
+is-kernel-requires c κs = search needs
+
+add-kernel : tie.Need-add-kernel Inv-loop μ-loop
+add-kernel c =
+    let r = room (c .before .before .before .before .before .before .before) in
+    omega (arith, c .before .before .before .before .before .before .before .before .before .before .loop .inv .few)
+
+add-page : tie.Need-add-page Inv-loop μ-loop
+add-page c =
+    let r = room (c .before .before .before .before .before .before .before) in
+    omega (arith, c .before .before .before .before .before .before .before .before .before .before .loop .inv .few)
+
+add-at : tie.Need-add-at Inv-loop μ-loop
+add-at c = let r = room (c .before .before .before) in omega arith
+
+loop-less : tie.Need-loop-less Inv-loop μ-loop
+loop-less c = let r = room (c .before .before .before) in omega arith
+
+-- a turn, once it is known what the head adds
+turn : (c : tie.Joined2 Inv-loop μ-loop) → let m = c .before .before in
+    let a = m .before .before .before .before .before .before .args in
+    let s = m .before .before .before .before .loop in
+    let r = recordAt (a .records .now) (s .at) in
+    aloneIfHeld r ≡ true
+    → c .if2 .page ≡ s .page + heldAs false r
+    → c .if2 .kernel ≡ s .kernel + heldAs true r
+    → heldAs false r + heldAs true r ≤ pagesOfRecord r
+    → Scanning (recordAt (a .records .now)) (a .from) (a .base) (a .past) (c .if2 .page) (c .if2 .kernel) (s .at + m .before .before .head-pages .result)
+turn c l p k most =
+    let m = c .before .before in
+    let a = m .before .before .before .before .before .before .args in
+    let s = m .before .before .before .before .loop in
+    let r = room (m .before) in
+    scan-turn (recordAt (a .records .now)) (a .from) (a .base) (a .past) (s .page) (s .kernel) (s .at)
+    (m .before .before .head-pages .result) (c .if2 .page) (c .if2 .kernel)
+    (s .inv) (omega arith) (and-true (is-head (m .before)) l) (r .2) (r .1) p k (omega arith)
+
+loop-again : tie.Need-loop-again Inv-loop μ-loop
+loop-again c =
+    let m = c .before .before in
+    let a = m .before .before .before .before .before .before .args in
+    let s = m .before .before .before .before .loop in
+    let r = recordAt (a .records .now) (s .at) in
+    let o = room (m .before) in
+    let i = c .before .is-allocated in
+    ⊎-elim
+    (λ w.
+    let h = sym (i .ensures) ∙ w .0 .taken in
+    let q = held-kernel r _ (m .marks .ensures) h (sym (w .3 .ensures) ∙ w .4 .taken) in
+    turn c (alone-held r _ (m .marks .ensures) h ∙ sym (w .1 .ensures) ∙ not-false _ (w .2 .left)) (omega (arith, w .5)) (omega (arith, w .6)) (omega arith))
+    (⊎-elim
+    (λ w.
+    let h = sym (i .ensures) ∙ w .0 .taken in
+    let q = held-page r _ (m .marks .ensures) h (sym (w .3 .ensures) ∙ w .4 .left) in
+    turn c (alone-held r _ (m .marks .ensures) h ∙ sym (w .1 .ensures) ∙ not-false _ (w .2 .left)) (omega (arith, w .5)) (omega (arith, w .6)) (omega arith))
+    (λ w.
+    let h = sym (i .ensures) ∙ w .0 .left in
+    let p = held-free r _ (m .marks .ensures) h false in
+    let k = held-free r _ (m .marks .ensures) h true in
+    turn c (alone-free r _ (m .marks .ensures) h) (omega (arith, w .1)) (omega (arith, w .2)) (omega arith)))
+    (c .if2 .came)
+
+returns-3 : tie.Need-returns-3 Inv-loop μ-loop
+returns-3 c =
     let a = c .before .before .before .args in
     let s = c .before .loop in
-    scan-done (recordAt (a .records .now)) (a .from) (a .base) (a .past) (s .tally) (s .at) (s .inv) (omega arith)
+    scan-done (recordAt (a .records .now)) (a .from) (a .base) (a .past) (s .page) (s .kernel) (s .at) (s .inv) (omega arith)
 
 pub scan-spec : {M : Type 1} → statement M
 scan-spec =
@@ -127,20 +162,18 @@ scan-spec =
     Inv-loop
     μ-loop
     loop-holds
-    is-good-requires
+    head-pages-requires
+    torn-scan-requires
+    returns
     marks-requires
-    level-requires
-    cast-pages-at
-    pages-at-requires
-    place-requires
-    mul-tally
-    array-read-tally
-    share-requires
-    add-tally
-    mul-tally-2
-    array-write-tally
+    is-allocated-requires
+    is-alone-requires
+    torn-scan-requires-2
+    returns-2
+    is-kernel-requires
+    add-kernel
+    add-page
     add-at
     loop-less
     loop-again
-    returns
-    returns-2)
+    returns-3)

@@ -1,0 +1,171 @@
+-- `visit` meets its contract. Its tests are `rowTest`, in the same order, and what it adds is what the test of the region found.
+use Prim.Native.Nat.{_+_, _-_, _/_, _≤_, _<_}
+use mathlib.Core.Bool.{true}
+use mathlib.Core.Path.{_≡_, refl, sym, _∙_}
+use native.Mathlib.Omega.{arith}
+use borrow.Author.Needs.{needs}
+use borrow.Author.Tests.{le-leb, lt-leb, not-false, not-true}
+use lib.Dec.{leb}
+use lib.ListN.{length}
+use Rattle.definition.specs.Board.{standard}
+use Rattle.definition.specs.World.{recordAt}
+use Rattle.definition.specs.Torn.{rowAsBoot}
+use Rattle.definition.proofs.Tests.{and-true}
+use Rattle.scan.specs.Sheet.{placedAt, Audited}
+use Rattle.audit.proofs.Onward.{and-off, and-on}
+use Rattle.audit.proofs.Booted.{Booted, booted}
+use Rattle.audit.proofs.Counting.{managedRow}
+use Rattle.audit.proofs.Surveying.{visited-torn}
+use Rattle.audit.proofs.visit.Statement.{statement}
+use Rattle.audit.proofs.visit.Tie as tie
+
+-- the row is as boot makes it
+is-booted : (c : tie.Else1) → rowAsBoot standard (c .before .before .before .args .row) ≡ true
+is-booted c = sym (c .before .row-as-boot .ensures) ∙ not-false _ (c .if1 .left)
+
+numbers : (c : tie.Else1) → Booted (c .before .before .before .args .row)
+numbers c = booted (c .before .before .before .args .row) (is-booted c)
+
+-- where its pages end
+ends : (c : tie.After-table-pages) → let a = c .before .before .before .before .before .args in
+    a .seen .managed + (a .row .pages - c .table-pages .result) ≡ a .seen .managed + managedRow (a .row)
+ends c = rw (c .table-pages .ensures)
+
+-- the loan has its records
+room : (c : tie.Else2) → let a = c .before .before .before .before .before .before .before .before .args in
+    leb (a .seen .managed + managedRow (a .row)) (length (a .records .now) / 16) ≡ true
+room c =
+    let a = c .before .before .before .before .before .before .before .before .args in
+    le-leb (a .seen .managed + managedRow (a .row)) (length (a .records .now) / 16) (omega (arith, ends (c .before .before .before), c .if2 .left))
+
+row-as-boot-requires : tie.Need-row-as-boot-requires
+row-as-boot-requires c κs = search needs
+
+torn-rows-requires : tie.Need-torn-rows-requires
+torn-rows-requires c κs = search needs
+
+returns : tie.Need-returns
+returns c =
+    visited-torn (c .torn-rows .ensures) (and-off _ (sym (c .before .before .row-as-boot .ensures) ∙ not-true _ (c .before .if1 .taken)))
+
+table-pages-requires : tie.Need-table-pages-requires
+table-pages-requires c κs = let b = numbers (c .before) in omega arith
+
+sub-past : tie.Need-sub-past
+sub-past c = search needs
+
+add-past : tie.Need-add-past
+add-past c = search needs
+
+torn-rows-requires-2 : tie.Need-torn-rows-requires-2
+torn-rows-requires-2 c κs = search needs
+
+returns-2 : tie.Need-returns-2
+returns-2 c =
+    let a = c .before .before .before .before .before .before .before .before .before .args in
+    let l : length (a .records .now) / 16 < a .seen .managed + managedRow (a .row) =
+    omega (arith, ends (c .before .before .before .before), c .before .if2 .taken) in
+    visited-torn (c .torn-rows2 .ensures)
+    (and-on _ (is-booted (c .before .before .before .before .before .before))
+    ∙ and-off _ (lt-leb (a .seen .managed + managedRow (a .row)) (length (a .records .now) / 16) l))
+
+page-number-requires : tie.Need-page-number-requires
+page-number-requires c κs = search needs
+
+add-region-whole : tie.Need-add-region-whole
+add-region-whole c = search needs
+
+region-whole-requires : tie.Need-region-whole-requires
+region-whole-requires c κs = search needs
+
+torn-rows-requires-3 : tie.Need-torn-rows-requires-3
+torn-rows-requires-3 c κs = search needs
+
+-- the region, whose first managed page is behind those that were seen
+region : (c : tie.After-region-whole) → let a = c .before .before .before .before .before .before .before .before .before .before .args in
+    Audited (recordAt (a .records .now)) (placedAt (a .seen .managed) (a .row)) (c .region-whole .result)
+region c = c .region-whole .ensures
+
+returns-3 : tie.Need-returns-3
+returns-3 c =
+    let w = c .before .before .before in
+    visited-torn (c .torn-rows3 .ensures)
+    (and-on _ (is-booted (w .before .before .before .before .before .before .before))
+    ∙ and-on _ (room (w .before .before))
+    ∙ sym (region w .exact)
+    ∙ not-true _ (c .before .if3 .taken))
+
+-- the region is whole, and its pages are those held and those listed
+whole : (c : tie.Else3) → c .before .before .region-whole .result .ok ≡ true
+whole c = not-false _ (c .if3 .left)
+
+held : (c : tie.Else3) → let w = c .before .before in
+    let a = w .before .before .before .before .before .before .before .before .before .before .args in
+    w .region-whole .result .page + w .region-whole .result .kernel ≤ managedRow (a .row)
+held c = omega (arith, region (c .before .before) .pages (whole c))
+
+add-t11 : tie.Need-add-t11
+add-t11 c = search needs
+
+add-t10 : tie.Need-add-t10
+add-t10 c = search needs
+
+add-t12 : tie.Need-add-t12
+add-t12 c =
+    let d = c .before .before .before .before .before in
+    let s = d .before .before .before .before .before .before .before .before .before .before .before .before in
+    let b = numbers (d .before .before .before .before .before .before .before .before .before) in
+    omega (arith, held d, s .pre .0 .holds, s .pre .0 .manages, s .pre .0 .totals, s .pre .1)
+
+add-t13 : tie.Need-add-t13
+add-t13 c =
+    let d = c .before .before .before .before .before .before .before in
+    let s = d .before .before .before .before .before .before .before .before .before .before .before .before in
+    let b = numbers (d .before .before .before .before .before .before .before .before .before) in
+    omega (arith, held d, s .pre .0 .holds, s .pre .0 .manages, s .pre .0 .totals, s .pre .1)
+
+returns-4 : tie.Need-returns-4
+returns-4 c =
+    let d = c .before .before .before .before .before .before .before in
+    let w = d .before .before in
+    let a = region w in
+    let p = a .page (whole d) in
+    let k = a .kernel (whole d) in
+    record {
+      exact =
+          sym
+          (and-true
+          (is-booted (w .before .before .before .before .before .before .before))
+          (and-true (room (w .before .before)) (sym (a .exact) ∙ whole d)));
+      added = λ t. record {
+        used = refl;
+        total = refl;
+        manages = ends (w .before .before .before .before .before);
+        page = omega (arith, p);
+        kernel = omega (arith, k);
+        pages = omega (arith, p, k, a .pages (whole d));
+      };
+    }
+
+pub visit-spec : {M : Type 1} → statement M
+visit-spec =
+    tie.close
+    (tie.spec
+    row-as-boot-requires
+    torn-rows-requires
+    returns
+    table-pages-requires
+    sub-past
+    add-past
+    torn-rows-requires-2
+    returns-2
+    page-number-requires
+    add-region-whole
+    region-whole-requires
+    torn-rows-requires-3
+    returns-3
+    add-t11
+    add-t10
+    add-t12
+    add-t13
+    returns-4)

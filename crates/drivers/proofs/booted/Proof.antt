@@ -1,0 +1,45 @@
+-- The map is the array with one entry counted.
+use Prim.Native.Nat.{ℕ}
+use mathlib.Core.Path.{refl, sym, ap}
+use Rattle.drivers.specs.Driving.{bootedWorld, usable}
+use borrow.Author.Needs.{needs}
+use Rattle.drivers.proofs.booted.Statement.{statement}
+use Rattle.drivers.proofs.booted.Tie as tie
+
+new-requires : tie.Need-new-requires
+new-requires c κs = search needs
+
+new-requires-2 : tie.Need-new-requires-2
+new-requires-2 c κs = search needs
+
+array-set-from-map : tie.Need-array-set-from-map
+array-set-from-map c = search needs
+
+unbooted-requires : tie.Need-unbooted-requires
+unbooted-requires c κs = search needs
+
+boot-requires : tie.Need-boot-requires
+boot-requires c κs = search needs
+
+same-length : tie.Need-same-length
+same-length c = search needs
+
+returns : tie.Need-returns
+unfolding bootedWorld
+returns c =
+    let a = c .before .before .before .before .before .before .before .before .before .before .before .args in
+    let map = ap (λ (n : ℕ). usable n (a .length)) (sym (c .before .before .before .before .before .before .new2 .ensures)) in
+    rw (c .before .before .before .before .before .unbooted .ensures) at
+    (c .before .before .before .boot .ensures (usable (a .start) (a .length)) refl map .world)
+
+pub booted-spec : {M : Type 1} → statement M
+booted-spec =
+    tie.close
+    (tie.spec
+    new-requires
+    new-requires-2
+    array-set-from-map
+    unbooted-requires
+    boot-requires
+    same-length
+    returns)
