@@ -96,14 +96,14 @@ fn small() {
         "audit of 16 pages, ns a call", "Rattle", "Rust", "ratio"
     );
     let no_state = Store { words: vec![0; 171], ..Store::listed(16, 0) };
-    let short = Store { memory_len: 0, ..Store::listed(16, 0) };
+    let short = Store { records: Vec::new(), ..Store::listed(16, 0) };
     let mut torn = Store::listed(16, 0);
-    torn.words[19] = 1;
+    torn.words[17] = 1;
     let cases = [
         ("171 words, which are no state", no_state, 2),
         ("no row", Store::empty(), 1),
-        ("a short loan: words, rows, loans", short, 0),
-        ("a torn last list: and the scan, 5 lists", torn, 0),
+        ("no records: words, the row", short, 0),
+        ("a torn last list: and the scan, the lists", torn, 0),
         ("16 frames held: all, but no list walked", Store::held(16), 1),
         ("16 frames listed: all", Store::listed(16, 0), 1),
         ("16 frames listed, shuffled: all", Store::shuffled(16), 1),

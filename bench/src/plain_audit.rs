@@ -72,10 +72,6 @@ fn number(records: &[u8], page: usize, k: usize) -> u32 {
     u32::from_le_bytes(records[at..at + 4].try_into().unwrap())
 }
 
-fn class(marks: u32, level: u32) -> usize {
-    level as usize * 2 + (marks / 4 % 2) as usize
-}
-
 fn pages_at(level: u32) -> usize {
     match level {
         0 => 1,
@@ -84,37 +80,45 @@ fn pages_at(level: u32) -> usize {
     }
 }
 
-/// The frames on each list and the pages held without KERNEL and with it, if all
-/// heads are good.
-fn scan(records: &[u8], region: Region) -> Option<[usize; 8]> {
+/// The pages of the head at a page, if it is a good one.
+fn head_pages(records: &[u8], region: Region, at: usize) -> Option<usize> {
+    let (marks, level) = (number(records, at, 0), number(records, at, 1));
+    if marks & 1 == 0 || marks >= 16 {
+        return None;
+    }
+    // A branch of its own, so that the step to the next head waits for no load.
+    if level == 0 {
+        return Some(1);
+    }
+    if level >= 3 {
+        return None;
+    }
+    let pages = pages_at(level);
     let Region { from, base, past } = region;
-    let mut tally = [0; 8];
-    let mut at = base;
-    while at < past {
-        let (marks, level) = (number(records, at, 0), number(records, at, 1));
-        if marks & 1 == 0 || marks >= 16 || level >= 3 {
-            return None;
-        }
-        let pages = pages_at(level);
-        if (from + (at - base)) % pages != 0 || past - at < pages {
-            return None;
-        }
-        // No early exit, so that the loop is vector code.
-        let inside = &records[(at + 1) * 16..(at + pages) * 16];
-        if inside.iter().fold(0, |all, byte| all | byte) != 0 {
-            return None;
-        }
-        if marks & 2 == 0 {
-            tally[class(marks, level)] += 1;
-        } else {
+    if (from + (at - base)) % pages != 0 || past - at < pages {
+        return None;
+    }
+    // No early exit, so that the loop is vector code.
+    let inside = &records[(at + 1) * 16..(at + pages) * 16];
+    (inside.iter().fold(0, |all, byte| all | byte) == 0).then_some(pages)
+}
+
+/// The pages held without KERNEL and with it, if all heads are good.
+fn scan(records: &[u8], region: Region) -> Option<[usize; 2]> {
+    let mut held = [0; 2];
+    let mut at = region.base;
+    while at < region.past {
+        let pages = head_pages(records, region, at)?;
+        let marks = number(records, at, 0);
+        if marks & 2 != 0 {
             if number(records, at, 2) != 0 || number(records, at, 3) != 0 {
                 return None;
             }
-            tally[6 + (marks / 8 % 2) as usize] += pages;
+            held[(marks / 8 % 2) as usize] += pages;
         }
         at += pages;
     }
-    Some(tally)
+    Some(held)
 }
 
 /// Whether `at` names an unheld frame of the region and the list.
@@ -124,7 +128,7 @@ fn is_on(records: &[u8], region: Region, k: usize, at: u32) -> bool {
     }
     let page = at as usize - 1;
     let (marks, level) = (number(records, page, 0), number(records, page, 1));
-    marks & 3 == 1 && class(marks, level) == k
+    marks % 8 == 1 + 4 * (k as u32 % 2) && level as usize == k / 2
 }
 
 fn earlier(records: &[u8], at: u32) -> u32 {
@@ -193,37 +197,38 @@ fn is_whole<const BOTH: bool>(
     for (row, words) in rows.iter_mut().zip(words.chunks_exact(ROW)) {
         *row = Row::of(words);
     }
-    let used = rows.iter().position(|row| row.pages == 0).unwrap_or(8);
-    let (used, unused) = rows.split_at(used);
     let demand = |holds: bool| holds.then_some(());
-    demand(unused.iter().all(Row::is_unused) && used.iter().all(Row::is_as_boot_makes))?;
-    for (k, row) in used.iter().enumerate() {
-        let shares =
-            |it: &Row| row.first() < it.first() + it.pages && it.first() < row.first() + row.pages;
-        demand(!used[k + 1..].iter().any(shares))?;
-    }
-    let total: u64 = used.iter().map(|row| row.pages).sum();
-    demand(total <= 1_048_576)?;
-    let managed = used.iter().map(Row::managed).sum::<u64>() as usize;
-    demand(16 * managed <= records.len() && 4096 * managed <= memory_len)?;
-
-    let (mut base, mut idle, mut held) = (0, 0, [0; 2]);
-    for row in used {
+    let (mut used, mut total, mut base, mut held) = (0, 0, 0, [0; 2]);
+    for (i, row) in rows.iter().enumerate() {
+        if row.pages == 0 {
+            demand(row.is_unused())?;
+            continue;
+        }
+        demand(used == i && row.is_as_boot_makes())?;
         let past = base + row.managed() as usize;
+        demand(past <= records.len() / 16)?;
         let region = Region { from: (row.first() + row.tables()) as usize, base, past };
-        let tally = scan(records, region)?;
+        let [page, kernel] = scan(records, region)?;
+        let pages = |(k, list): (usize, &Links)| pages_at(k as u32 / 2) * list.count as usize;
+        let listed: usize = row.lists.iter().enumerate().map(pages).sum();
+        demand(listed == past - base - page - kernel)?;
         for (k, list) in row.lists.into_iter().enumerate() {
             let walks = if BOTH { walks_from_both_ends } else { walks_from_one_end };
-            demand(walks(records, region, k, list) && list.count as usize == tally[k])?;
-            idle += pages_at(k as u32 / 2) as u64 * u64::from(list.count);
+            demand(walks(records, region, k, list))?;
         }
-        idle += row.tables();
-        held = [held[0] + tally[6], held[1] + tally[7]];
-        base = past;
+        (used, total, base) = (used + 1, total + row.pages, past);
+        held = [held[0] + page, held[1] + kernel];
     }
+    for (k, row) in rows[..used].iter().enumerate() {
+        let shares =
+            |it: &Row| row.first() < it.first() + it.pages && it.first() < row.first() + row.pages;
+        demand(!rows[k + 1..used].iter().any(shares))?;
+    }
+    demand(total <= 1_048_576 && 4096 * base <= memory_len)?;
 
     let [kernel_used, page_data, counted_idle, counted_total] =
         words[COUNTERS..COUNTERS + 4].try_into().unwrap();
+    let idle = total - (held[0] + held[1]) as u64;
     demand(counted_idle == idle && counted_total == total)?;
     demand(kernel_used == held[1] as u64 && page_data == held[0] as u64)?;
     let waiting = words[COUNTERS + 7];

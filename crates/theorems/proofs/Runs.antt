@@ -30,6 +30,7 @@ use Rattle.bookkeeping.specs.Good.{Good}
 use Rattle.bookkeeping.proofs.Good.{accepted, good}
 use Rattle.bookkeeping.proofs.Rooms.{step-room}
 use Rattle.theorems.specs.Demands.{Accepted, worldAfter, answersOf, bookAfter, Tied}
+use Rattle.theorems.specs.Stands.{Stands}
 use Rattle.theorems.proofs.Bytes.{regions-length, memory-length}
 use Rattle.theorems.proofs.Encoded.{Fits, encoded-sound, records-length, memory-as-long, queue-length}
 use Rattle.theorems.proofs.Decoded.{ZeroElsewhere, decode-encode}
@@ -152,6 +153,19 @@ module _ {map : List MemoryRegion} {w v : World} {x : State} (H : Holds map w v 
   holds-memory =
       ap (λ (u : World). u .memory) (sym (H .written)) ∙ same-memory (x .store) v w (rw (managed-is here) (H .beside .memory))
 
+  pub stands : Stands standard w v (x .store)
+  stands =
+      record {
+        written = H .written;
+        decoded = holds-decode;
+        whole = holds-sound;
+        records = holds-records;
+        memory = holds-memory;
+        recordsLong = H .beside .recordsLong;
+        memoryLong = H .beside .memoryLong;
+        queueLong = H .beside .queueLong;
+      }
+
   -- a call is the store's step, written into the world
   pub call-is : (c : Call) → call standard v c ≡ written standard v (step standard (x .store) c)
   unfolding call
@@ -265,14 +279,4 @@ module _ (map : List MemoryRegion) (w : World) (ok : Accepted (bootCall standard
   pub tied : (calls : List Call) → Tied standard map w calls
   tied calls =
       let H = all-hold boot-holds calls in
-      record {
-        written = H .written;
-        decoded = holds-decode H;
-        whole = holds-sound H;
-        records = holds-records H;
-        memory = holds-memory H;
-        recordsLong = H .beside .recordsLong;
-        memoryLong = H .beside .memoryLong;
-        queueLong = H .beside .queueLong;
-        answers = all-answers boot-holds calls;
-      }
+      record { stands = stands H; answers = all-answers boot-holds calls }

@@ -47,8 +47,9 @@ use Rattle.definition.specs.World.{World, memoryOf}
 use Rattle.bookkeeping.specs.Claim as Claim
 use Rattle.bookkeeping.specs.Claim.{State, next}
 use Rattle.theorems.specs.Demands.{Accepted}
-use Rattle.theorems.specs.Scripts.{Stands, ScriptLeaves}
-use Rattle.theorems.proofs.Runs.{Holds, holds-sound, holds-decode, holds-records, holds-memory, call-is, call-holds, boot-holds}
+use Rattle.theorems.specs.Scripts.{ScriptLeaves}
+use Rattle.theorems.specs.Stands.{Stands}
+use Rattle.theorems.proofs.Runs.{Holds, stands, call-is, call-holds, boot-holds}
 
 -- ---- the two runs, line by line
 
@@ -113,19 +114,6 @@ lines-same S (l ∷ ls) =
 same-before : {w : World} {r : Running} {q : RunningOn} → Same w r q → r .store ≡ none → q .world ≡ w
 same-before (before map) e = refl
 same-before (after H) e = let z : _≡_ {A = ℕ} 0 1 = cc in absurd (omega arith)
-
-stands : {map : List MemoryRegion} {w v : World} {x : State} → Holds map w v x → Stands standard w v (x .store)
-stands H =
-    record {
-      written = H .written;
-      decoded = holds-decode H;
-      whole = holds-sound H;
-      records = holds-records H;
-      memory = holds-memory H;
-      recordsLong = H .beside .recordsLong;
-      memoryLong = H .beside .memoryLong;
-      queueLong = H .beside .queueLong;
-    }
 
 same-after : {w : World} {r : Running} {q : RunningOn} → Same w r q → (s : Store) → r .store ≡ some s → Stands standard w (q .world) s
 same-after (before map) s e = let z : _≡_ {A = ℕ} 0 1 = cc in absurd (omega arith)

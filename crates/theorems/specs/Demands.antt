@@ -20,8 +20,9 @@ use Rattle.definition.specs.Rust as Rust
 use Rattle.definition.specs.Rust.{commonGround}
 use Rattle.definition.specs.Store.{Store}
 use Rattle.definition.specs.Torn.{sound, call, bootCall}
-use Rattle.definition.specs.World.{World, memoryOf, decode, encode}
+use Rattle.definition.specs.World.{World, memoryOf, decode}
 use Rattle.bookkeeping.specs.Claim.{Bookkeeping, Asks, Wanting, NoneFrom, Picked, afterCalls}
+use Rattle.theorems.specs.Stands.{Stands}
 
 -- ---- a list of calls on a world
 
@@ -116,17 +117,7 @@ abbrev pub storeAll : Board → List MemoryRegion → World → List Call → St
 storeAll b map w calls = afterCalls b map (memoryOf b (w .memory) (keptRegions b map)) (length (w .queue)) calls .store
 
 pub record Tied (b : Board) (map : List MemoryRegion) (w : World) (calls : List Call) : Type 0 where
-  -- writing the store into the world changes no byte of it, and reading the world gives the store; places behind the queue's count keep what earlier calls
-  -- left there, so that this says all of the queue
-  pub written : encode b (storeAll b map w calls) (afterAll b map w calls) ≡ afterAll b map w calls
-  pub decoded : decode b (afterAll b map w calls) ≡ storeAll b map w calls
-  pub whole : sound b (afterAll b map w calls) ≡ true
-  -- its records and memory are the store's, written into the loans as they were before the boot: no byte behind the managed pages has changed
-  pub records : afterAll b map w calls .records ≡ encode b (storeAll b map w calls) w .records
-  pub memory : afterAll b map w calls .memory ≡ encode b (storeAll b map w calls) w .memory
-  -- the loans are as long as they were
-  pub recordsLong : length (afterAll b map w calls .records) ≡ length (w .records)
-  pub memoryLong : length (afterAll b map w calls .memory) ≡ length (w .memory)
-  pub queueLong : length (afterAll b map w calls .queue) ≡ length (w .queue)
+  -- the world that the calls leave is the store that they lead to, in bytes
+  pub stands : Stands b w (afterAll b map w calls) (storeAll b map w calls)
   -- and the answers are the store's
   pub answers : answersAll b map w calls ≡ run b (bootStore b map w) calls .answers

@@ -1,31 +1,14 @@
 -- What a script prints and leaves where each of its lines gets the bytes that the last one left: `ScriptLeaves` ties that run to the run over stores. A reader
 -- takes from here that 01's output, which is said over stores, is what the run over the bytes of the loans prints, and that those bytes are the store's.
 use Prim.Native.Nat.{ℕ}
-use mathlib.Core.Bool.{true}
 use mathlib.Core.List.{List, _++_}
 use mathlib.Core.Option.{Option, none, some}
 use mathlib.Core.Path.{_≡_}
-use lib.ListN.{length}
 use Rattle.definition.specs.Board.{Board}
 use Rattle.definition.specs.Script.{lines, started, runLines, header, outputOf, runOn, worldAfter}
 use Rattle.definition.specs.Store.{Store}
-use Rattle.definition.specs.Torn.{sound}
-use Rattle.definition.specs.World.{World, decode, encode}
-
--- the world v, which came of w, is the store s in bytes
-pub record Stands (b : Board) (w v : World) (s : Store) : Type 0 where
-  -- writing the store into the world changes no byte of it, and reading the world gives the store; this says all of the queue, whose places behind its count
-  -- keep what earlier calls left there
-  pub written : encode b s v ≡ v
-  pub decoded : decode b v ≡ s
-  pub whole : sound b v ≡ true
-  -- its records and memory are the store's, written into the loans as they were before the script
-  pub records : v .records ≡ encode b s w .records
-  pub memory : v .memory ≡ encode b s w .memory
-  -- the loans are as long as they were
-  pub recordsLong : length (v .records) ≡ length (w .records)
-  pub memoryLong : length (v .memory) ≡ length (w .memory)
-  pub queueLong : length (v .queue) ≡ length (w .queue)
+use Rattle.definition.specs.World.{World}
+use Rattle.theorems.specs.Stands.{Stands}
 
 -- the store where the run over stores ends, if one of its boots was accepted
 abbrev pub storeAfter : Board → World → List ℕ → Option Store

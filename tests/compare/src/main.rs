@@ -15,6 +15,7 @@ mod random;
 mod record;
 mod report;
 mod scratch;
+mod shape;
 mod short;
 mod shrink;
 mod statistics;

@@ -22,6 +22,8 @@ mod random;
 #[cfg(feature = "oracle")]
 mod records;
 mod report;
+#[path = "../../compare/src/shape.rs"]
+mod shape;
 mod shrink;
 mod tally;
 mod vectors;
@@ -38,6 +40,7 @@ fn main() -> ExitCode {
     let done = match &options.command {
         Command::Model => commands::model(&options),
         Command::Replay(file) => commands::replay(file),
+        Command::Example(name) => commands::example(name),
         #[cfg(feature = "oracle")]
         Command::Oracle => commands::oracle(&options),
         #[cfg(feature = "oracle")]

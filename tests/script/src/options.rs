@@ -5,6 +5,7 @@ pub const USAGE: &str = "usage: script COMMAND [--scripts N] [--calls K] [--seed
   oracle        both against the kernel's Rust: random scripts on common ground
   vectors       prints a sample of the answers of the kernel's Rust
   replay FILE   the linked run and the model against such a sample
+  example NAME  both on the script NAME.txt, which prints NAME.out
   --scripts N   random scripts (20000; 2000 for oracle; 320 for vectors)
   --calls K     calls of each, about (30)
   --seed S      what they are made from (1)
@@ -24,6 +25,7 @@ pub enum Command {
     Oracle,
     Vectors,
     Replay(String),
+    Example(String),
 }
 
 impl Options {
@@ -34,6 +36,7 @@ impl Options {
             "oracle" => Command::Oracle,
             "vectors" => Command::Vectors,
             "replay" => Command::Replay(words.next()?),
+            "example" => Command::Example(words.next()?),
             _ => return None,
         };
         let mut options = Options { command, scripts: None, calls: None, seed: 1, first: 0 };

@@ -1,7 +1,7 @@
 //! A sample of what the kernel's Rust answers, as one file: for each script a line
 //! `script,LINES`, its lines, a line `answers,BYTES`, and as many bytes, the
 //! header included. The program's own loans suffice for every script: memory of
-//! 64 KiB, 16 records, a queue of 64. The file in this package was made by
+//! 64 KiB, 16 records, a queue of 64. `crates/vectors/stdin` was made by
 //! `cargo run --release -p script --features oracle -- vectors`, and is the same
 //! whenever it is made again.
 

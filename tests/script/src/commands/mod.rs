@@ -9,7 +9,7 @@ mod replay;
 pub use model::model;
 #[cfg(feature = "oracle")]
 pub use oracle::{oracle, vectors};
-pub use replay::replay;
+pub use replay::{example, replay};
 
 use crate::{
     case::{Case, Outcome},

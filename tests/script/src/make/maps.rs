@@ -6,18 +6,11 @@
 use crate::{
     model::{kept, managed, Entry, PAGE},
     random::Random,
+    shape::{self, base, place, Numbers, Shape, LAST_PAGE, USABLE},
 };
 
-/// Pages of a 2 MiB frame.
-const LARGE: u64 = 512;
-
-/// Table pages are one for each so many pages, or part of them.
-const PAGES_OF_A_TABLE: u64 = 128;
-
-/// The highest page number plus 1, 2^40 bytes.
-const LAST_PAGE: u64 = 1 << 28;
-
-const USABLE: u64 = 0;
+/// The small frames before and after large ones.
+const FEW: [(u64, u64); 5] = [(0, 38), (1, 29), (2, 19), (7, 10), (90, 4)];
 
 /// How large the regions of a map are.
 #[derive(Clone, Copy, PartialEq, Debug)]
@@ -30,13 +23,6 @@ pub enum Extent {
     Many,
     /// With frames of 2 MiB.
     Large,
-}
-
-/// A region's pages, and where one of them, counted from the first, must be
-/// aligned to a 2 MiB frame.
-struct Shape {
-    pages: u64,
-    aligned: Option<u64>,
 }
 
 /// A map on common ground.
@@ -79,70 +65,27 @@ fn insert(random: &mut Random, map: &mut Vec<Entry>, entry: Entry) {
     map.insert(place, entry);
 }
 
-/// The first page from which regions are placed.
-fn base(random: &mut Random) -> u64 {
-    match random.weighted(&[(0, 5), (1, 85), (2, 10)]) {
-        0 => 0,
-        1 => random.within(1..=LAST_PAGE / 256),
-        _ => LAST_PAGE - random.within(5000..=8000),
-    }
-}
-
 /// One region of a map has what its extent asks for.
 fn shape(random: &mut Random, extent: Extent, chosen: bool) -> Shape {
-    let range = match extent {
-        Extent::Large if chosen => return large_shape(random),
-        Extent::Many if chosen => (120, 300),
-        Extent::Within(_) => random.weighted(&[((2, 6), 30), ((7, 17), 70)]),
-        _ => random.weighted(&[((2, 6), 45), ((7, 16), 35), ((17, 40), 20)]),
-    };
-    Shape { pages: random.within(range.0..=range.1), aligned: None }
-}
-
-/// One or two 2 MiB frames with, as a rule, few small ones before and after, which
-/// are soon granted, so that a grant then splits.
-fn large_shape(random: &mut Random) -> Shape {
-    let frames = random.weighted(&[(1, 80), (2, 20)]);
-    let few = [(0, 38), (1, 29), (2, 19), (7, 10), (90, 4)];
-    let (before, after) = (random.weighted(&few), random.weighted(&few));
-    let managed = before + frames * LARGE + after;
-    let mut tables = 0;
-    while tables != (tables + managed).div_ceil(PAGES_OF_A_TABLE) {
-        tables = (tables + managed).div_ceil(PAGES_OF_A_TABLE);
-    }
-    Shape { pages: tables + managed, aligned: Some(tables + before) }
-}
-
-/// The region's first page, at the next free one or a little above.
-fn place(random: &mut Random, shape: &Shape, free: u64) -> u64 {
-    let gap = random.weighted(&[(0, 30), (1, 30), (9, 40)]);
-    match shape.aligned {
-        None => free + gap,
-        Some(page) => (free + gap + page).next_multiple_of(LARGE) - page,
+    match extent {
+        Extent::Large if chosen => shape::large(random, &FEW),
+        Extent::Many if chosen => Shape { pages: random.within(120..=300), aligned: None },
+        Extent::Within(_) => shape::small(random, &[((2, 6), 30), ((7, 17), 70)]),
+        _ => shape::small(random, &[((2, 6), 45), ((7, 16), 35), ((17, 40), 20)]),
     }
 }
 
-/// An entry that becomes these pages, with some bytes too few for a page on
-/// either side.
-fn kept_entry(random: &mut Random, first: u64, pages: u64) -> Entry {
-    let odd =
-        |random: &mut Random| if random.percent(50) { random.within(1..=PAGE - 1) } else { 0 };
-    let before = if first == 0 { 0 } else { odd(random) };
-    let length = before + pages * PAGE + odd(random);
-    Entry { start: first * PAGE - before, length, kind: USABLE }
+fn entry(numbers: Numbers) -> Entry {
+    let Numbers { start, length, kind } = numbers;
+    Entry { start, length, kind }
 }
 
-/// An entry of another kind, with any numbers, or one with a page or less, which
-/// may lie over others.
 fn skipped_entry(random: &mut Random) -> Entry {
-    if random.percent(60) {
-        let kind = random.within(1..=2);
-        let any = |random: &mut Random| random.next() >> random.within(0..=63);
-        return Entry { start: any(random), length: any(random), kind };
-    }
-    let start = random.within(0..=(LAST_PAGE - 4) * PAGE);
-    let gap = start.next_multiple_of(PAGE) - start;
-    Entry { start, length: gap + random.within(0..=2 * PAGE - 1), kind: USABLE }
+    entry(shape::skipped_entry(random))
+}
+
+fn kept_entry(random: &mut Random, first: u64, pages: u64) -> Entry {
+    entry(shape::kept_entry(random, first, pages))
 }
 
 /// A map with some of what boot refuses or what only it skips, laid over a map on
