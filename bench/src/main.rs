@@ -21,6 +21,10 @@ fn main() {
     // The name of one part runs it alone.
     let part = std::env::args().nth(1);
     let runs = |name: &str| part.as_ref().is_none_or(|part| part == name);
+    // The kernel boots once in a process, so that this part is never run with another.
+    if part.as_deref() == Some("script") {
+        return script::run();
+    }
     original::set_up();
     if runs("leaves") {
         leaves();
@@ -31,10 +35,6 @@ fn main() {
     if runs("calls") {
         calls::run();
         stack::run();
-    }
-    // The kernel boots once in a process, so that this part is never run with another.
-    if part.as_deref() == Some("script") {
-        script::run();
     }
 }
 

@@ -1,7 +1,7 @@
 -- Each call promises what it leaves and answers; what is left is which op it is, and its numbers as the callee takes them.
 use borrow.Author.Needs.{needs}
-use Rattle.script.proofs.ask.Statement.{statement}
-use Rattle.script.proofs.ask.Tie as tie
+use Rattle.calls.proofs.ask.Statement.{statement}
+use Rattle.calls.proofs.ask.Tie as tie
 
 array-read-t11 : tie.Need-array-read-t11
 array-read-t11 c = search needs

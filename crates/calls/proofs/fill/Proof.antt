@@ -1,7 +1,7 @@
 -- The byte is the fourth number's lowest.
 use borrow.Author.Needs.{needs}
-use Rattle.script.proofs.fill.Statement.{statement}
-use Rattle.script.proofs.fill.Tie as tie
+use Rattle.calls.proofs.fill.Statement.{statement}
+use Rattle.calls.proofs.fill.Tie as tie
 
 array-read-byte-of : tie.Need-array-read-byte-of
 array-read-byte-of c = search needs

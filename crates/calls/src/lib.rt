@@ -1,0 +1,107 @@
+// Every call that answers by numbers, by its op and at most five numbers: one way in for all that read a call from elsewhere, a line of a script or words that a
+// kernel lends. It promises what the call promises.
+use address::PhysAddr;
+use definition::FrameAllocFlags;
+use exam::Answer;
+use exam::Outcome;
+use exam::State;
+use lines::Ask;
+ghost use mathlib.Core.Path.{_≡_};
+ghost use Prim.Native.Nat.{_%_};
+ghost use lib.ListN.{getD};
+ghost use Rattle.definition.specs.Script.{flagsOf};
+ghost use Rattle.exam.specs.Promise.{worldOf, Leaves};
+ghost use Rattle.lines.specs.Reading.{callOf};
+
+// "1 ZEROED + 2 KERNEL + 4 WAIT_OK".
+fn flags_of(n: u64) -> FrameAllocFlags
+    ensures { λ r. ⌜ r ≡ flagsOf n ⌝ }
+{
+    FrameAllocFlags {
+        zeroed: n % 2 == 1,
+        kernel: n / 2 % 2 == 1,
+        wait_ok: n / 4 % 2 == 1,
+    }
+}
+
+pub fn size_of(n: u64) -> usize
+    ensures { λ r. ⌜ r ≡ n ⌝ }
+{
+    n as usize
+}
+
+fn byte_of(n: u64) -> u8
+    ensures { λ r. ⌜ r ≡ n % 256 ⌝ }
+{
+    (n % 256) as u8
+}
+
+// A call that leaves the state as it is.
+fn kept(state: State, answer: Answer) -> Outcome
+    ensures { λ r. ⌜ r ≡ record { state = state; answer = answer } ⌝ }
+{
+    Outcome { state, answer }
+}
+
+fn fill(state: State, records: &mut [u8], memory: &mut [u8], queue: &[u64], n: [u64; 5]) -> Answer
+    ensures { λ r. ⌜ Leaves (worldOf state (now (records .entry)) (now (memory .entry)) (now (queue .entry))) (callOf (Ask.Fill) (λ i. getD n i 0)) (worldOf state (now (records .exit)) (now (memory .exit)) (now (queue .entry))) r ⌝ }
+{
+    let byte = byte_of(n[3]);
+    ranges::fill(
+        state,
+        records,
+        memory,
+        queue,
+        PhysAddr(n[0]),
+        n[1],
+        n[2],
+        byte,
+    )
+}
+
+fn copy(state: State, records: &mut [u8], memory: &mut [u8], queue: &[u64], n: [u64; 5]) -> Answer
+    ensures { λ r. ⌜ Leaves (worldOf state (now (records .entry)) (now (memory .entry)) (now (queue .entry))) (callOf (Ask.Copy) (λ i. getD n i 0)) (worldOf state (now (records .exit)) (now (memory .exit)) (now (queue .entry))) r ⌝ }
+{
+    let to = PhysAddr(n[0]);
+    let from = PhysAddr(n[2]);
+    copies::copy(state, records, memory, queue, to, n[1], from, n[3], n[4])
+}
+
+fn pcopy(state: State, records: &mut [u8], memory: &mut [u8], queue: &[u64], n: [u64; 5]) -> Answer
+    ensures { λ r. ⌜ Leaves (worldOf state (now (records .entry)) (now (memory .entry)) (now (queue .entry))) (callOf (Ask.Pcopy) (λ i. getD n i 0)) (worldOf state (now (records .exit)) (now (memory .exit)) (now (queue .entry))) r ⌝ }
+{
+    let to = PhysAddr(n[0]);
+    let from = PhysAddr(n[2]);
+    copies::pcopy(state, records, memory, queue, to, n[1], from, n[3])
+}
+
+// The calls that answer by numbers.
+pub fn ask(
+    state: State,
+    records: &mut [u8],
+    memory: &mut [u8],
+    queue: &mut [u64],
+    op: Ask,
+    n: [u64; 5],
+) -> Outcome
+    ensures { λ r. ⌜ Leaves (worldOf state (now (records .entry)) (now (memory .entry)) (now (queue .entry))) (callOf op (λ i. getD n i 0)) (worldOf (r .state) (now (records .exit)) (now (memory .exit)) (now (queue .exit))) (r .answer) ⌝ }
+{
+    let pa = PhysAddr(n[0]);
+    match op {
+        Ask::Alloc => grants::alloc(state, records, memory, queue, n[0], n[1], flags_of(n[2])),
+        Ask::Take => grants::take(state, records, memory, queue, n[0], n[1], flags_of(n[2])),
+        Ask::Split => kept(state, frames::split(state, records, memory, queue, pa)),
+        Ask::Free => frames::free(state, records, memory, queue, pa),
+        Ask::Zero => kept(state, ranges::zero(state, records, memory, queue, pa)),
+        Ask::Dirty => kept(state, ranges::dirty(state, records, memory, queue, pa)),
+        Ask::Find => kept(state, frames::find(state, records, memory, queue, pa)),
+        Ask::Queue => reclaim::queue(state, records, memory, queue, pa),
+        Ask::Fill => kept(state, fill(state, records, memory, queue, n)),
+        Ask::Copy => kept(state, copy(state, records, memory, queue, n)),
+        Ask::Pcopy => kept(state, pcopy(state, records, memory, queue, n)),
+        Ask::Round => reclaim::round(state, records, memory, queue),
+        Ask::Lend => counts::lend(state, records, memory, queue, size_of(n[0])),
+        Ask::Back => counts::back(state, records, memory, queue, size_of(n[0])),
+        Ask::Low => kept(state, counts::low(state, records, memory, queue)),
+    }
+}
