@@ -31,16 +31,21 @@ pub fn run() {
     contents(loans(1024), 512 * PAGE, 10);
 }
 
-/// A region of so many pages behind its tables.
-pub fn loans(managed: usize) -> Loans {
+/// The start and the length of a region of so many pages behind its tables.
+pub fn region(managed: usize) -> (u64, usize) {
     let tables = |pages: usize| pages.div_ceil(128);
     let pages = (managed..).find(|&pages| pages - tables(pages) == managed).unwrap();
+    (FIRST - (tables(pages) * PAGE) as u64, pages * PAGE)
+}
+
+pub fn loans(managed: usize) -> Loans {
+    let (start, length) = region(managed);
     Loans {
         records: vec![1; managed * 16],
         memory: vec![1; managed * PAGE],
         queue: vec![0; 64],
-        start: FIRST - (tables(pages) * PAGE) as u64,
-        length: pages * PAGE,
+        start,
+        length,
     }
 }
 
@@ -54,20 +59,26 @@ fn grants() {
     let mut loans = loans(16);
     let theirs = original::Calls::boot(loans.start, loans.length);
     let pairs = by_turns(
+        TIMES,
         || drive(rattle::grants_and_frees, &mut loans, 0, TIMES),
         theirs.as_ref().map(|it| || it.grants_and_frees(TIMES)),
     );
     row("a grant and its free, a pair", pairs);
     let finds = by_turns(
+        TIMES,
         || drive(rattle::finds, &mut loans, FIRST, TIMES),
         theirs.as_ref().map(|it| || it.finds(FIRST, TIMES)),
     );
     row("a find", finds);
 }
 
-/// The times of the sides for one call.
-fn by_turns(mut ours: impl FnMut(), theirs: Option<impl FnMut()>) -> (f64, Option<f64>) {
-    let each = |time: f64| time / TIMES as f64;
+/// The times of the sides for one of so many calls.
+pub fn by_turns(
+    times: usize,
+    mut ours: impl FnMut(),
+    theirs: Option<impl FnMut()>,
+) -> (f64, Option<f64>) {
+    let each = |time: f64| time / times as f64;
     match theirs {
         Some(mut theirs) => {
             let [a, b] = best(TURNS, 1, [&mut ours, &mut theirs]).map(each);
@@ -77,7 +88,7 @@ fn by_turns(mut ours: impl FnMut(), theirs: Option<impl FnMut()>) -> (f64, Optio
     }
 }
 
-fn row(name: &str, (ours, theirs): (f64, Option<f64>)) {
+pub fn row(name: &str, (ours, theirs): (f64, Option<f64>)) {
     match theirs {
         Some(theirs) => println!("{name:<39}{ours:>12.1}{theirs:>12.1}{:>8.2}", ours / theirs),
         None => println!("{name:<39}{ours:>12.1}{:>12}{:>8}", "-", "-"),

@@ -7,6 +7,7 @@
 mod audit;
 mod calls;
 mod clock;
+mod kernel;
 mod original;
 mod plain;
 mod plain_audit;
@@ -21,9 +22,14 @@ fn main() {
     // The name of one part runs it alone.
     let part = std::env::args().nth(1);
     let runs = |name: &str| part.as_ref().is_none_or(|part| part == name);
-    // The kernel boots once in a process, so that this part is never run with another.
-    if part.as_deref() == Some("script") {
-        return script::run();
+    // The kernel boots once in a process, so that these parts are never run with another.
+    match part.as_deref() {
+        Some("script") => return script::run(),
+        Some("kernel") => {
+            let pages = std::env::args().nth(2).and_then(|pages| pages.parse().ok());
+            return kernel::run(pages.unwrap_or(16));
+        }
+        _ => (),
     }
     original::set_up();
     if runs("leaves") {

@@ -2,9 +2,11 @@
 //! records, with slices indexed as one writes them. The walk of a list is there
 //! twice: from both ends at once, as the store walks, and from one.
 
-const ROW: usize = 20;
-const COUNTERS: usize = 8 * ROW;
-const WORDS: usize = COUNTERS + 12;
+const VERSION: u64 = 1;
+const ROW: usize = 11;
+const QUEUED: usize = 1 + 8 * ROW;
+const COUNTERS: usize = QUEUED + 3;
+const WORDS: usize = COUNTERS + 9;
 
 /// 2^40 bytes, in pages.
 const LAST: u64 = 1 << 28;
@@ -26,8 +28,10 @@ struct Row {
 impl Row {
     fn of(words: &[u64]) -> Row {
         let mut lists = [Links::default(); 6];
-        for (list, at) in lists.iter_mut().zip(words[2..].chunks_exact(3)) {
-            *list = Links { front: at[0] as u32, back: at[1] as u32, count: at[2] as u32 };
+        for (pair, at) in lists.chunks_exact_mut(2).zip(words[2..].chunks_exact(3)) {
+            let (low, high) = (|k: usize| at[k] as u32, |k: usize| (at[k] >> 32) as u32);
+            pair[0] = Links { front: low(0), back: high(0), count: low(1) };
+            pair[1] = Links { front: high(1), back: low(2), count: high(2) };
         }
         Row { start: words[0], pages: words[1], lists }
     }
@@ -174,17 +178,17 @@ fn walks_from_both_ends(records: &[u8], region: Region, k: usize, list: Links) -
     at == behind && before == last
 }
 
-/// 1 where all is whole, 0 where it's torn, 2 where the words are no state.
+/// 0 where all is whole, and 6 where it's torn or the words are no state.
 pub fn audit<const BOTH: bool>(
     words: &[u64],
     records: &[u8],
     memory_len: usize,
     queue_len: usize,
-) -> usize {
-    if words.len() != WORDS {
-        return 2;
+) -> u32 {
+    if words.len() < WORDS || words[0] != VERSION {
+        return 6;
     }
-    is_whole::<BOTH>(words, records, memory_len, queue_len).is_some().into()
+    is_whole::<BOTH>(words, records, memory_len, queue_len).map_or(6, |()| 0)
 }
 
 fn is_whole<const BOTH: bool>(
@@ -194,7 +198,7 @@ fn is_whole<const BOTH: bool>(
     queue_len: usize,
 ) -> Option<()> {
     let mut rows = [Row::default(); 8];
-    for (row, words) in rows.iter_mut().zip(words.chunks_exact(ROW)) {
+    for (row, words) in rows.iter_mut().zip(words[1..].chunks_exact(ROW)) {
         *row = Row::of(words);
     }
     let demand = |holds: bool| holds.then_some(());
@@ -232,7 +236,7 @@ fn is_whole<const BOTH: bool>(
     demand(counted_idle == idle && counted_total == total)?;
     demand(kernel_used == held[1] as u64 && page_data == held[0] as u64)?;
     let waiting = words[COUNTERS + 7];
-    let [queued, rounds, freed] = words[COUNTERS + 9..WORDS].try_into().unwrap();
+    let [queued, rounds, freed] = words[QUEUED..COUNTERS].try_into().unwrap();
     demand(waiting == 0 && queued <= queue_len as u64)?;
     demand(rounds <= 1001 && freed <= 100 * rounds)
 }

@@ -1,5 +1,5 @@
 //! The exported drivers of the crates leaves and drivers, the audit of the crate
-//! words, and the run of the crate script. A slice is passed as its address and its length; they test all
+//! store, and the run of the crate script. A slice is passed as its address and its length; they test all
 //! that they are given, so any call is sound whose slices are.
 
 extern "C" {
@@ -7,14 +7,26 @@ extern "C" {
     pub fn leaves_load(records: *const u8, length: usize, count: usize) -> u64;
     pub fn leaves_push(records: *mut u8, length: usize, count: usize) -> usize;
     pub fn leaves_push_pop(records: *mut u8, length: usize, count: usize) -> usize;
-    fn audit_words(
+    fn jilakkor_audit(
         words: *const u64,
         count: usize,
         records: *const u8,
         length: usize,
         memory_len: usize,
         queue_len: usize,
-    ) -> usize;
+    ) -> u32;
+    fn jilakkor_low(
+        words: *mut u64,
+        words_len: usize,
+        records: *mut u8,
+        records_len: usize,
+        memory: *mut u8,
+        memory_len: usize,
+        queue: *mut u64,
+        queue_len: usize,
+        answer: *mut u64,
+        answer_len: usize,
+    ) -> u32;
     fn jilakkor_run(
         script: *const u8,
         script_len: usize,
@@ -110,10 +122,32 @@ pub fn grants(records: &mut [u8], start: u64, pages: usize, level: usize, times:
     unsafe { leaves_grants(records.as_mut_ptr(), records.len(), start, pages, level, times) }
 }
 
-/// Whether all is whole (1) or torn (0), or the words are no state (2).
-pub fn audit(words: &[u64], records: &[u8], memory_len: usize, queue_len: usize) -> usize {
+/// 0 where all is whole, and 6 where it is torn or the words are no state.
+pub fn audit(words: &[u64], records: &[u8], memory_len: usize, queue_len: usize) -> u32 {
     let (count, length) = (words.len(), records.len());
-    unsafe { audit_words(words.as_ptr(), count, records.as_ptr(), length, memory_len, queue_len) }
+    unsafe {
+        jilakkor_audit(words.as_ptr(), count, records.as_ptr(), length, memory_len, queue_len)
+    }
+}
+
+/// Whether memory is low, by the refusal's number, where nothing but words is lent.
+pub fn low(words: &mut [u64]) -> u32 {
+    let (mut bytes, mut queue, mut answer) = ([0u8; 0], [0u64; 0], [0; 2]);
+    let bytes = bytes.as_mut_ptr();
+    unsafe {
+        jilakkor_low(
+            words.as_mut_ptr(),
+            words.len(),
+            bytes,
+            0,
+            bytes,
+            0,
+            queue.as_mut_ptr(),
+            0,
+            answer.as_mut_ptr(),
+            answer.len(),
+        )
+    }
 }
 
 /// What a store lies in, and the only entry of its map.

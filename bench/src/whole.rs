@@ -7,12 +7,18 @@ pub struct Store {
     pub queue_len: usize,
 }
 
-const COUNTERS: usize = 160;
+/// The words of a state: a version, a row of eleven words for each region, three
+/// for the queue and the pass, and the counters.
+const WORDS: usize = 101;
+const ROW: usize = 1;
+const COUNTERS: usize = 92;
 
 impl Store {
     /// No row.
     pub fn empty() -> Store {
-        Store { words: vec![0; 172], records: vec![], memory_len: 0, queue_len: 64 }
+        let mut words = vec![0; WORDS];
+        words[0] = 1;
+        Store { words, records: vec![], memory_len: 0, queue_len: 64 }
     }
 
     /// So many managed pages from a place where a frame of 1 GiB may start, all
@@ -53,8 +59,8 @@ impl Store {
         let tables = |pages: usize| pages.div_ceil(128);
         let pages = (managed..).find(|&pages| pages - tables(pages) == managed).unwrap();
         // The first managed page is at 8 GiB.
-        store.words[0] = (2 * 512 * 512 * 4 - tables(pages) as u64) * 4096;
-        store.words[1] = pages as u64;
+        store.words[ROW] = (2 * 512 * 512 * 4 - tables(pages) as u64) * 4096;
+        store.words[ROW + 1] = pages as u64;
         store.records = vec![0; managed * 16];
         let number = |place: Option<usize>| {
             place.and_then(|place| order.get(place)).map_or(0, |&page| page as u32 + 1)
@@ -66,10 +72,11 @@ impl Store {
                 store.records[at..at + 4].copy_from_slice(&number.to_le_bytes());
             }
         }
-        let dirty = 2 + 6 * level;
+        // The dirty list of a level is the first of two that stand in three words.
+        let dirty = ROW + 2 + 3 * level;
         let back = number(order.len().checked_sub(1));
-        let list = [number(Some(0)), back, order.len() as u32].map(u64::from);
-        store.words[dirty..dirty + 3].copy_from_slice(&list);
+        store.words[dirty] = u64::from(number(Some(0))) | u64::from(back) << 32;
+        store.words[dirty + 1] = order.len() as u64;
         store.words[COUNTERS + 2] =
             (tables(pages) + order.len() * 512usize.pow(level as u32)) as u64;
         store.words[COUNTERS + 3] = pages as u64;

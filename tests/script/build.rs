@@ -1,4 +1,5 @@
-//! Links the archive that `rt staticlib script` writes.
+//! Where the archive stands that `rt staticlib script` writes. The program names it
+//! (linked.rs), not the library.
 
 use std::env;
 
@@ -6,6 +7,5 @@ fn main() {
     let package = env::var("CARGO_MANIFEST_DIR").unwrap();
     let archives = format!("{package}/../../target/staticlib");
     println!("cargo::rustc-link-search=native={archives}");
-    println!("cargo::rustc-link-lib=static=script");
     println!("cargo::rerun-if-changed={archives}/libscript.a");
 }

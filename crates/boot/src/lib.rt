@@ -161,7 +161,7 @@ fn refusal_of_rows(rows: [Row; 8], used: usize, records: usize, memory: usize) -
 }
 
 // Of a map of `count` entries the first eight are given; of a longer one none is read.
-fn refusal_of_map(map: [MemoryRegion; 8], count: usize, records: usize, memory: usize) -> u32
+pub fn refusal_of_map(map: [MemoryRegion; 8], count: usize, records: usize, memory: usize) -> u32
     ensures { λ r. ⌜ RefusedAs map count records memory r ⌝ }
 {
     if 8 < count {

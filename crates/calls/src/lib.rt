@@ -2,6 +2,7 @@
 // kernel lends. It promises what the call promises.
 use address::PhysAddr;
 use definition::FrameAllocFlags;
+use definition::MemoryRegionKind;
 use exam::Answer;
 use exam::Outcome;
 use exam::State;
@@ -9,9 +10,22 @@ use lines::Ask;
 ghost use mathlib.Core.Path.{_≡_};
 ghost use Prim.Native.Nat.{_%_};
 ghost use lib.ListN.{getD};
-ghost use Rattle.definition.specs.Script.{flagsOf};
+ghost use Rattle.definition.specs.Script.{flagsOf, kindOf};
 ghost use Rattle.exam.specs.Promise.{worldOf, Leaves};
 ghost use Rattle.lines.specs.Reading.{callOf};
+
+// "0 UsableRam, 1 Reserved, 2 BootloaderReserved"; a kind over 2 is no usable memory either.
+pub fn kind_of(n: u64) -> MemoryRegionKind
+    ensures { λ r. ⌜ r ≡ kindOf n ⌝ }
+{
+    if n == 0 {
+        return MemoryRegionKind::UsableRam;
+    }
+    if n == 1 {
+        return MemoryRegionKind::Reserved;
+    }
+    MemoryRegionKind::BootloaderReserved
+}
 
 // "1 ZEROED + 2 KERNEL + 4 WAIT_OK".
 fn flags_of(n: u64) -> FrameAllocFlags

@@ -2,13 +2,12 @@
 use Prim.Native.Nat.{ℕ, _+_, _*_, _/_}
 use mathlib.Core.List.{[]}
 use mathlib.Core.Path.{_≡_, refl, sym, ap, _∙_}
-use native.Mathlib.Decide.{ℕ-discrete}
 use native.Mathlib.Omega.{arith}
 use lib.ListN.{take, drop}
 use Rattle.definition.specs.Board.{standard}
 use Rattle.definition.specs.Contents.{bytesAt}
 use Rattle.definition.specs.Refusal.{lowest}
-use Rattle.definition.specs.Calls.{Answer, Bytes, Done, Read, Refused, Text, answerNumber, names, perform, sheet}
+use Rattle.definition.specs.Calls.{Answer, Bytes, Call, Done, Read, Refused, Text, answerNumber, names, perform, sheet}
 use Rattle.definition.specs.World.{World, decode}
 use Rattle.definition.specs.Torn.{Left, call}
 use Rattle.world.proofs.Calling.{done-call, none-met}
@@ -27,8 +26,9 @@ use Rattle.exam.proofs.Promises.{
   examined-sound,
   refusedBy,
 }
-use Rattle.ranges.proofs.Held.{examined-whole, held-read}
-use Rattle.copies.specs.Copies.{Lends, Numbers, bytesOf}
+use Rattle.ranges.proofs.Held.{examined-ends, examined-whole, held-read}
+use Rattle.copies.specs.declared.Place.{Place}
+use Rattle.copies.specs.Copies.{Finds, Lends, bytesOf}
 
 -- ---- an answer's number and bytes, by what is told of it
 
@@ -56,9 +56,13 @@ module _ (w : World) (small : Small w) {a off len : ℕ} {r : Exam} (E : Examine
   left-number : (r .number ≡ 0 → ⊥) → answerNumber answer ≡ r .number
   left-number d = sym (told-number answer) ∙ ap (λ y. y .number) (left d .answer)
 
-  pub read-refused : (r .number ≡ 0 → ⊥) → Lends w (Read a off len) []
-  read-refused d =
-      record { world = left d .world; bytes = sym (refused-bytes answer (λ e. d (sym (left-number d) ∙ e))) }
+  pub place-refused : (r .number ≡ 0 → ⊥) → Finds w (Read a off len) len (record { number = r .number; at = 0 })
+  place-refused d =
+      record {
+        numbers = record { world = left d .world; number = sym (left-number d) };
+        inside = λ z. absurd (d z);
+        bytes = λ z. absurd (d z);
+      }
 
   -- ---- done
 
@@ -81,16 +85,24 @@ module _ (w : World) (small : Small w) {a off len : ℕ} {r : Exam} (E : Examine
         (none-met (lowest (sheet standard (decode standard w) (names (Read a off len)))) (one-frame (decode standard w) a off len ∙ examined-none E z))
         performed (round-trip w (examined-whole E z) small)
 
-    pub read-done : Lends w (Read a off len) (take len (drop at (w .memory)))
-    read-done = record { world = ap (λ (l : Left). l .world) called; bytes = sym (ap (λ (l : Left). bytesOf (l .answer)) called) }
+    pub place-done : Finds w (Read a off len) len (record { number = 0; at = at })
+    place-done =
+        record {
+          numbers =
+              record { world = ap (λ (l : Left). l .world) called; number = sym (ap (λ (l : Left). answerNumber (l .answer)) called) };
+          inside = λ _. omega (arith, examined-ends E z);
+          bytes = λ _. sym (ap (λ (l : Left). bytesOf (l .answer)) called);
+        }
 
-    done-number : Numbers w (Read a off len) (r .number)
-    done-number =
-        record { world = ap (λ (l : Left). l .world) called; number = z ∙ sym (ap (λ (l : Left). answerNumber (l .answer)) called) }
+-- ---- the part that is lent
 
-  pub read-numbers : Numbers w (Read a off len) (r .number)
-  read-numbers = go (ℕ-discrete (r .number) 0)
-    where
-      go : Dec (r .number ≡ 0) → Numbers w (Read a off len) (r .number)
-      go (yes z) = done-number z
-      go (no d) = record { world = left d .world; number = sym (left-number d) }
+module _ {w : World} {c : Call} {n : ℕ} {r : Place} (F : Finds w c n r) where
+  pub lends-none : (r .number ≡ 0 → ⊥) → Lends w c []
+  lends-none d =
+      record {
+        world = F .numbers .world;
+        bytes = sym (refused-bytes (call standard w c .answer) (λ e. d (F .numbers .number ∙ e)));
+      }
+
+  pub lends-part : r .number ≡ 0 → Lends w c (take n (drop (r .at) (w .memory)))
+  lends-part z = record { world = F .numbers .world; bytes = F .bytes z }

@@ -5,7 +5,7 @@ use mathlib.Core.Bool.{true, not, cond}
 use mathlib.Core.List.{List, []}
 use mathlib.Core.Path.{_≡_}
 use lib.Dec.{ltb}
-use lib.ListN.{take, drop}
+use lib.ListN.{length, take, drop}
 use Rattle.definition.specs.declared.Record.{Record}
 use Rattle.definition.specs.declared.Row.{Row}
 use Rattle.definition.specs.Board.{standard}
@@ -21,6 +21,7 @@ use Rattle.allocator.specs.declared.Seen.{Seen}
 use Rattle.allocator.specs.Spots.{numberAt}
 use Rattle.exam.specs.declared.State.{State}
 use Rattle.exam.specs.Promise.{HeldSeen, worldOf}
+use Rattle.copies.specs.declared.Place.{Place}
 
 -- ---- a read
 
@@ -35,6 +36,12 @@ bytesOf (Bytes t) = t
 pub record Numbers (w : World) (c : Call) (n : ℕ) : Type 0 where
   pub world : call standard w c .world ≡ w
   pub number : n ≡ answerNumber (call standard w c .answer)
+
+-- the same, and where it is accepted its bytes are the n from a place of the memory on
+pub record Finds (w : World) (c : Call) (n : ℕ) (r : Place) : Type 0 where
+  pub numbers : Numbers w c (r .number)
+  pub inside : r .number ≡ 0 → r .at + n ≤ length (w .memory)
+  pub bytes : r .number ≡ 0 → take n (drop (r .at) (w .memory)) ≡ bytesOf (call standard w c .answer)
 
 -- the call leaves the world, and bs are the bytes of its answer
 pub record Lends (w : World) (c : Call) (bs : List ℕ) : Type 0 where

@@ -18,9 +18,39 @@ ghost use Rattle.record.specs.Records.{pagesIn};
 ghost use Rattle.world.specs.Tables.{Sane};
 ghost use Rattle.allocator.specs.Spots.{numberAt};
 ghost use Rattle.exam.specs.Promise.{worldOf, Leaves, Fit, bytesIf};
-ghost use Rattle.copies.specs.Copies.{Numbers, Lends, Spans, Writes, Moves, Placed, placeSeen};
+ghost use Rattle.copies.specs.Copies.{Numbers, Finds, Lends, Spans, Writes, Moves, Placed, placeSeen};
 
 // ---- read
+
+// The refusal's number, or 0 and where the bytes that are read stand in the memory.
+pub struct Place {
+    pub number: u32,
+    pub at: usize,
+}
+
+pub fn read_place(
+    state: State,
+    records: &[u8],
+    memory: &[u8],
+    queue: &[u64],
+    pa: PhysAddr,
+    offset: u64,
+    len: u64,
+) -> Place
+    ensures { λ r. ⌜ Finds (worldOf state (now (records .entry)) (now (memory .entry)) (now (queue .entry))) (Read (pa .0) offset len) len r ⌝ }
+{
+    let exam = exam::examine(state, records, memory.len(), queue.len(), pa, offset, len);
+    let number = exam.number;
+    if number != 0 {
+        return Place { number, at: 0 };
+    }
+    let seen = exam.seen;
+    let spot = seen.spot;
+    Place {
+        number: 0,
+        at: 4096 * spot.page + offset as usize,
+    }
+}
 
 // 0, or the number of the refusal that `read` meets.
 pub fn read_number(
@@ -34,8 +64,7 @@ pub fn read_number(
 ) -> u32
     ensures { λ r. ⌜ Numbers (worldOf state (now (records .entry)) (now (memory .entry)) (now (queue .entry))) (Read (pa .0) offset len) r ⌝ }
 {
-    let exam = exam::examine(state, records, memory.len(), queue.len(), pa, offset, len);
-    exam.number
+    read_place(state, records, memory, queue, pa, offset, len).number
 }
 
 // 01, "Added `read`": the part of the lent memory that starts at the frame's offset, the empty part where it is refused.
@@ -50,13 +79,11 @@ pub fn read<'a>(
 ) -> &'a [u8]
     ensures { λ r. ⌜ Lends (worldOf state (now (records .entry)) (now (memory .entry)) (now (queue .entry))) (Read (pa .0) offset len) (now r) ⌝ }
 {
-    let exam = exam::examine(state, records, memory.len(), queue.len(), pa, offset, len);
-    if exam.number != 0 {
+    let place = read_place(state, records, memory, queue, pa, offset, len);
+    if place.number != 0 {
         return contents::part(memory, 0, 0);
     }
-    let seen = exam.seen;
-    let spot = seen.spot;
-    contents::part(memory, 4096 * spot.page + offset as usize, len as usize)
+    contents::part(memory, place.at, len as usize)
 }
 
 // ---- copy

@@ -66,7 +66,8 @@ pub struct Row {
     pub lists: [Links; 6],
 }
 
-// tracker.rs 25: the nine counters of MemoryTracker, in its order.
+// tracker.rs 25: the nine counters of MemoryTracker, in its order. A kernel may lend them as they stand.
+#[repr(C)]
 pub struct Counters {
     pub kernel_used: usize,
     pub page_data: usize,

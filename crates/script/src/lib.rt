@@ -15,7 +15,7 @@ ghost use mathlib.Core.Path.{_≡_};
 ghost use Prim.Native.Nat.{_+_, _≤_, _<_, _^_};
 ghost use lib.ListN.{length, getD};
 ghost use Rattle.definition.specs.Calls.{Stats};
-ghost use Rattle.definition.specs.Script.{BootNow, Ask as Asks, lineOf, kindOf, room};
+ghost use Rattle.definition.specs.Script.{BootNow, Ask as Asks, lineOf, room};
 ghost use Rattle.exam.specs.Promise.{worldOf};
 ghost use Rattle.text.specs.Writing.{Wrote};
 ghost use Rattle.lines.specs.Reading.{askName, nameOf, callOf};
@@ -170,19 +170,6 @@ fn bad(running: Running, answer: &mut [u8], at: usize) -> Turn
     Turn { running, at: next }
 }
 
-// "0 UsableRam, 1 Reserved, 2 BootloaderReserved".
-fn kind_of(n: u64) -> MemoryRegionKind
-    ensures { λ r. ⌜ r ≡ kindOf n ⌝ }
-{
-    if n == 0 {
-        return MemoryRegionKind::UsableRam;
-    }
-    if n == 1 {
-        return MemoryRegionKind::Reserved;
-    }
-    MemoryRegionKind::BootloaderReserved
-}
-
 // The first eight entries of the map, with one more read; past the eighth there is no place for it.
 fn entered(map: [MemoryRegion; 8], count: usize, entry: MemoryRegion) -> [MemoryRegion; 8]
     ensures { λ r. ⌜ Enters map count entry r ⌝ }
@@ -206,7 +193,7 @@ fn region(running: Running, n: [u64; 5], answer: &mut [u8], at: usize) -> Turn
     let entry = MemoryRegion {
         start: PhysAddr(n[0]),
         length: calls::size_of(n[1]),
-        kind: kind_of(n[2]),
+        kind: calls::kind_of(n[2]),
     };
     let count = running.count;
     let first = running.map;

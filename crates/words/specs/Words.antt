@@ -1,80 +1,147 @@
--- The state that 172 words stand for, place by place. A list's number is its word modulo 2^32.
-use Prim.Native.Nat.{ℕ, _+_, _%_}
-use mathlib.Core.Bool.{Bool, cond}
-use mathlib.Core.List.{List, [], _∷_}
+-- The state of a store as 101 words of 64 bits, in which a kernel lends it. In this order: the version of this layout; the eight rows, eleven words each; how
+-- many places of the queue are taken; the pass's rounds and freed; and, from the word 92 on, the nine counters. A row is its start, its pages, and its six lists
+-- as eighteen 32-bit numbers, front, back and count of each, two to a word, the first in the low half: on a little-endian machine a plain struct.
+use Prim.Native.Nat.{ℕ, zero, suc, _+_, _*_, _/_, _%_, _<_}
+use mathlib.Core.Bool.{Bool, _&&_}
+use mathlib.Core.List.{List, [], _∷_, _++_}
 use mathlib.Core.Path.{_≡_}
-use lib.Dec.{eqb}
+use lib.Dec.{eqb, leb}
 use lib.ListN.{getD, length}
 use Rattle.definition.specs.declared.Links.{Links}
 use Rattle.definition.specs.declared.Row.{Row}
 use Rattle.definition.specs.declared.Counters.{Counters}
 use Rattle.definition.specs.declared.Pass.{Pass}
-use Rattle.definition.specs.Board.{standard}
-use Rattle.definition.specs.Basics.{bit}
-use Rattle.definition.specs.Torn.{sound}
-use Rattle.audit.specs.Sheet.{worldOf}
+use Rattle.definition.specs.Boot.{mostRows}
+use Rattle.definition.specs.World.{noLinks, noRow}
 
 abbrev pub wordIn : List ℕ → ℕ → ℕ
 wordIn ws i = getD ws i 0
 
-abbrev pub halfIn : List ℕ → ℕ → ℕ
-halfIn ws i = wordIn ws i % 4294967296
+abbrev pub version : ℕ
+version = 1
 
-abbrev pub linksIn : List ℕ → ℕ → Links
-linksIn ws at = record { front = halfIn ws at; back = halfIn ws (at + 1); count = halfIn ws (at + 2) }
+-- how many words there are, without the counters and with them
+abbrev pub keptWords : ℕ
+keptWords = 92
 
-abbrev pub rowIn : List ℕ → ℕ → Row
+abbrev pub stateWords : ℕ
+stateWords = 101
+
+-- ---- read
+
+abbrev pub lowHalf : ℕ → ℕ
+lowHalf w = w % 4294967296
+
+abbrev pub highHalf : ℕ → ℕ
+highHalf w = w / 4294967296
+
+-- two lists stand in three words
+abbrev pub firstIn : List ℕ → ℕ → Links
+firstIn ws at =
+    record { front = lowHalf (wordIn ws at); back = highHalf (wordIn ws at); count = lowHalf (wordIn ws (at + 1)) }
+
+abbrev pub secondIn : List ℕ → ℕ → Links
+secondIn ws at =
+    record { front = highHalf (wordIn ws (at + 1)); back = lowHalf (wordIn ws (at + 2)); count = highHalf (wordIn ws (at + 2)) }
+
+unfoldable pub rowIn : List ℕ → ℕ → Row
 rowIn ws at =
     record {
       start = record { 0 = wordIn ws at };
       pages = wordIn ws (at + 1);
       lists =
-          linksIn ws (at + 2)
-          ∷ linksIn ws (at + 5)
-          ∷ linksIn ws (at + 8)
-          ∷ linksIn ws (at + 11)
-          ∷ linksIn ws (at + 14)
-          ∷ linksIn ws (at + 17)
+          firstIn ws (at + 2)
+          ∷ secondIn ws (at + 2)
+          ∷ firstIn ws (at + 5)
+          ∷ secondIn ws (at + 5)
+          ∷ firstIn ws (at + 8)
+          ∷ secondIn ws (at + 8)
           ∷ [];
     }
 
-unfoldable pub rowsIn : List ℕ → List Row
-rowsIn ws =
-    rowIn ws 0
-    ∷ rowIn ws 20
-    ∷ rowIn ws 40
-    ∷ rowIn ws 60
-    ∷ rowIn ws 80
-    ∷ rowIn ws 100
-    ∷ rowIn ws 120
-    ∷ rowIn ws 140
-    ∷ []
+-- so many rows, the first of which is the i-th
+unfoldable pub rowsFrom : List ℕ → ℕ → ℕ → List Row
+rowsFrom ws i zero = []
+rowsFrom ws i (suc n) = rowIn ws (1 + 11 * i) ∷ rowsFrom ws (i + 1) n
+
+abbrev pub rowsIn : List ℕ → List Row
+rowsIn ws = rowsFrom ws 0 mostRows
+
+abbrev pub queuedIn : List ℕ → ℕ
+queuedIn ws = wordIn ws 89
+
+abbrev pub passIn : List ℕ → Pass
+passIn ws = record { rounds = wordIn ws 90; freed = wordIn ws 91 }
 
 unfoldable pub countersIn : List ℕ → Counters
 countersIn ws =
     record {
-      «kernel_used» = wordIn ws 160;
-      «page_data» = wordIn ws 161;
-      idle = wordIn ws 162;
-      total = wordIn ws 163;
-      allocated = wordIn ws 164;
-      freed = wordIn ws 165;
-      reclaimed = wordIn ws 166;
-      waiting = wordIn ws 167;
-      «pager_outstanding» = wordIn ws 168;
+      «kernel_used» = wordIn ws 92;
+      «page_data» = wordIn ws 93;
+      idle = wordIn ws 94;
+      total = wordIn ws 95;
+      allocated = wordIn ws 96;
+      freed = wordIn ws 97;
+      reclaimed = wordIn ws 98;
+      waiting = wordIn ws 99;
+      «pager_outstanding» = wordIn ws 100;
     }
 
-unfoldable pub passIn : List ℕ → Pass
-passIn ws = record { rounds = wordIn ws 170; freed = wordIn ws 171 }
+-- enough words for what is kept beside the counters, and of this version
+abbrev pub isKept : List ℕ → Bool
+isKept ws = leb keptWords (length ws) && eqb (wordIn ws 0) version
 
--- whether the world of their state and of these loans is sound
-abbrev pub soundIn : (words records memory queue : List ℕ) → Bool
-soundIn ws records memory queue = sound standard (worldOf (rowsIn ws) (countersIn ws) (wordIn ws 169) (passIn ws) records memory queue)
+-- ---- written
 
--- 2 unless there are 172 words, else 1 or 0 as that world is sound, whatever the bytes of the memory and the places of the queue
-abbrev pub Answers : (words records : List ℕ) → (memoryLen queueLen : ℕ) → ℕ → Type 0
-Answers ws records memoryLen queueLen r =
-    (memory queue : List ℕ)
-    → length memory ≡ memoryLen
-    → length queue ≡ queueLen
-    → r ≡ cond (eqb (length ws) 172) (bit (soundIn ws records memory queue)) 2
+abbrev pub joined : ℕ → ℕ → ℕ
+joined low high = low + 4294967296 * high
+
+abbrev pub pairWords : Links → Links → List ℕ
+pairWords a b = joined (a .front) (a .back) ∷ joined (a .count) (b .front) ∷ joined (b .back) (b .count) ∷ []
+
+abbrev pub listIn : Row → ℕ → Links
+listIn row k = getD (row .lists) k noLinks
+
+unfoldable pub rowWords : Row → List ℕ
+rowWords row =
+    row .start .0
+    ∷ row .pages
+    ∷ (pairWords (listIn row 0) (listIn row 1) ++ (pairWords (listIn row 2) (listIn row 3) ++ pairWords (listIn row 4) (listIn row 5)))
+
+unfoldable pub rowsWords : List Row → List ℕ
+rowsWords [] = []
+rowsWords (row ∷ rows) = rowWords row ++ rowsWords rows
+
+unfoldable pub keptOf : List Row → ℕ → Pass → List ℕ
+keptOf rows queued pass = version ∷ (rowsWords rows ++ (queued ∷ pass .rounds ∷ pass .freed ∷ []))
+
+unfoldable pub counterWords : Counters → List ℕ
+counterWords c =
+    c .«kernel_used»
+    ∷ c .«page_data»
+    ∷ c .idle
+    ∷ c .total
+    ∷ c .allocated
+    ∷ c .freed
+    ∷ c .reclaimed
+    ∷ c .waiting
+    ∷ c .«pager_outstanding»
+    ∷ []
+
+-- ---- what the words can hold
+
+-- numbers below 2^32
+pub record NarrowLinks (l : Links) : Type 0 where
+  pub front : l .front < 4294967296
+  pub back : l .back < 4294967296
+  pub count : l .count < 4294967296
+
+-- six lists of such numbers
+pub record NarrowRow (row : Row) : Type 0 where
+  pub six : length (row .lists) ≡ 6
+  pub narrow : (k : ℕ) → k < 6 → NarrowLinks (listIn row k)
+
+-- eight such rows
+pub record Narrow (rows : List Row) : Type 0 where
+  pub eight : length rows ≡ mostRows
+  pub narrow : (i : ℕ) → i < mostRows → NarrowRow (getD rows i noRow)

@@ -5,7 +5,8 @@ use oracle::{Dump, Region, Script, HEADER};
 
 use crate::{
     case::{lent, Case, Outcome},
-    modelled, records,
+    model::Store,
+    records,
 };
 
 const PAGE: u64 = 4096;
@@ -70,18 +71,32 @@ impl Seen {
         (queue != Some(&self.dump.queue)).then(|| "the queue".into())
     }
 
-    /// What the model keeps to itself until the run ends: counters, the queue's
-    /// count and the pass.
-    pub fn hidden_difference(&self, case: &Case) -> Option<String> {
+    /// What a run keeps beside its loans.
+    pub fn hidden_difference(&self, hidden: Hidden) -> Option<String> {
         if self.off.is_some() {
             return None;
         }
-        let (counters, queued, pass) = modelled::hidden(case)?;
+        let Hidden { counters, queued, pass } = hidden;
         let dump = &self.dump;
-        let alike = counters == dump.counters
-            && queued == dump.queue.len()
-            && (pass.rounds, pass.freed) == dump.pass;
+        let alike =
+            counters == dump.counters && queued == dump.queue.len() as u64 && pass == dump.pass;
         (!alike).then(|| "counters, the queue's count or the pass".into())
+    }
+}
+
+/// The counters in the order of the Rust's struct, the queue's count, and the
+/// pass's rounds and freed.
+pub struct Hidden {
+    pub counters: [u64; 9],
+    pub queued: u64,
+    pub pass: (u64, u64),
+}
+
+impl Hidden {
+    /// What the model keeps to itself.
+    pub fn of(store: &Store) -> Hidden {
+        let pass = (store.pass.rounds, store.pass.freed);
+        Hidden { counters: store.counters(), queued: store.queued as u64, pass }
     }
 }
 

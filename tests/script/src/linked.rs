@@ -1,8 +1,9 @@
 //! The run of the store's own script program, exported by the crate script. Safe
 //! for any arguments: it reads and writes nothing outside the slices.
 
-use crate::case::{lent_mut, Case, Outcome};
+use script::case::{lent_mut, Case, Outcome};
 
+#[link(name = "script", kind = "static")]
 extern "C" {
     /// A slice is passed as its address and its length.
     fn jilakkor_run(

@@ -4,29 +4,9 @@
 //! script that differs is made as short as it goes and printed, and the exit
 //! status is 1; so it is where a run tried too little.
 
-// What only the comparison with the kernel uses stands idle without it.
-#![cfg_attr(not(feature = "oracle"), allow(dead_code, unused_imports))]
-
-mod case;
 mod commands;
-mod fixed;
-#[cfg(feature = "oracle")]
-mod kernel;
 mod linked;
-mod make;
-mod model;
-mod modelled;
 mod options;
-#[path = "../../compare/src/random.rs"]
-mod random;
-#[cfg(feature = "oracle")]
-mod records;
-mod report;
-#[path = "../../compare/src/shape.rs"]
-mod shape;
-mod shrink;
-mod tally;
-mod vectors;
 
 use std::process::ExitCode;
 

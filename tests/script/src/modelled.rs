@@ -22,15 +22,12 @@ pub fn borrowed(loans: &mut Loans) -> model::Loans<'_> {
     }
 }
 
-/// What the model keeps to itself at the end of a run: counters, the queue's count
-/// and the pass. None without an accepted boot.
-#[cfg(feature = "oracle")]
-pub fn hidden(case: &Case) -> Option<([u64; 9], usize, model::Pass)> {
+/// The store that the model has at the end of a run. None without an accepted boot.
+pub fn store(case: &Case) -> Option<model::Store> {
     let mut loans = case.loans();
     let mut program = model::Program::new(borrowed(&mut loans));
     for line in model::split(&case.script()) {
         program.line(line);
     }
-    let store = program.store()?;
-    Some((store.counters(), store.queued, store.pass))
+    program.into_store()
 }

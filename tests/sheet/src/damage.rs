@@ -4,7 +4,7 @@
 
 use crate::make;
 use crate::random::Random;
-use crate::state::{word, Record, State, Table, Word, WORDS};
+use crate::state::{number, Number, Record, State, Table, NUMBERS};
 use crate::tables::{Extent, Shape};
 use crate::{links, rows};
 
@@ -130,24 +130,24 @@ impl Damager<'_> {
 
     /// Each number of the state. A list's number is 32 bits wide.
     fn state_numbers(&mut self) {
-        for at in self.choose(WORDS, 2 * WORDS, 12) {
-            let (kind, name) = word(at);
-            let mut words = self.table.state.words();
-            let old = words[at];
+        for at in self.choose(NUMBERS, 2 * NUMBERS, 12) {
+            let (kind, name) = number(at);
+            let mut numbers = self.table.state.numbers();
+            let old = numbers[at];
             let news = match kind {
-                Word::List => self.numbers(old as u32).into_iter().map(u64::from).collect(),
+                Number::List => self.numbers(old as u32).into_iter().map(u64::from).collect(),
                 _ => self.wide_numbers(old),
             };
             for new in news {
-                words[at] = new;
-                let state = State::of(&words);
+                numbers[at] = new;
+                let state = State::of(&numbers);
                 let kind = match kind {
-                    Word::Start => "a row's start",
-                    Word::Pages => "a row's pages",
-                    Word::List => "a list's number",
-                    Word::Counter => "a counter",
-                    Word::Queued => "the queue's count",
-                    Word::Pass => "the pass",
+                    Number::Start => "a row's start",
+                    Number::Pages => "a row's pages",
+                    Number::List => "a list's number",
+                    Number::Counter => "a counter",
+                    Number::Queued => "the queue's count",
+                    Number::Pass => "the pass",
                 };
                 let words = format!("{name} is {new} and not {old}");
                 self.try_on(kind, words, |table| table.state = state);

@@ -17,7 +17,7 @@ use std::process::ExitCode;
 
 use damage::{Damage, Damager};
 use random::Random;
-use state::{word, Table, Word, WORDS};
+use state::{Table, VERSION, WORDS};
 use tables::{Extent, Shape};
 use tally::Tally;
 
@@ -113,7 +113,7 @@ fn compare(table: &Table) -> Result<Option<sheet::Sentence>, String> {
     let Table { state, records, memory_len, queue_len } = table;
     let torn_by = sheet::torn_by(state, records, *memory_len, *queue_len);
     match (torn_by, store::audit(&state.words(), table)) {
-        (None, 1) | (Some(_), 0) => Ok(torn_by),
+        (None, 0) | (Some(_), 6) => Ok(torn_by),
         (None, answer) => Err(format!("whole, and the store answers {answer}")),
         (Some(sentence), answer) => {
             Err(format!("torn by the sentence `{sentence}`, and the store answers {answer}"))
@@ -121,25 +121,25 @@ fn compare(table: &Table) -> Result<Option<sheet::Sentence>, String> {
     }
 }
 
-/// Another number of words is no state; and a list's number is its word modulo
-/// 2^32, so that what is added above changes nothing.
+/// Too few words are no state, nor are those of another version; words past the
+/// state's are not looked at.
 fn other_words(table: &Table) -> Result<(), String> {
     let words = table.state.words();
-    let mut longer = words.to_vec();
-    longer.push(0);
-    for other in [&words[..0], &words[..WORDS - 1], &longer] {
-        if store::audit(other, table) != 2 {
-            return Err(format!("the store answers no 2 to {} words", other.len()));
+    for few in [0, 1, 92, WORDS - 1] {
+        if store::audit(&words[..few], table) != 6 {
+            return Err(format!("{few} words are taken for a state"));
         }
     }
-    for at in (0..WORDS).filter(|&at| word(at).0 == Word::List) {
-        for above in [1 << 32, u64::MAX << 32] {
-            let mut words = words;
-            words[at] += above;
-            if store::audit(&words, table) != 1 {
-                return Err(format!("{} plus {above} is torn", word(at).1));
-            }
+    for version in [0, VERSION + 1, VERSION | 1 << 32, u64::MAX] {
+        let mut words = words;
+        words[0] = version;
+        if store::audit(&words, table) != 6 {
+            return Err(format!("words of the version {version} are taken for a state"));
         }
     }
-    Ok(())
+    let longer = [&words[..], &[u64::MAX]].concat();
+    match store::audit(&longer, table) {
+        0 => Ok(()),
+        answer => Err(format!("with a word more the store answers {answer}")),
+    }
 }

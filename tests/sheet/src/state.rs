@@ -14,11 +14,16 @@ pub const KERNEL: u32 = 8;
 pub const ROWS: usize = 8;
 pub const LISTS: usize = 6;
 
-/// A row's words: its start, its pages, and three for each list.
+/// A row's numbers: its start, its pages, and three for each list.
 const ROW: usize = 2 + 3 * LISTS;
-const COUNTERS: usize = ROW * ROWS;
-pub const QUEUED: usize = COUNTERS + 9;
-pub const WORDS: usize = QUEUED + 3;
+const QUEUED: usize = ROW * ROWS;
+const COUNTERS: usize = QUEUED + 3;
+/// The numbers of a state, in the order of its words.
+pub const NUMBERS: usize = COUNTERS + 9;
+
+/// The words in which a state is lent: a version, and two numbers of a list in one.
+pub const WORDS: usize = 101;
+pub const VERSION: u64 = 1;
 
 #[derive(Clone, Copy, Default)]
 pub struct Links {
@@ -132,10 +137,10 @@ impl State {
         self.rows.iter().map(|row| row.pages - table_pages(row.pages)).sum()
     }
 
-    pub fn words(&self) -> [u64; WORDS] {
-        let mut words = [0; WORDS];
-        let mut rest = words.iter_mut();
-        let mut put = |word: u64| *rest.next().unwrap() = word;
+    pub fn numbers(&self) -> [u64; NUMBERS] {
+        let mut numbers = [0; NUMBERS];
+        let mut rest = numbers.iter_mut();
+        let mut put = |number: u64| *rest.next().unwrap() = number;
         for row in &self.rows {
             put(row.start);
             put(row.pages);
@@ -143,28 +148,45 @@ impl State {
                 [list.front, list.back, list.count].into_iter().for_each(|n| put(n.into()));
             }
         }
+        [self.queued, self.pass.rounds, self.pass.freed].into_iter().for_each(&mut put);
         let Counters { kernel_used, page_data, idle, total, allocated, .. } = self.counters;
         let Counters { freed, reclaimed, waiting, pager_outstanding, .. } = self.counters;
         [kernel_used, page_data, idle, total, allocated].into_iter().for_each(&mut put);
-        [freed, reclaimed, waiting, pager_outstanding].into_iter().for_each(&mut put);
-        [self.queued, self.pass.rounds, self.pass.freed].into_iter().for_each(put);
+        [freed, reclaimed, waiting, pager_outstanding].into_iter().for_each(put);
+        numbers
+    }
+
+    /// The state as it is lent.
+    pub fn words(&self) -> [u64; WORDS] {
+        let mut words = [VERSION; WORDS];
+        let mut rest = words[1..].iter_mut();
+        let mut put = |word: u64| *rest.next().unwrap() = word;
+        let numbers = self.numbers();
+        let (rows, others) = numbers.split_at(QUEUED);
+        for row in rows.chunks_exact(ROW) {
+            row[..2].iter().for_each(|&number| put(number));
+            row[2..].chunks_exact(2).for_each(|pair| put(pair[0] | pair[1] << 32));
+        }
+        others.iter().for_each(|&number| put(number));
         words
     }
 
-    /// The state of such words; a list's numbers are their words modulo 2^32.
-    pub fn of(words: &[u64; WORDS]) -> State {
-        let mut rest = words.iter().copied();
-        let mut word = || rest.next().unwrap();
+    /// The state of such numbers; of a list's, the low 32 bits.
+    pub fn of(numbers: &[u64; NUMBERS]) -> State {
+        let mut rest = numbers.iter().copied();
+        let mut number = || rest.next().unwrap();
         let mut state = State::default();
         for row in &mut state.rows {
-            (row.start, row.pages) = (word(), word());
+            (row.start, row.pages) = (number(), number());
             for list in &mut row.lists {
-                let [front, back, count] = [(); 3].map(|()| word() as u32);
+                let [front, back, count] = [(); 3].map(|()| number() as u32);
                 *list = Links { front, back, count };
             }
         }
-        let [kernel_used, page_data, idle, total, allocated] = [(); 5].map(|()| word());
-        let [freed, reclaimed, waiting, pager_outstanding] = [(); 4].map(|()| word());
+        state.queued = number();
+        state.pass = Pass { rounds: number(), freed: number() };
+        let [kernel_used, page_data, idle, total, allocated] = [(); 5].map(|()| number());
+        let [freed, reclaimed, waiting, pager_outstanding] = [(); 4].map(|()| number());
         state.counters = Counters {
             kernel_used,
             page_data,
@@ -176,15 +198,13 @@ impl State {
             waiting,
             pager_outstanding,
         };
-        state.queued = word();
-        state.pass = Pass { rounds: word(), freed: word() };
         state
     }
 }
 
-/// What a word of the state is.
+/// What a number of the state is.
 #[derive(Clone, Copy, PartialEq)]
-pub enum Word {
+pub enum Number {
     Start,
     Pages,
     List,
@@ -193,21 +213,21 @@ pub enum Word {
     Pass,
 }
 
-/// A word's kind and its name.
-pub fn word(at: usize) -> (Word, String) {
+/// A number's kind and its name.
+pub fn number(at: usize) -> (Number, String) {
     let names = "kernel_used page_data idle total allocated freed reclaimed waiting \
                  pager_outstanding";
     match (at / ROW, at % ROW) {
-        (row, 0) if row < ROWS => (Word::Start, format!("row {row}'s start")),
-        (row, 1) if row < ROWS => (Word::Pages, format!("row {row}'s pages")),
+        (row, 0) if row < ROWS => (Number::Start, format!("row {row}'s start")),
+        (row, 1) if row < ROWS => (Number::Pages, format!("row {row}'s pages")),
         (row, k) if row < ROWS => {
             let number = ["front", "back", "count"][(k - 2) % 3];
-            (Word::List, format!("row {row}'s list {}'s {number}", (k - 2) / 3))
+            (Number::List, format!("row {row}'s list {}'s {number}", (k - 2) / 3))
         }
-        _ if at < QUEUED => {
-            (Word::Counter, names.split_whitespace().nth(at - COUNTERS).unwrap().into())
+        _ if at == QUEUED => (Number::Queued, "the queue's count".into()),
+        _ if at < COUNTERS => {
+            (Number::Pass, format!("the pass's {}", ["rounds", "freed"][at - QUEUED - 1]))
         }
-        _ if at == QUEUED => (Word::Queued, "the queue's count".into()),
-        _ => (Word::Pass, format!("the pass's {}", ["rounds", "freed"][at - QUEUED - 1])),
+        _ => (Number::Counter, names.split_whitespace().nth(at - COUNTERS).unwrap().into()),
     }
 }

@@ -1,5 +1,5 @@
--- `row_at` meets its contract: its six lists are read by `links_at`.
-use mathlib.Core.Path.{refl}
+-- `row_at` meets its contract: its six lists are read by `first_at` and `second_at`.
+use Rattle.words.specs.Words.{rowIn}
 use borrow.Author.Needs.{needs}
 use Rattle.words.proofs.row_at.Statement.{statement}
 use Rattle.words.proofs.row_at.Tie as tie
@@ -19,46 +19,45 @@ mul-pages-2 c = search needs
 shared-slice-read-pages-2 : tie.Need-shared-slice-read-pages-2
 shared-slice-read-pages-2 c = search needs
 
-add-links-at : tie.Need-add-links-at
-add-links-at c = search needs
+add-first-at : tie.Need-add-first-at
+add-first-at c = search needs
 
-links-at-requires : tie.Need-links-at-requires
-links-at-requires c κs = search needs
+first-at-requires : tie.Need-first-at-requires
+first-at-requires c κs = search needs
 
-add-links-at-2 : tie.Need-add-links-at-2
-add-links-at-2 c = search needs
+add-second-at : tie.Need-add-second-at
+add-second-at c = search needs
 
-links-at-requires-2 : tie.Need-links-at-requires-2
-links-at-requires-2 c κs = search needs
+second-at-requires : tie.Need-second-at-requires
+second-at-requires c κs = search needs
 
-add-links-at-3 : tie.Need-add-links-at-3
-add-links-at-3 c = search needs
+add-first-at-2 : tie.Need-add-first-at-2
+add-first-at-2 c = search needs
 
-links-at-requires-3 : tie.Need-links-at-requires-3
-links-at-requires-3 c κs = search needs
+first-at-requires-2 : tie.Need-first-at-requires-2
+first-at-requires-2 c κs = search needs
 
-add-links-at-4 : tie.Need-add-links-at-4
-add-links-at-4 c = search needs
+add-second-at-2 : tie.Need-add-second-at-2
+add-second-at-2 c = search needs
 
-links-at-requires-4 : tie.Need-links-at-requires-4
-links-at-requires-4 c κs = search needs
+second-at-requires-2 : tie.Need-second-at-requires-2
+second-at-requires-2 c κs = search needs
 
-add-links-at-5 : tie.Need-add-links-at-5
-add-links-at-5 c = search needs
+add-first-at-3 : tie.Need-add-first-at-3
+add-first-at-3 c = search needs
 
-links-at-requires-5 : tie.Need-links-at-requires-5
-links-at-requires-5 c κs = search needs
+first-at-requires-3 : tie.Need-first-at-requires-3
+first-at-requires-3 c κs = search needs
 
-add-links-at-6 : tie.Need-add-links-at-6
-add-links-at-6 c = search needs
+add-second-at-3 : tie.Need-add-second-at-3
+add-second-at-3 c = search needs
 
-links-at-requires-6 : tie.Need-links-at-requires-6
-links-at-requires-6 c κs = search needs
+second-at-requires-3 : tie.Need-second-at-requires-3
+second-at-requires-3 c κs = search needs
 
 returns : tie.Need-returns
-returns c =
-    let d = c .before .before .before in
-    rw (c .links-at6 .ensures, c .before .links-at5 .ensures, c .before .before .links-at4 .ensures, d .links-at3 .ensures, d .before .links-at2 .ensures, d .before .before .links-at .ensures) refl
+unfolding rowIn
+returns c = cc
 
 pub row-at-spec : {M : Type 1} → statement M
 row-at-spec =
@@ -69,16 +68,16 @@ row-at-spec =
     add-pages
     mul-pages-2
     shared-slice-read-pages-2
-    add-links-at
-    links-at-requires
-    add-links-at-2
-    links-at-requires-2
-    add-links-at-3
-    links-at-requires-3
-    add-links-at-4
-    links-at-requires-4
-    add-links-at-5
-    links-at-requires-5
-    add-links-at-6
-    links-at-requires-6
+    add-first-at
+    first-at-requires
+    add-second-at
+    second-at-requires
+    add-first-at-2
+    first-at-requires-2
+    add-second-at-2
+    second-at-requires-2
+    add-first-at-3
+    first-at-requires-3
+    add-second-at-3
+    second-at-requires-3
     returns)

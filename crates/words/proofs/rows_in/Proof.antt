@@ -1,6 +1,5 @@
 -- `rows_in` meets its contract: each row is read by `row_at`.
-use mathlib.Core.Path.{refl}
-use Rattle.words.specs.Words.{rowsIn}
+use Rattle.words.specs.Words.{rowsFrom}
 use borrow.Author.Needs.{needs}
 use Rattle.words.proofs.rows_in.Statement.{statement}
 use Rattle.words.proofs.rows_in.Tie as tie
@@ -30,12 +29,8 @@ row-at-requires-8 : tie.Need-row-at-requires-8
 row-at-requires-8 c κs = search needs
 
 returns : tie.Need-returns
-unfolding rowsIn
-returns c =
-    let d = c .before .before .before .before in
-    let e = d .before .before in
-    rw (c .row-at8 .ensures, c .before .row-at7 .ensures, c .before .before .row-at6 .ensures, c .before .before .before .row-at5 .ensures)
-    (rw (d .row-at4 .ensures, d .before .row-at3 .ensures, e .row-at2 .ensures, e .before .row-at .ensures) refl)
+unfolding rowsFrom
+returns c = cc
 
 pub rows-in-spec : {M : Type 1} → statement M
 rows-in-spec =

@@ -11,11 +11,13 @@ pub use model::model;
 pub use oracle::{oracle, vectors};
 pub use replay::{example, replay};
 
-use crate::{
+use script::{
     case::{Case, Outcome},
-    linked, modelled,
+    modelled,
     report::{difference, Side},
 };
+
+use crate::linked;
 
 pub type Done = Result<String, String>;
 

@@ -1,14 +1,15 @@
 //! The linked run against the model.
 
-use super::{as_expected, Done, CALLS};
-use crate::{
+use script::{
     case::{Case, Outcome},
-    fixed, linked, make, modelled,
-    options::Options,
+    fixed, make, modelled,
     report::{difference, Side},
     shrink::shortest,
     tally::{Tally, ALL},
 };
+
+use super::{as_expected, Done, CALLS};
+use crate::{linked, options::Options};
 
 const SCRIPTS: u64 = 20_000;
 

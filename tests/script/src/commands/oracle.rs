@@ -1,16 +1,17 @@
 //! The linked run and the model against the kernel's Rust.
 
-use super::{Done, Run, CALLS, RUNS};
-use crate::{
+use script::{
     case::Case,
-    kernel::{self, Seen},
-    make,
-    options::Options,
+    kernel::{self, Hidden, Seen},
+    make, modelled,
     report::{difference, Side},
     shrink::shortest,
     tally::{Tally, ON_GROUND},
     vectors::Vector,
 };
+
+use super::{Done, Run, CALLS, RUNS};
+use crate::options::Options;
 
 const SCRIPTS: u64 = 2000;
 
@@ -52,14 +53,18 @@ fn against_kernel(case: &Case) -> Result<Seen, String> {
     for (name, run) in RUNS {
         one_against_kernel(case, &seen, name, run)?;
     }
-    if let Some(what) = seen.hidden_difference(case) {
-        let is_found = |case: &Case| kernel::run(case).hidden_difference(case).is_some();
+    if let Some(what) = hidden_difference(&seen, case) {
+        let is_found = |case: &Case| hidden_difference(&kernel::run(case), case).is_some();
         return Err(format!("{}the model differs in {what}", shortest(case, is_found)));
     }
     match &seen.off {
         Some((line, reason)) => Err(format!("{case}line {line} is off common ground: {reason}")),
         None => Ok(seen),
     }
+}
+
+fn hidden_difference(seen: &Seen, case: &Case) -> Option<String> {
+    seen.hidden_difference(Hidden::of(&modelled::store(case)?))
 }
 
 fn one_against_kernel(case: &Case, seen: &Seen, name: &str, run: Run) -> Result<(), String> {

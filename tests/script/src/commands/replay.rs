@@ -1,11 +1,12 @@
 //! The linked run and the model against a sample of the kernel's answers, and
 //! against the examples.
 
-use super::{as_expected, Done};
-use crate::{
+use script::{
     case::{Case, PROGRAM},
     vectors,
 };
+
+use super::{as_expected, Done};
 
 pub fn replay(file: &str) -> Done {
     let bytes = bytes(file)?;

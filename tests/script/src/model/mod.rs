@@ -16,7 +16,8 @@ mod store;
 mod tracker;
 
 pub use boot::{kept, managed};
-pub use line::{split, Entry};
+pub use call::{printed, Answer, Told};
+pub use line::{read, split, Asked, Call, Entry, Line, Range};
 pub use region::{Region, PAGE, SIZES};
 pub use store::{Pass, Store};
 
@@ -27,8 +28,8 @@ pub struct Loans<'a> {
     pub queue: &'a mut [u64],
 }
 
-const HEADER: &str = "op,refusal,address,bytes\n";
-const BAD: &str = "bad,17,0,0\n";
+pub const HEADER: &str = "op,refusal,address,bytes\n";
+pub const BAD: &str = "bad,17,0,0\n";
 
 /// Bytes of the answer slice for each line, and beside them.
 const ROOM: usize = 512;
@@ -61,6 +62,10 @@ impl<'a> Program<'a> {
     /// The store, once a boot was accepted.
     pub fn store(&self) -> Option<&Store> {
         self.store.as_ref()
+    }
+
+    pub fn into_store(self) -> Option<Store> {
+        self.store
     }
 
     /// The places of the queue.

@@ -1,0 +1,164 @@
+-- What a call over lent words leaves and answers. A kernel lends the state as words beside the records, the memory and the queue, and a slice for the two
+-- numbers of the answer. `served` is the whole outcome: the loans as `call` of definition/specs/Torn.antt leaves them, and the refusal's number, 0 where the call
+-- was accepted. Words that are too few or of another version, and an answer slice of under two places, are refused 6 and nothing changes.
+use Prim.Native.Nat.{ℕ}
+use mathlib.Core.Bool.{Bool, cond, _&&_}
+use mathlib.Core.List.{List, [], _∷_}
+use mathlib.Core.Path.{_≡_}
+use lib.Dec.{eqb, leb}
+use lib.ListN.{length, take, drop}
+use Rattle.definition.specs.declared.Counters.{Counters}
+use Rattle.definition.specs.declared.MemoryRegion.{MemoryRegion}
+use Rattle.definition.specs.Board.{standard}
+use Rattle.definition.specs.Boot.{bootSheet}
+use Rattle.definition.specs.Refusal.{lowest}
+use Rattle.definition.specs.Calls.{Call, Read, Stats}
+use Rattle.definition.specs.World.{World}
+use Rattle.definition.specs.Torn.{Left, call, bootCall}
+use Rattle.record.specs.Records.{withBytes}
+use Rattle.world.specs.Refusals.{numberIf}
+use Rattle.exam.specs.declared.Answer.{Answer}
+use Rattle.exam.specs.Promise.{told}
+use Rattle.counts.specs.Counting.{textOf}
+use Rattle.copies.specs.Copies.{bytesOf}
+use Rattle.words.specs.Words.{wordIn, stateWords, rowsIn, queuedIn, passIn, countersIn, isKept, keptOf, counterWords}
+
+-- the loans of a call, whole
+pub record Lent : Type 0 where
+  pub words : List ℕ
+  pub records : List ℕ
+  pub memory : List ℕ
+  pub queue : List ℕ
+  pub answer : List ℕ
+
+-- the world that they hold, with counters from elsewhere, and with those of the words
+abbrev pub worldWith : Counters → Lent → World
+worldWith k l =
+    record {
+      rows = rowsIn (l .words);
+      counters = k;
+      queued = queuedIn (l .words);
+      pass = passIn (l .words);
+      records = l .records;
+      memory = l .memory;
+      queue = l .queue;
+    }
+
+abbrev pub worldIn : Lent → World
+worldIn l = worldWith (countersIn (l .words)) l
+
+-- ---- what is written
+
+-- the words, with a world's state but for its counters, and with all of it
+abbrev pub keptOver : World → List ℕ → List ℕ
+keptOver w ws = withBytes ws 0 (keptOf (w .rows) (w .queued) (w .pass))
+
+abbrev pub stateOver : World → List ℕ → List ℕ
+stateOver w ws = withBytes (keptOver w ws) 92 (counterWords (w .counters))
+
+-- the address and the bytes of an accepted call stand in front of the answer; a refusal leaves it as it is
+unfoldable pub tells : Answer → List ℕ → List ℕ
+tells y ys = cond (eqb (y .number) 0) (withBytes ys 0 (y .address ∷ y .bytes ∷ [])) ys
+
+pub record Served : Type 0 where
+  pub lent : Lent
+  pub number : ℕ
+
+abbrev pub refusedAs : Lent → ℕ → Served
+refusedAs l n = record { lent = l; number = n }
+
+abbrev pub written : (World → List ℕ → List ℕ) → Lent → Left → Served
+written over l x =
+    record {
+      lent =
+          record {
+            words = over (x .world) (l .words);
+            records = x .world .records;
+            memory = x .world .memory;
+            queue = x .world .queue;
+            answer = tells (told (x .answer)) (l .answer);
+          };
+      number = told (x .answer) .number;
+    }
+
+-- ---- a call
+
+abbrev pub hasRoom : Lent → Bool
+hasRoom l = leb 2 (length (l .answer))
+
+-- the words are a state's
+abbrev pub isLent : Lent → Bool
+isLent l = leb stateWords (length (l .words)) && (isKept (l .words) && hasRoom l)
+
+unfoldable pub served : Call → Lent → Served
+served c l = cond (isLent l) (written stateOver l (call standard (worldIn l) c)) (refusedAs l 6)
+
+abbrev pub Serves : Call → Lent → Lent → ℕ → Type 0
+Serves c l l′ r = served c l ≡ record { lent = l′; number = r }
+
+-- ---- a call whose counters are a record of their own
+
+pub record Counted : Type 0 where
+  pub counters : Counters
+  pub served : Served
+
+-- the words are a state's but for its counters
+abbrev pub isLentKept : Lent → Bool
+isLentKept l = isKept (l .words) && hasRoom l
+
+abbrev pub countedBy : Lent → Left → Counted
+countedBy l x = record { counters = x .world .counters; served = written keptOver l x }
+
+unfoldable pub servedWith : Call → Counters → Lent → Counted
+servedWith c k l =
+    cond (isLentKept l) (countedBy l (call standard (worldWith k l) c)) (record { counters = k; served = refusedAs l 6 })
+
+abbrev pub ServesWith : Call → Counters → Lent → Counters → Lent → ℕ → Type 0
+ServesWith c k l k′ l′ r = servedWith c k l ≡ record { counters = k′; served = record { lent = l′; number = r } }
+
+-- ---- a call that answers by bytes
+
+-- the statistics stand in front of the text, which has room for 368 bytes; else the call is refused 6
+abbrev pub hasText : Lent → List ℕ → Bool
+hasText l text = leb 368 (length text) && isLent l
+
+pub record Reports (l : Lent) (text : List ℕ) (l′ : Lent) (text′ : List ℕ) (r : ℕ) : Type 0 where
+  pub loans : cond (leb 368 (length text)) (served Stats l) (refusedAs l 6) ≡ record { lent = l′; number = r }
+  pub report : text′ ≡ cond (hasText l text) (withBytes text 0 (textOf (call standard (worldIn l) Stats .answer))) text
+
+-- a read tells where the bytes stand in the lent memory, and how many they are
+pub record Places (a off len : ℕ) (l l′ : Lent) (r : ℕ) : Type 0 where
+  pub number : r ≡ served (Read a off len) l .number
+  pub words : l′ .words ≡ l .words
+  pub records : l′ .records ≡ l .records
+  pub memory : l′ .memory ≡ l .memory
+  pub queue : l′ .queue ≡ l .queue
+  pub answer : l′ .answer ≡ cond (eqb r 0) (withBytes (l .answer) 0 (wordIn (l′ .answer) 0 ∷ len ∷ [])) (l .answer)
+  pub bytes : r ≡ 0 → take len (drop (wordIn (l′ .answer) 0) (l .memory)) ≡ bytesOf (call standard (worldIn l) (Read a off len) .answer)
+
+-- ---- a boot
+
+abbrev pub isRoomy : Lent → Bool
+isRoomy l = leb stateWords (length (l .words)) && hasRoom l
+
+-- 5 where no lower refusal meets the map: the words and the answer are loans too
+abbrev pub shortNumber : ℕ → ℕ
+shortNumber n = cond (eqb n 0) 5 n
+
+abbrev pub ShortBoots : List MemoryRegion → (count records memory r : ℕ) → Type 0
+ShortBoots map count records memory r =
+    (ms : List MemoryRegion) → length ms ≡ count → take 8 ms ≡ take count map
+    → r ≡ shortNumber (numberIf (lowest (bootSheet standard ms records memory)))
+
+abbrev pub bootWritten : Lent → Left → Served
+bootWritten l x = cond (eqb (told (x .answer) .number) 0) (written stateOver l x) (refusedAs l (told (x .answer) .number))
+
+unfoldable pub booted : List MemoryRegion → Lent → Served
+booted ms l =
+    cond (isRoomy l) (bootWritten l (bootCall standard ms (worldIn l)))
+    (refusedAs l (shortNumber (numberIf (lowest (bootSheet standard ms (length (l .records)) (length (l .memory)))))))
+
+-- whatever stands past the eighth entry of the map
+abbrev pub Boots : List MemoryRegion → ℕ → Lent → Lent → ℕ → Type 0
+Boots map count l l′ r =
+    (ms : List MemoryRegion) → length ms ≡ count → take 8 ms ≡ take count map → booted ms l ≡ record { lent = l′; number = r }

@@ -1,0 +1,280 @@
+// The calls over lent words, for a kernel to make: the state is read out of the words, the call is made, and what it leaves is written back. The answer's two
+// numbers go to a lent slice, and the refusal's number, 0 where the call was accepted, is returned. Every promise is `served` or `booted` of specs/Serving.antt.
+use address::PhysAddr;
+use definition::Counters;
+use definition::MemoryRegion;
+use exam::Answer;
+use exam::State;
+use lines::Ask;
+ghost use mathlib.Core.List.{[]};
+ghost use mathlib.Core.Path.{_≡_};
+ghost use Prim.Native.Nat.{_≤_};
+ghost use lib.ListN.{length, getD};
+ghost use Rattle.definition.specs.Calls.{Write};
+ghost use Rattle.lines.specs.Reading.{callOf};
+ghost use Rattle.words.specs.Words.{rowsIn, queuedIn, passIn, countersIn};
+ghost use Rattle.exam.specs.Promise.{worldOf};
+ghost use Rattle.service.specs.Serving.{
+  tells,
+  isLent,
+  stateOver,
+  keptOver,
+  Serves,
+  ServesWith,
+  Reports,
+  Places,
+  ShortBoots,
+  Boots,
+};
+
+// ---- the words
+
+fn is_lent(words: &[u64], answer: &[u64]) -> bool
+    ensures { λ r. ⌜ r ≡ isLent (record { words = now (words .entry); records = []; memory = []; queue = []; answer = now (answer .entry) }) ⌝ }
+{
+    if words.len() < 101 {
+        return false;
+    }
+    if answer.len() < 2 {
+        return false;
+    }
+    words::is_kept(words)
+}
+
+fn state_with(words: &[u64], counters: Counters) -> State
+    requires { ⌜ 92 ≤ length (now words) ⌝ }
+    ensures { λ r. ⌜ r ≡ record { rows = rowsIn (now (words .entry)); counters = counters; queued = queuedIn (now (words .entry)); pass = passIn (now (words .entry)) } ⌝ }
+{
+    let rows = words::rows_in(words);
+    let pass = words::pass_in(words);
+    State {
+        rows,
+        counters,
+        queued: words::queued_in(words),
+        pass,
+    }
+}
+
+fn state_in(words: &[u64]) -> State
+    requires { ⌜ 101 ≤ length (now words) ⌝ }
+    ensures { λ r. ⌜ r ≡ record { rows = rowsIn (now (words .entry)); counters = countersIn (now (words .entry)); queued = queuedIn (now (words .entry)); pass = passIn (now (words .entry)) } ⌝ }
+{
+    state_with(words, words::counters_in(words))
+}
+
+fn put_kept(words: &mut [u64], state: State)
+    requires { ⌜ 92 ≤ length (now words) ⌝ }
+    ensures { λ _. ⌜ now (words .exit) ≡ keptOver (worldOf state [] [] []) (now (words .entry)) ⌝ }
+{
+    let rows = state.rows;
+    let pass = state.pass;
+    words::put_kept(words, rows, state.queued, pass);
+}
+
+fn put_state(words: &mut [u64], state: State)
+    requires { ⌜ 101 ≤ length (now words) ⌝ }
+    ensures { λ _. ⌜ now (words .exit) ≡ stateOver (worldOf state [] [] []) (now (words .entry)) ⌝ }
+{
+    put_kept(words, state);
+    let counters = state.counters;
+    words::put_counters(words, counters);
+}
+
+// ---- the answer
+
+// The two numbers of an accepted call; the refusal's number, or 0.
+fn tell(answer: &mut [u64], y: Answer) -> u32
+    requires { ⌜ 2 ≤ length (now answer) ⌝ }
+    ensures { λ r. ⌜ (r ≡ y .number) × (now (answer .exit) ≡ tells y (now (answer .entry))) ⌝ }
+{
+    if y.number == 0 {
+        answer[0] = y.address;
+        answer[1] = y.bytes;
+    }
+    y.number
+}
+
+// ---- the calls
+
+// A call that answers by numbers.
+pub fn serve(
+    words: &mut [u64],
+    records: &mut [u8],
+    memory: &mut [u8],
+    queue: &mut [u64],
+    answer: &mut [u64],
+    op: Ask,
+    n: [u64; 5],
+) -> u32
+    ensures { λ r. ⌜ Serves (callOf op (λ i. getD n i 0)) (record { words = now (words .entry); records = now (records .entry); memory = now (memory .entry); queue = now (queue .entry); answer = now (answer .entry) }) (record { words = now (words .exit); records = now (records .exit); memory = now (memory .exit); queue = now (queue .exit); answer = now (answer .exit) }) r ⌝ }
+{
+    if !is_lent(words, answer) {
+        return 6;
+    }
+    let o = calls::ask(state_in(words), records, memory, queue, op, n);
+    put_state(words, o.state);
+    tell(answer, o.answer)
+}
+
+// The counters that a call left, and the refusal's number.
+pub struct Counted {
+    pub counters: Counters,
+    pub number: u32,
+}
+
+// The same where the counters are a record of their own and the words go without.
+pub fn serve_with(
+    counters: Counters,
+    words: &mut [u64],
+    records: &mut [u8],
+    memory: &mut [u8],
+    queue: &mut [u64],
+    answer: &mut [u64],
+    op: Ask,
+    n: [u64; 5],
+) -> Counted
+    ensures { λ r. ⌜ ServesWith (callOf op (λ i. getD n i 0)) counters (record { words = now (words .entry); records = now (records .entry); memory = now (memory .entry); queue = now (queue .entry); answer = now (answer .entry) }) (r .counters) (record { words = now (words .exit); records = now (records .exit); memory = now (memory .exit); queue = now (queue .exit); answer = now (answer .exit) }) (r .number) ⌝ }
+{
+    if answer.len() < 2 {
+        return Counted {
+            counters,
+            number: 6,
+        };
+    }
+    if !words::is_kept(words) {
+        return Counted {
+            counters,
+            number: 6,
+        };
+    }
+    let o = calls::ask(state_with(words, counters), records, memory, queue, op, n);
+    let next = o.state;
+    put_kept(words, next);
+    let left = next.counters;
+    let number = tell(answer, o.answer);
+    Counted {
+        counters: left,
+        number,
+    }
+}
+
+pub fn serve_write(
+    words: &mut [u64],
+    records: &mut [u8],
+    memory: &mut [u8],
+    queue: &[u64],
+    answer: &mut [u64],
+    pa: PhysAddr,
+    offset: u64,
+    bytes: &[u8],
+) -> u32
+    ensures { λ r. ⌜ Serves (Write (pa .0) offset (now (bytes .entry))) (record { words = now (words .entry); records = now (records .entry); memory = now (memory .entry); queue = now (queue .entry); answer = now (answer .entry) }) (record { words = now (words .exit); records = now (records .exit); memory = now (memory .exit); queue = now (queue .entry); answer = now (answer .exit) }) r ⌝ }
+{
+    if !is_lent(words, answer) {
+        return 6;
+    }
+    let state = state_in(words);
+    let y = ranges::write(state, records, memory, queue, pa, offset, bytes);
+    put_state(words, state);
+    tell(answer, y)
+}
+
+// Where the bytes that are read stand in the memory, and how many they are.
+pub fn serve_read(
+    words: &[u64],
+    records: &[u8],
+    memory: &[u8],
+    queue: &[u64],
+    answer: &mut [u64],
+    pa: PhysAddr,
+    offset: u64,
+    len: u64,
+) -> u32
+    ensures { λ r. ⌜ Places (pa .0) offset len (record { words = now (words .entry); records = now (records .entry); memory = now (memory .entry); queue = now (queue .entry); answer = now (answer .entry) }) (record { words = now (words .entry); records = now (records .entry); memory = now (memory .entry); queue = now (queue .entry); answer = now (answer .exit) }) r ⌝ }
+{
+    if !is_lent(words, answer) {
+        return 6;
+    }
+    let place = copies::read_place(state_in(words), records, memory, queue, pa, offset, len);
+    tell(
+        answer,
+        Answer {
+            number: place.number,
+            address: place.at as u64,
+            bytes: len,
+        },
+    )
+}
+
+// The statistics, at most 368 bytes, in front of `text`.
+pub fn serve_stats(
+    words: &mut [u64],
+    records: &[u8],
+    memory: &[u8],
+    queue: &[u64],
+    answer: &mut [u64],
+    text: &mut [u8],
+) -> u32
+    ensures { λ r. ⌜ Reports (record { words = now (words .entry); records = now (records .entry); memory = now (memory .entry); queue = now (queue .entry); answer = now (answer .entry) }) (now (text .entry)) (record { words = now (words .exit); records = now (records .entry); memory = now (memory .entry); queue = now (queue .entry); answer = now (answer .exit) }) (now (text .exit)) r ⌝ }
+{
+    if text.len() < 368 {
+        return 6;
+    }
+    if !is_lent(words, answer) {
+        return 6;
+    }
+    let state = state_in(words);
+    let report = counts::stats(state, records, memory, queue);
+    let told = report.text;
+    let len = report.len;
+    text::put_text(text, 0, &told[..len]);
+    put_state(words, state);
+    tell(
+        answer,
+        Answer {
+            number: report.number,
+            address: 0,
+            bytes: len as u64,
+        },
+    )
+}
+
+// ---- the boot
+
+// Refusals 1 to 5 where the words or the answer are too short.
+fn short_boot(map: [MemoryRegion; 8], count: usize, records: usize, memory: usize) -> u32
+    ensures { λ r. ⌜ ShortBoots map count records memory r ⌝ }
+{
+    let number = boot::refusal_of_map(map, count, records, memory);
+    if number == 0 {
+        return 5;
+    }
+    number
+}
+
+// A map of `count` entries, of which `map` has the first eight. A boot reads nothing of the words.
+pub fn serve_boot(
+    map: [MemoryRegion; 8],
+    count: usize,
+    words: &mut [u64],
+    records: &mut [u8],
+    memory: &[u8],
+    queue: &[u64],
+    answer: &mut [u64],
+) -> u32
+    ensures { λ r. ⌜ Boots map count (record { words = now (words .entry); records = now (records .entry); memory = now (memory .entry); queue = now (queue .entry); answer = now (answer .entry) }) (record { words = now (words .exit); records = now (records .exit); memory = now (memory .entry); queue = now (queue .entry); answer = now (answer .exit) }) r ⌝ }
+{
+    if words.len() < 101 {
+        return short_boot(map, count, records.len(), memory.len());
+    }
+    if answer.len() < 2 {
+        return short_boot(map, count, records.len(), memory.len());
+    }
+    let o = boot::boot(state_in(words), map, count, records, memory, queue);
+    let y = o.answer;
+    if y.number != 0 {
+        return y.number;
+    }
+    put_state(words, o.state);
+    tell(answer, y)
+}

@@ -1,0 +1,697 @@
+// The library that a kernel links: one exported function for each call, on numbers and lent slices. The state is lent as words (words/specs/Words.antt); the answer's
+// two numbers go to a lent slice, and the refusal's number, 0 where the call was accepted, is returned. Every promise is `served` or `booted` of
+// service/specs/Serving.antt: what stands in the loans afterwards, to the last word and byte, and the number.
+use address::PhysAddr;
+use definition::Counters;
+use definition::MemoryRegion;
+use definition::MemoryRegionKind;
+use lines::Ask;
+use service::Counted;
+ghost use mathlib.Core.Path.{_≡_};
+ghost use Prim.Native.Nat.{_%_, _≤_, _<_};
+ghost use Rattle.definition.specs.Script.{flagsOf};
+ghost use Rattle.definition.specs.Calls.{
+  Alloc,
+  Take,
+  Split,
+  Free,
+  Zero,
+  Dirty,
+  Find,
+  Queue,
+  Fill,
+  Write,
+  Copy,
+  Pcopy,
+  Round,
+  Lend,
+  Back,
+  Low,
+};
+ghost use Rattle.service.specs.Serving.{Serves, Places, Reports};
+ghost use Rattle.store.specs.Exported.{Audits};
+ghost use Rattle.store.specs.Lending.{
+  regionOf,
+  nothing as «nothing_def»,
+  entered as «entered_def»,
+  gathered,
+  BootsBy,
+  Boots,
+  askOf,
+  numbersOf,
+  Asks,
+  CallsWith,
+};
+
+// ---- the audit
+
+// 0 where the state and the loans are as the torn sheet says, else 6.
+#[no_mangle]
+pub extern "C" fn jilakkor_audit(
+    words: &[u64],
+    records: &[u8],
+    memory_len: usize,
+    queue_len: usize,
+) -> u32
+    ensures { λ r. ⌜ Audits (now (words .entry)) (now (records .entry)) «memory_len» «queue_len» r ⌝ }
+{
+    if words.len() < 101 {
+        return 6;
+    }
+    if !words::is_kept(words) {
+        return 6;
+    }
+    let rows = words::rows_in(words);
+    let counters = words::counters_in(words);
+    let queued = words::queued_in(words);
+    let pass = words::pass_in(words);
+    if audit::audit(rows, counters, queued, pass, records, memory_len, queue_len) {
+        0
+    } else {
+        6
+    }
+}
+
+// ---- the calls that answer by numbers
+
+// try_alloc_frame, tracker.rs 55: a frame for a layout. `flags` adds 1 for ZEROED, 2 for KERNEL, 4 for WAIT_OK.
+#[no_mangle]
+pub extern "C" fn jilakkor_alloc(
+    words: &mut [u64],
+    records: &mut [u8],
+    memory: &mut [u8],
+    queue: &mut [u64],
+    answer: &mut [u64],
+    size: u64,
+    align: u64,
+    flags: u64,
+) -> u32
+    ensures { λ r. ⌜ Serves (Alloc (record { size = size; align = align; flags = flagsOf flags })) (record { words = now (words .entry); records = now (records .entry); memory = now (memory .entry); queue = now (queue .entry); answer = now (answer .entry) }) (record { words = now (words .exit); records = now (records .exit); memory = now (memory .exit); queue = now (queue .exit); answer = now (answer .exit) }) r ⌝ }
+{
+    service::serve(
+        words,
+        records,
+        memory,
+        queue,
+        answer,
+        Ask::Alloc,
+        [size, align, flags, 0, 0],
+    )
+}
+
+// try_alloc_split_frames, tracker.rs 98: the same, and a frame above the first level becomes 512 held ones.
+#[no_mangle]
+pub extern "C" fn jilakkor_take(
+    words: &mut [u64],
+    records: &mut [u8],
+    memory: &mut [u8],
+    queue: &mut [u64],
+    answer: &mut [u64],
+    size: u64,
+    align: u64,
+    flags: u64,
+) -> u32
+    ensures { λ r. ⌜ Serves (Take (record { size = size; align = align; flags = flagsOf flags })) (record { words = now (words .entry); records = now (records .entry); memory = now (memory .entry); queue = now (queue .entry); answer = now (answer .entry) }) (record { words = now (words .exit); records = now (records .exit); memory = now (memory .exit); queue = now (queue .exit); answer = now (answer .exit) }) r ⌝ }
+{
+    service::serve(
+        words,
+        records,
+        memory,
+        queue,
+        answer,
+        Ask::Take,
+        [size, align, flags, 0, 0],
+    )
+}
+
+// split_frame: a held frame becomes 512 held ones.
+#[no_mangle]
+pub extern "C" fn jilakkor_split(
+    words: &mut [u64],
+    records: &mut [u8],
+    memory: &mut [u8],
+    queue: &mut [u64],
+    answer: &mut [u64],
+    address: u64,
+) -> u32
+    ensures { λ r. ⌜ Serves (Split address) (record { words = now (words .entry); records = now (records .entry); memory = now (memory .entry); queue = now (queue .entry); answer = now (answer .entry) }) (record { words = now (words .exit); records = now (records .exit); memory = now (memory .exit); queue = now (queue .exit); answer = now (answer .exit) }) r ⌝ }
+{
+    service::serve(
+        words,
+        records,
+        memory,
+        queue,
+        answer,
+        Ask::Split,
+        [address, 0, 0, 0, 0],
+    )
+}
+
+// free_frame, tracker.rs 41.
+#[no_mangle]
+pub extern "C" fn jilakkor_free(
+    words: &mut [u64],
+    records: &mut [u8],
+    memory: &mut [u8],
+    queue: &mut [u64],
+    answer: &mut [u64],
+    address: u64,
+) -> u32
+    ensures { λ r. ⌜ Serves (Free address) (record { words = now (words .entry); records = now (records .entry); memory = now (memory .entry); queue = now (queue .entry); answer = now (answer .entry) }) (record { words = now (words .exit); records = now (records .exit); memory = now (memory .exit); queue = now (queue .exit); answer = now (answer .exit) }) r ⌝ }
+{
+    service::serve(
+        words,
+        records,
+        memory,
+        queue,
+        answer,
+        Ask::Free,
+        [address, 0, 0, 0, 0],
+    )
+}
+
+// Frame::zero, frame.rs 430.
+#[no_mangle]
+pub extern "C" fn jilakkor_zero(
+    words: &mut [u64],
+    records: &mut [u8],
+    memory: &mut [u8],
+    queue: &mut [u64],
+    answer: &mut [u64],
+    address: u64,
+) -> u32
+    ensures { λ r. ⌜ Serves (Zero address) (record { words = now (words .entry); records = now (records .entry); memory = now (memory .entry); queue = now (queue .entry); answer = now (answer .entry) }) (record { words = now (words .exit); records = now (records .exit); memory = now (memory .exit); queue = now (queue .exit); answer = now (answer .exit) }) r ⌝ }
+{
+    service::serve(
+        words,
+        records,
+        memory,
+        queue,
+        answer,
+        Ask::Zero,
+        [address, 0, 0, 0, 0],
+    )
+}
+
+// Frame::set_not_zero, frame.rs 443.
+#[no_mangle]
+pub extern "C" fn jilakkor_dirty(
+    words: &mut [u64],
+    records: &mut [u8],
+    memory: &mut [u8],
+    queue: &mut [u64],
+    answer: &mut [u64],
+    address: u64,
+) -> u32
+    ensures { λ r. ⌜ Serves (Dirty address) (record { words = now (words .entry); records = now (records .entry); memory = now (memory .entry); queue = now (queue .entry); answer = now (answer .entry) }) (record { words = now (words .exit); records = now (records .exit); memory = now (memory .exit); queue = now (queue .exit); answer = now (answer .exit) }) r ⌝ }
+{
+    service::serve(
+        words,
+        records,
+        memory,
+        queue,
+        answer,
+        Ask::Dirty,
+        [address, 0, 0, 0, 0],
+    )
+}
+
+// get_frame, frame.rs 743: the page of an address, and the bytes of the frame that starts there.
+#[no_mangle]
+pub extern "C" fn jilakkor_find(
+    words: &mut [u64],
+    records: &mut [u8],
+    memory: &mut [u8],
+    queue: &mut [u64],
+    answer: &mut [u64],
+    address: u64,
+) -> u32
+    ensures { λ r. ⌜ Serves (Find address) (record { words = now (words .entry); records = now (records .entry); memory = now (memory .entry); queue = now (queue .entry); answer = now (answer .entry) }) (record { words = now (words .exit); records = now (records .exit); memory = now (memory .exit); queue = now (queue .exit); answer = now (answer .exit) }) r ⌝ }
+{
+    service::serve(
+        words,
+        records,
+        memory,
+        queue,
+        answer,
+        Ask::Find,
+        [address, 0, 0, 0, 0],
+    )
+}
+
+// A held frame that the next reclaim rounds may free.
+#[no_mangle]
+pub extern "C" fn jilakkor_queue(
+    words: &mut [u64],
+    records: &mut [u8],
+    memory: &mut [u8],
+    queue: &mut [u64],
+    answer: &mut [u64],
+    address: u64,
+) -> u32
+    ensures { λ r. ⌜ Serves (Queue address) (record { words = now (words .entry); records = now (records .entry); memory = now (memory .entry); queue = now (queue .entry); answer = now (answer .entry) }) (record { words = now (words .exit); records = now (records .exit); memory = now (memory .exit); queue = now (queue .exit); answer = now (answer .exit) }) r ⌝ }
+{
+    service::serve(
+        words,
+        records,
+        memory,
+        queue,
+        answer,
+        Ask::Queue,
+        [address, 0, 0, 0, 0],
+    )
+}
+
+// `len` bytes of a frame, from `offset` on, become `byte` modulo 256.
+#[no_mangle]
+pub extern "C" fn jilakkor_fill(
+    words: &mut [u64],
+    records: &mut [u8],
+    memory: &mut [u8],
+    queue: &mut [u64],
+    answer: &mut [u64],
+    address: u64,
+    offset: u64,
+    len: u64,
+    byte: u64,
+) -> u32
+    ensures { λ r. ⌜ Serves (Fill address offset len (byte % 256)) (record { words = now (words .entry); records = now (records .entry); memory = now (memory .entry); queue = now (queue .entry); answer = now (answer .entry) }) (record { words = now (words .exit); records = now (records .exit); memory = now (memory .exit); queue = now (queue .exit); answer = now (answer .exit) }) r ⌝ }
+{
+    service::serve(
+        words,
+        records,
+        memory,
+        queue,
+        answer,
+        Ask::Fill,
+        [address, offset, len, byte, 0],
+    )
+}
+
+// Frame::copy_contents_from, frame.rs 491.
+#[no_mangle]
+pub extern "C" fn jilakkor_copy(
+    words: &mut [u64],
+    records: &mut [u8],
+    memory: &mut [u8],
+    queue: &mut [u64],
+    answer: &mut [u64],
+    target: u64,
+    target_offset: u64,
+    source: u64,
+    source_offset: u64,
+    len: u64,
+) -> u32
+    ensures { λ r. ⌜ Serves (Copy target «target_offset» source «source_offset» len) (record { words = now (words .entry); records = now (records .entry); memory = now (memory .entry); queue = now (queue .entry); answer = now (answer .entry) }) (record { words = now (words .exit); records = now (records .exit); memory = now (memory .exit); queue = now (queue .exit); answer = now (answer .exit) }) r ⌝ }
+{
+    service::serve(
+        words,
+        records,
+        memory,
+        queue,
+        answer,
+        Ask::Copy,
+        [target, target_offset, source, source_offset, len],
+    )
+}
+
+// Frame::copy_contents_from_physaddr, frame.rs 527.
+#[no_mangle]
+pub extern "C" fn jilakkor_pcopy(
+    words: &mut [u64],
+    records: &mut [u8],
+    memory: &mut [u8],
+    queue: &mut [u64],
+    answer: &mut [u64],
+    target: u64,
+    target_offset: u64,
+    source: u64,
+    len: u64,
+) -> u32
+    ensures { λ r. ⌜ Serves (Pcopy target «target_offset» source len) (record { words = now (words .entry); records = now (records .entry); memory = now (memory .entry); queue = now (queue .entry); answer = now (answer .entry) }) (record { words = now (words .exit); records = now (records .exit); memory = now (memory .exit); queue = now (queue .exit); answer = now (answer .exit) }) r ⌝ }
+{
+    service::serve(
+        words,
+        records,
+        memory,
+        queue,
+        answer,
+        Ask::Pcopy,
+        [target, target_offset, source, len, 0],
+    )
+}
+
+// reclaim_main, tracker.rs 419 to 457: one turn of its loop.
+#[no_mangle]
+pub extern "C" fn jilakkor_round(
+    words: &mut [u64],
+    records: &mut [u8],
+    memory: &mut [u8],
+    queue: &mut [u64],
+    answer: &mut [u64],
+) -> u32
+    ensures { λ r. ⌜ Serves (Round) (record { words = now (words .entry); records = now (records .entry); memory = now (memory .entry); queue = now (queue .entry); answer = now (answer .entry) }) (record { words = now (words .exit); records = now (records .exit); memory = now (memory .exit); queue = now (queue .exit); answer = now (answer .exit) }) r ⌝ }
+{
+    service::serve(
+        words,
+        records,
+        memory,
+        queue,
+        answer,
+        Ask::Round,
+        [0, 0, 0, 0, 0],
+    )
+}
+
+// track_frame_pager, tracker.rs 216.
+#[no_mangle]
+pub extern "C" fn jilakkor_lend(
+    words: &mut [u64],
+    records: &mut [u8],
+    memory: &mut [u8],
+    queue: &mut [u64],
+    answer: &mut [u64],
+    count: u64,
+) -> u32
+    ensures { λ r. ⌜ Serves (Lend count) (record { words = now (words .entry); records = now (records .entry); memory = now (memory .entry); queue = now (queue .entry); answer = now (answer .entry) }) (record { words = now (words .exit); records = now (records .exit); memory = now (memory .exit); queue = now (queue .exit); answer = now (answer .exit) }) r ⌝ }
+{
+    service::serve(
+        words,
+        records,
+        memory,
+        queue,
+        answer,
+        Ask::Lend,
+        [count, 0, 0, 0, 0],
+    )
+}
+
+// untrack_frame_pager, tracker.rs 222.
+#[no_mangle]
+pub extern "C" fn jilakkor_back(
+    words: &mut [u64],
+    records: &mut [u8],
+    memory: &mut [u8],
+    queue: &mut [u64],
+    answer: &mut [u64],
+    count: u64,
+) -> u32
+    ensures { λ r. ⌜ Serves (Back count) (record { words = now (words .entry); records = now (records .entry); memory = now (memory .entry); queue = now (queue .entry); answer = now (answer .entry) }) (record { words = now (words .exit); records = now (records .exit); memory = now (memory .exit); queue = now (queue .exit); answer = now (answer .exit) }) r ⌝ }
+{
+    service::serve(
+        words,
+        records,
+        memory,
+        queue,
+        answer,
+        Ask::Back,
+        [count, 0, 0, 0, 0],
+    )
+}
+
+// should_reclaim, tracker.rs 180: 1 where memory is low.
+#[no_mangle]
+pub extern "C" fn jilakkor_low(
+    words: &mut [u64],
+    records: &mut [u8],
+    memory: &mut [u8],
+    queue: &mut [u64],
+    answer: &mut [u64],
+) -> u32
+    ensures { λ r. ⌜ Serves (Low) (record { words = now (words .entry); records = now (records .entry); memory = now (memory .entry); queue = now (queue .entry); answer = now (answer .entry) }) (record { words = now (words .exit); records = now (records .exit); memory = now (memory .exit); queue = now (queue .exit); answer = now (answer .exit) }) r ⌝ }
+{
+    service::serve(
+        words,
+        records,
+        memory,
+        queue,
+        answer,
+        Ask::Low,
+        [0, 0, 0, 0, 0],
+    )
+}
+
+// ---- the calls over bytes
+
+// The bytes of a frame, from `offset` on, become `bytes`.
+#[no_mangle]
+pub extern "C" fn jilakkor_write(
+    words: &mut [u64],
+    records: &mut [u8],
+    memory: &mut [u8],
+    queue: &mut [u64],
+    answer: &mut [u64],
+    address: u64,
+    offset: u64,
+    bytes: &[u8],
+) -> u32
+    ensures { λ r. ⌜ Serves (Write address offset (now (bytes .entry))) (record { words = now (words .entry); records = now (records .entry); memory = now (memory .entry); queue = now (queue .entry); answer = now (answer .entry) }) (record { words = now (words .exit); records = now (records .exit); memory = now (memory .exit); queue = now (queue .exit); answer = now (answer .exit) }) r ⌝ }
+{
+    service::serve_write(
+        words,
+        records,
+        memory,
+        queue,
+        answer,
+        PhysAddr(address),
+        offset,
+        bytes,
+    )
+}
+
+// Where `len` bytes of a frame, from `offset` on, stand in the memory: the answer's first number is their place, the second their number.
+#[no_mangle]
+pub extern "C" fn jilakkor_read(
+    words: &mut [u64],
+    records: &mut [u8],
+    memory: &mut [u8],
+    queue: &mut [u64],
+    answer: &mut [u64],
+    address: u64,
+    offset: u64,
+    len: u64,
+) -> u32
+    ensures { λ r. ⌜ Places address offset len (record { words = now (words .entry); records = now (records .entry); memory = now (memory .entry); queue = now (queue .entry); answer = now (answer .entry) }) (record { words = now (words .exit); records = now (records .exit); memory = now (memory .exit); queue = now (queue .exit); answer = now (answer .exit) }) r ⌝ }
+{
+    service::serve_read(
+        words,
+        records,
+        memory,
+        queue,
+        answer,
+        PhysAddr(address),
+        offset,
+        len,
+    )
+}
+
+// print_tracker_stats, tracker.rs 235: the statistics stand in front of `text`, which has at least 368 bytes; the answer's second number is their length.
+#[no_mangle]
+pub extern "C" fn jilakkor_stats(
+    words: &mut [u64],
+    records: &mut [u8],
+    memory: &mut [u8],
+    queue: &mut [u64],
+    answer: &mut [u64],
+    text: &mut [u8],
+) -> u32
+    ensures { λ r. ⌜ Reports (record { words = now (words .entry); records = now (records .entry); memory = now (memory .entry); queue = now (queue .entry); answer = now (answer .entry) }) (now (text .entry)) (record { words = now (words .exit); records = now (records .exit); memory = now (memory .exit); queue = now (queue .exit); answer = now (answer .exit) }) (now (text .exit)) r ⌝ }
+{
+    service::serve_stats(words, records, memory, queue, answer, text)
+}
+
+// ---- the lent map
+
+// An entry of the boot map as a kernel lends it: its kind is 0 for UsableRam; any other is no usable memory.
+#[repr(C)]
+pub struct Entry {
+    pub start: u64,
+    pub length: u64,
+    pub kind: u64,
+}
+
+// The first eight entries of a map, and how many it has.
+pub struct Gathered {
+    pub map: [MemoryRegion; 8],
+    pub count: usize,
+}
+
+fn region_of(entry: Entry) -> MemoryRegion
+    ensures { λ r. ⌜ r ≡ regionOf entry ⌝ }
+{
+    MemoryRegion {
+        start: PhysAddr(entry.start),
+        length: entry.length as usize,
+        kind: calls::kind_of(entry.kind),
+    }
+}
+
+fn nothing(count: usize) -> Gathered
+    ensures { λ r. ⌜ r ≡ «nothing_def» count ⌝ }
+{
+    let unused = MemoryRegion {
+        start: PhysAddr(0),
+        length: 0,
+        kind: MemoryRegionKind::Reserved,
+    };
+    let map = [unused; 8];
+    Gathered { map, count }
+}
+
+fn entered(g: Gathered, i: usize, entry: Entry) -> Gathered
+    ensures { λ r. ⌜ r ≡ «entered_def» g i entry ⌝ }
+{
+    let mut map = g.map;
+    if i < 8 {
+        let region = region_of(entry);
+        map[i] = region;
+    }
+    Gathered {
+        map,
+        count: g.count,
+    }
+}
+
+fn at_most_eight(n: usize) -> usize
+    ensures { λ r. ⌜ (r ≤ n) × (r ≤ 8) × (r < 8 → r ≡ n) ⌝ }
+{
+    if n < 8 { n } else { 8 }
+}
+
+// Each of the first eight entries is handed over by value; past them nothing is read.
+fn gather(map: &[Entry]) -> Gathered
+    ensures { λ r. ⌜ r ≡ gathered (now (map .entry)) ⌝ }
+{
+    let n = at_most_eight(map.len());
+    let mut g = nothing(map.len());
+    let mut i = 0;
+    while i < n {
+        g = entered(g, i, map[i]);
+        i += 1;
+    }
+    g
+}
+
+fn boot_gathered(
+    g: Gathered,
+    words: &mut [u64],
+    records: &mut [u8],
+    memory: &[u8],
+    queue: &[u64],
+    answer: &mut [u64],
+) -> u32
+    ensures { λ r. ⌜ BootsBy g (record { words = now (words .entry); records = now (records .entry); memory = now (memory .entry); queue = now (queue .entry); answer = now (answer .entry) }) (record { words = now (words .exit); records = now (records .exit); memory = now (memory .entry); queue = now (queue .entry); answer = now (answer .exit) }) r ⌝ }
+{
+    let map = g.map;
+    service::serve_boot(map, g.count, words, records, memory, queue, answer)
+}
+
+// init, frame.rs 707, over a lent list of region entries of any length.
+#[no_mangle]
+pub extern "C" fn jilakkor_boot(
+    map: &[Entry],
+    words: &mut [u64],
+    records: &mut [u8],
+    memory: &[u8],
+    queue: &[u64],
+    answer: &mut [u64],
+) -> u32
+    ensures { λ r. ⌜ Boots (now (map .entry)) (record { words = now (words .entry); records = now (records .entry); memory = now (memory .entry); queue = now (queue .entry); answer = now (answer .entry) }) (record { words = now (words .exit); records = now (records .exit); memory = now (memory .entry); queue = now (queue .entry); answer = now (answer .exit) }) r ⌝ }
+{
+    boot_gathered(gather(map), words, records, memory, queue, answer)
+}
+
+// ---- the lent counters
+
+pub enum Asked {
+    Known(Ask),
+    Unknown,
+}
+
+fn ask_of(op: u64) -> Asked
+    ensures { λ r. ⌜ Asks (askOf op) r ⌝ }
+{
+    match op {
+        0 => Asked::Known(Ask::Alloc),
+        1 => Asked::Known(Ask::Take),
+        2 => Asked::Known(Ask::Split),
+        3 => Asked::Known(Ask::Free),
+        4 => Asked::Known(Ask::Zero),
+        5 => Asked::Known(Ask::Dirty),
+        6 => Asked::Known(Ask::Find),
+        7 => Asked::Known(Ask::Queue),
+        8 => Asked::Known(Ask::Fill),
+        9 => Asked::Known(Ask::Copy),
+        10 => Asked::Known(Ask::Pcopy),
+        11 => Asked::Known(Ask::Round),
+        12 => Asked::Known(Ask::Lend),
+        13 => Asked::Known(Ask::Back),
+        14 => Asked::Known(Ask::Low),
+        _ => Asked::Unknown,
+    }
+}
+
+fn number_at(numbers: &[u64], i: usize) -> u64
+    ensures { λ r. ⌜ r ≡ numbersOf (now (numbers .entry)) i ⌝ }
+{
+    if i < numbers.len() { numbers[i] } else { 0 }
+}
+
+fn call_counted(
+    counters: Counters,
+    words: &mut [u64],
+    records: &mut [u8],
+    memory: &mut [u8],
+    queue: &mut [u64],
+    answer: &mut [u64],
+    op: u64,
+    numbers: &[u64],
+) -> Counted
+    ensures { λ r. ⌜ CallsWith op (now (numbers .entry)) counters (record { words = now (words .entry); records = now (records .entry); memory = now (memory .entry); queue = now (queue .entry); answer = now (answer .entry) }) (r .counters) (record { words = now (words .exit); records = now (records .exit); memory = now (memory .exit); queue = now (queue .exit); answer = now (answer .exit) }) (r .number) ⌝ }
+{
+    let n = [
+        number_at(numbers, 0),
+        number_at(numbers, 1),
+        number_at(numbers, 2),
+        number_at(numbers, 3),
+        number_at(numbers, 4),
+    ];
+    match ask_of(op) {
+        Asked::Known(ask) => {
+            service::serve_with(counters, words, records, memory, queue, answer, ask, n)
+        }
+        Asked::Unknown => Counted {
+            counters,
+            number: 17,
+        },
+    }
+}
+
+// A call by its number, 0 for alloc to 14 for low, where MemoryTracker's nine counters are one lent record, which it updates. The words go without them: the first 92
+// of a state's, of which the record is the rest.
+#[no_mangle]
+pub extern "C" fn jilakkor_call(
+    counters: &mut Counters,
+    words: &mut [u64],
+    records: &mut [u8],
+    memory: &mut [u8],
+    queue: &mut [u64],
+    answer: &mut [u64],
+    op: u64,
+    numbers: &[u64],
+) -> u32
+    ensures { λ r. ⌜ CallsWith op (now (numbers .entry)) (now (counters .entry)) (record { words = now (words .entry); records = now (records .entry); memory = now (memory .entry); queue = now (queue .entry); answer = now (answer .entry) }) (now (counters .exit)) (record { words = now (words .exit); records = now (records .exit); memory = now (memory .exit); queue = now (queue .exit); answer = now (answer .exit) }) r ⌝ }
+{
+    let counted = call_counted(
+        *counters,
+        words,
+        records,
+        memory,
+        queue,
+        answer,
+        op,
+        numbers,
+    );
+    *counters = counted.counters;
+    counted.number
+}

@@ -1,0 +1,135 @@
+-- What is read of words that were written: halves, lists and rows; and that equal words read equal.
+use Prim.Native.Nat.{ℕ, zero, suc, _+_, _*_, _≤_, _<_}
+use mathlib.Core.List.{List, [], _∷_, _++_, append-assoc}
+use mathlib.Core.Path.{_≡_, refl, ap, ap₂, _∙_}
+use native.Mathlib.Nat.{add-assoc, add-zero, zero-add}
+use native.Mathlib.Omega.{arith}
+use lib.ListN.{length, getD, take, drop, length-append}
+use lib.Seq.{drop-cons, getD-append-add, take-all}
+use Rattle.definition.specs.declared.Links.{Links}
+use Rattle.definition.specs.declared.Row.{Row}
+use Rattle.definition.specs.World.{noLinks, noRow}
+use Rattle.words.specs.Words.{
+  NarrowLinks,
+  NarrowRow,
+  joined,
+  lowHalf,
+  highHalf,
+  wordIn,
+  firstIn,
+  secondIn,
+  rowIn,
+  rowsFrom,
+  pairWords,
+  listIn,
+  rowWords,
+  rowsWords,
+}
+use Rattle.words.proofs.Rows.{length-row-words}
+
+-- ---- halves
+
+halves : (w : ℕ) → joined (lowHalf w) (highHalf w) ≡ w
+halves w = omega arith
+
+low : (a b : ℕ) → a < 4294967296 → lowHalf (joined a b) ≡ a
+low a b h = omega arith
+
+high : (a b : ℕ) → a < 4294967296 → highHalf (joined a b) ≡ b
+high a b h = omega arith
+
+-- ---- a list, element by element
+
+abbrev pub run : {A : Type 0} → A → List A → ℕ → ℕ → List A
+run d l at zero = []
+run d l at (suc n) = getD l at d ∷ run d l (suc at) n
+
+pub run-taken : {A : Type 0} (d : A) (l : List A) (at n : ℕ) → at + n ≤ length l → run d l at n ≡ take n (drop at l)
+run-taken {A} d l at zero h = refl
+run-taken {A} d l at (suc n) h = rw (drop-cons l at d (omega arith)) (ap (λ (xs : List A). getD l at d ∷ xs) (run-taken d l (suc at) n (omega arith)))
+
+-- ---- a row
+
+-- read, and its words again
+pub row-again : (ws : List ℕ) (at : ℕ)
+    → rowWords (rowIn ws at)
+    ≡ wordIn ws at
+    ∷ wordIn ws (at + 1)
+    ∷ wordIn ws (at + 2)
+    ∷ wordIn ws (at + 2 + 1)
+    ∷ wordIn ws (at + 2 + 2)
+    ∷ wordIn ws (at + 5)
+    ∷ wordIn ws (at + 5 + 1)
+    ∷ wordIn ws (at + 5 + 2)
+    ∷ wordIn ws (at + 8)
+    ∷ wordIn ws (at + 8 + 1)
+    ∷ wordIn ws (at + 8 + 2)
+    ∷ []
+unfolding rowIn rowWords
+row-again ws at = simp halves
+
+module _ (a b : Links) (rest : List ℕ) (p : NarrowLinks a) (q : NarrowLinks b) where
+  first-read : firstIn (pairWords a b ++ rest) 0 ≡ a
+  first-read = rw (low (a .front) (a .back) (p .front), high (a .front) (a .back) (p .front), low (a .count) (b .front) (p .count)) refl
+
+  second-read : secondIn (pairWords a b ++ rest) 0 ≡ b
+  second-read = rw (high (a .count) (b .front) (p .count), low (b .back) (b .count) (q .back), high (b .back) (b .count) (q .back)) refl
+
+pub row-read : (row : Row) (rest : List ℕ) → NarrowRow row → rowIn (rowWords row ++ rest) 0 ≡ row
+unfolding rowIn rowWords
+row-read row rest n =
+    let l : ℕ → Links = listIn row in
+    let m : (k : ℕ) → k < 6 → NarrowLinks (l k) = n .narrow in
+    let s : run noLinks (row .lists) 0 6 ≡ row .lists = run-taken noLinks (row .lists) 0 6 (omega (arith, n .six)) ∙ take-all 6 (row .lists) (omega (arith, n .six)) in
+    rw (
+      first-read (l 0) (l 1) [] (m 0 (omega arith)) (m 1 (omega arith)),
+      second-read (l 0) (l 1) [] (m 0 (omega arith)) (m 1 (omega arith)),
+      first-read (l 2) (l 3) [] (m 2 (omega arith)) (m 3 (omega arith)),
+      second-read (l 2) (l 3) [] (m 2 (omega arith)) (m 3 (omega arith)),
+      first-read (l 4) (l 5) [] (m 4 (omega arith)) (m 5 (omega arith)),
+      second-read (l 4) (l 5) [] (m 4 (omega arith)) (m 5 (omega arith)),
+      s,
+    ) refl
+
+-- eleven equal words
+pub row-same : (ws vs : List ℕ) (at bt : ℕ) → ((k : ℕ) → k < 11 → wordIn ws (at + k) ≡ wordIn vs (bt + k)) → rowIn ws at ≡ rowIn vs bt
+unfolding rowIn
+row-same ws vs at bt h =
+    let g : (j k : ℕ) → j + k < 11 → wordIn ws (at + j + k) ≡ wordIn vs (bt + j + k) = λ j k l. rw (add-assoc at j k, add-assoc bt j k) (h (j + k) l) in
+    let z : wordIn ws at ≡ wordIn vs bt = rw (add-zero at, add-zero bt) at (h 0 (omega arith)) in
+    rw (
+      z,
+      h 1 (omega arith),
+      h 2 (omega arith),
+      g 2 1 (omega arith),
+      g 2 2 (omega arith),
+      h 5 (omega arith),
+      g 5 1 (omega arith),
+      g 5 2 (omega arith),
+      h 8 (omega arith),
+      g 8 1 (omega arith),
+      g 8 2 (omega arith),
+    ) refl
+
+-- ---- the rows
+
+pub rows-same : (ws vs : List ℕ) (i n : ℕ) → i + n ≤ 8 → ((k : ℕ) → k < 92 → wordIn ws k ≡ wordIn vs k) → rowsFrom ws i n ≡ rowsFrom vs i n
+unfolding rowsFrom
+rows-same ws vs i zero h e = refl
+rows-same ws vs i (suc n) h e =
+    ap₂ (λ (r : Row) (rs : List Row). r ∷ rs)
+    (row-same ws vs (1 + 11 * i) (1 + 11 * i) (λ k l. e (1 + 11 * i + k) (omega arith)))
+    (rows-same ws vs (i + 1) n (omega arith) e)
+
+pub rows-read : (front : List ℕ) (rows : List Row) (rest : List ℕ) (i : ℕ) → length front ≡ 1 + 11 * i
+    → ((k : ℕ) → k < length rows → NarrowRow (getD rows k noRow))
+    → rowsFrom (front ++ (rowsWords rows ++ rest)) i (length rows) ≡ rows
+unfolding rowsFrom rowsWords
+rows-read front [] rest i e n = refl
+rows-read front (row ∷ rows) rest i e n =
+    let behind : List ℕ = rowWords row ++ (rowsWords rows ++ rest) in
+    let here : rowIn (front ++ behind) (1 + 11 * i) ≡ row =
+    row-same (front ++ behind) behind (1 + 11 * i) 0 (λ k l. rw (← e, zero-add k) (getD-append-add front behind k 0)) ∙ row-read row (rowsWords rows ++ rest) (n 0 (omega arith))
+    in
+    let l : length (front ++ rowWords row) ≡ 1 + 11 * (i + 1) = length-append front (rowWords row) ∙ omega (arith, length-row-words row) in
+    rw append-assoc (rw here (ap (λ (rs : List Row). row ∷ rs) (rw (← append-assoc front (rowWords row) (rowsWords rows ++ rest)) (rows-read (front ++ rowWords row) rows rest (i + 1) l (λ k h. n (suc k) (omega arith))))))

@@ -1,0 +1,19 @@
+-- `is_kept` meets its contract: few words are no state, and of enough the first says.
+use mathlib.Core.Path.{refl}
+use borrow.Author.Tests.{le-leb, lt-leb}
+use lib.ListN.{length}
+use borrow.Author.Needs.{needs}
+use Rattle.words.proofs.is_kept.Statement.{statement}
+use Rattle.words.proofs.is_kept.Tie as tie
+
+returns : tie.Need-returns
+returns c = rw (lt-leb 92 (length (c .before .args .words .now)) (c .if1 .taken)) refl
+
+shared-slice-read-result : tie.Need-shared-slice-read-result
+shared-slice-read-result c = search needs
+
+returns-2 : tie.Need-returns-2
+returns-2 c = rw (le-leb 92 (length (c .before .before .args .words .now)) (c .before .if1 .left)) refl
+
+pub is-kept-spec : {M : Type 1} → statement M
+is-kept-spec = tie.close (tie.spec returns shared-slice-read-result returns-2)

@@ -1,0 +1,240 @@
+//! Both forms of the counters side by side: each call of a script on the words, and
+//! by its number on words without the counters and a struct of them.
+
+use script::{
+    case::{lent, lent_mut},
+    model::{Answer, Asked, Call, Entry, Told},
+};
+
+use crate::{
+    ffi::{self, Lent},
+    lot::Lot,
+    play::{watched, Caller},
+};
+
+/// The counters as a kernel may keep them.
+#[repr(C)]
+#[derive(Clone, Copy, Debug, Default, PartialEq)]
+pub struct Counters {
+    pub kernel_used: usize,
+    pub page_data: usize,
+    pub idle: usize,
+    pub total: usize,
+    pub allocated: usize,
+    pub freed: usize,
+    pub reclaimed: usize,
+    pub waiting: usize,
+    pub pager_outstanding: usize,
+}
+
+extern "C" {
+    /// A slice is passed as its address and its length.
+    fn jilakkor_call(
+        counters: *mut Counters,
+        words: *mut u64,
+        words_len: usize,
+        records: *mut u8,
+        records_len: usize,
+        memory: *mut u8,
+        memory_len: usize,
+        queue: *mut u64,
+        queue_len: usize,
+        answer: *mut u64,
+        answer_len: usize,
+        op: u64,
+        numbers: *const u64,
+        numbers_len: usize,
+    ) -> u32;
+}
+
+/// Words without the counters, and with them.
+const KEPT: usize = 92;
+const WORDS: usize = 101;
+
+const UNLENT: u64 = 0x5eed;
+
+/// The second of the two, with a lot of its own.
+#[derive(Default)]
+pub struct Both {
+    counted: Option<(Counters, Lot)>,
+    calls: u64,
+}
+
+impl Caller for Both {
+    /// Only the words' form boots; the other starts from what it left.
+    fn boot(&mut self, map: &[Entry], lot: &mut Lot) -> Result<Answer, String> {
+        let entry = |it: &Entry| ffi::Entry { start: it.start, length: it.length, kind: it.kind };
+        let map: Vec<ffi::Entry> = map.iter().map(entry).collect();
+        let answer = watched(lot, |lot| {
+            let returned = ffi::boot(&map, lot.lent());
+            Ok(answer(returned, lot))
+        })?;
+        if answer.is_ok() {
+            let mut other = lot.clone();
+            let counters = taken(lent_mut(&mut other.words));
+            self.counted = Some((counters, other));
+        }
+        Ok(answer)
+    }
+
+    fn call(&mut self, call: &Call, lot: &mut Lot) -> Result<Answer, String> {
+        let (counters, other) = self.counted.as_mut().ok_or("no boot")?;
+        let Some((op, numbers)) = numbers(call) else {
+            let answer = watched(lot, stats);
+            other.answer.clone_from(&lot.answer);
+            return answer;
+        };
+        self.calls += 1;
+        let first = watched(lot, |lot| {
+            let returned = on_words(op, numbers, lot.lent());
+            Ok(answer(returned, lot))
+        })?;
+        // Numbers that are missing count as 0.
+        let given = numbers.iter().rposition(|&number| number != 0).map_or(0, |last| last + 1);
+        let given = if self.calls % 2 == 0 { given } else { numbers.len() };
+        let returned = by_number(op, &numbers[..given], counters, other);
+        if returned != first.as_ref().err().map_or(0, |&number| number.into()) {
+            return Err(format!("by its number, op {op} is refused {returned}"));
+        }
+        same(lot, counters, other).map(|()| first)
+    }
+}
+
+/// Takes the counters out of the words; the other form is not lent their place.
+fn taken(words: &mut [u64]) -> Counters {
+    let counters = counters_in(words);
+    words[KEPT..WORDS].fill(UNLENT);
+    counters
+}
+
+fn counters_in(words: &[u64]) -> Counters {
+    let counter = |place: usize| words[KEPT + place] as usize;
+    Counters {
+        kernel_used: counter(0),
+        page_data: counter(1),
+        idle: counter(2),
+        total: counter(3),
+        allocated: counter(4),
+        freed: counter(5),
+        reclaimed: counter(6),
+        waiting: counter(7),
+        pager_outstanding: counter(8),
+    }
+}
+
+/// Whether both are left with the same state, loans and answer.
+fn same(lot: &Lot, counters: &Counters, other: &Lot) -> Result<(), String> {
+    let (words, kept) = (lent(&lot.words), lent(&other.words));
+    let state = counters_in(words);
+    if state != *counters {
+        return Err(format!("the counters differ: {state:?} and {counters:?}"));
+    }
+    if kept[KEPT..WORDS] != [UNLENT; WORDS - KEPT] {
+        return Err("words behind those lent were written".into());
+    }
+    if words[..KEPT] != kept[..KEPT] || words[WORDS..] != kept[WORDS..] {
+        return Err("the two forms differ in words".into());
+    }
+    match lot.difference(other) {
+        Some(what) if what != "words" => Err(format!("the two forms differ in {what}")),
+        _ => Ok(()),
+    }
+}
+
+fn answer(returned: u32, lot: &Lot) -> Answer {
+    let [address, bytes] = lot.answered();
+    match returned {
+        0 => Ok(Told::Numbers(address, bytes)),
+        number => Err(number as u8),
+    }
+}
+
+/// The statistics, which have no number.
+fn stats(lot: &mut Lot) -> Result<Answer, String> {
+    let mut text = [b'*'; 400];
+    let returned = ffi::stats(lot.lent(), &mut text);
+    let length = lot.answered()[1] as usize;
+    match returned {
+        0 if text[length..].iter().any(|&byte| byte != b'*') => {
+            Err("the text was written behind its end".into())
+        }
+        0 => Ok(Ok(Told::Text(String::from_utf8_lossy(&text[..length]).into()))),
+        number => Ok(Err(number as u8)),
+    }
+}
+
+/// Lent words without the counters and the counters.
+fn by_number(op: u64, numbers: &[u64], counters: &mut Counters, lot: &mut Lot) -> u32 {
+    let Lent { words, records, memory, queue, answer } = lot.lent();
+    let words = &mut words[..KEPT];
+    // Safety: the counters and all slices are lent for the call.
+    unsafe {
+        jilakkor_call(
+            counters,
+            words.as_mut_ptr(),
+            words.len(),
+            records.as_mut_ptr(),
+            records.len(),
+            memory.as_mut_ptr(),
+            memory.len(),
+            queue.as_mut_ptr(),
+            queue.len(),
+            answer.as_mut_ptr(),
+            answer.len(),
+            op,
+            numbers.as_ptr(),
+            numbers.len(),
+        )
+    }
+}
+
+/// The number of a call, and its numbers.
+fn numbers(call: &Call) -> Option<(u64, [u64; 5])> {
+    let asked = |it: &Asked| {
+        let flags = u64::from(it.zeroed) + 2 * u64::from(it.kernel) + 4 * u64::from(it.wait_ok);
+        [it.size, it.align, flags, 0, 0]
+    };
+    let one = |number: u64| [number, 0, 0, 0, 0];
+    Some(match *call {
+        Call::Alloc(ref it) => (0, asked(it)),
+        Call::Take(ref it) => (1, asked(it)),
+        Call::Split(address) => (2, one(address)),
+        Call::Free(address) => (3, one(address)),
+        Call::Zero(address) => (4, one(address)),
+        Call::Dirty(address) => (5, one(address)),
+        Call::Find(address) => (6, one(address)),
+        Call::Queue(address) => (7, one(address)),
+        Call::Fill(range, byte) => (8, [range.address, range.offset, range.length, byte.into(), 0]),
+        Call::Copy { target: to, source: from } => {
+            (9, [to.address, to.offset, from.address, from.offset, to.length])
+        }
+        Call::Pcopy { target, source } => {
+            (10, [target.address, target.offset, source, target.length, 0])
+        }
+        Call::Round => (11, one(0)),
+        Call::Lend(pages) => (12, one(pages)),
+        Call::Back(pages) => (13, one(pages)),
+        Call::Low => (14, one(0)),
+        Call::Stats => return None,
+    })
+}
+
+fn on_words(op: u64, n: [u64; 5], lent: Lent) -> u32 {
+    match op {
+        0 => ffi::alloc(lent, n[0], n[1], n[2]),
+        1 => ffi::take(lent, n[0], n[1], n[2]),
+        2 => ffi::split(lent, n[0]),
+        3 => ffi::free(lent, n[0]),
+        4 => ffi::zero(lent, n[0]),
+        5 => ffi::dirty(lent, n[0]),
+        6 => ffi::find(lent, n[0]),
+        7 => ffi::queue(lent, n[0]),
+        8 => ffi::fill(lent, n[0], n[1], n[2], n[3]),
+        9 => ffi::copy(lent, n[0], n[1], n[2], n[3], n[4]),
+        10 => ffi::pcopy(lent, n[0], n[1], n[2], n[3]),
+        11 => ffi::round(lent),
+        12 => ffi::lend(lent, n[0]),
+        13 => ffi::back(lent, n[0]),
+        _ => ffi::low(lent),
+    }
+}
