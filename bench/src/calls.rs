@@ -17,9 +17,9 @@ pub const FIRST: u64 = 1 << 30;
 
 /// Calls of a driver in one turn of the clock. It boots first, which is as much as
 /// a call or two.
-const TIMES: usize = 2000;
+pub const TIMES: usize = 2000;
 
-const TURNS: usize = 200;
+pub const TURNS: usize = 200;
 
 pub fn run() {
     grants();
@@ -50,7 +50,7 @@ pub fn loans(managed: usize) -> Loans {
 }
 
 /// Calls a driver so often, and all must be accepted.
-fn drive(driver: Calls, loans: &mut Loans, number: u64, times: usize) {
+pub fn drive(driver: Calls, loans: &mut Loans, number: u64, times: usize) {
     assert_eq!(black_box(driver)(loans, number, times), times, "a call was refused");
 }
 

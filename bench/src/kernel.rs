@@ -7,7 +7,7 @@ use std::{alloc::Layout, hint::black_box};
 use jilakkor::{FrameAllocFlags, FrameStore, MemoryRegion, MemoryRegionKind, PhysAddr};
 
 use crate::{
-    calls::{by_turns, region, PAGE},
+    calls::{by_turns, drive, loans, region, row, FIRST, PAGE, TIMES, TURNS},
     clock::best,
     original, rattle,
 };
@@ -35,17 +35,24 @@ pub fn run(managed: usize) {
     let theirs = original::Calls::boot(start, length);
     let pairs = by_turns(times, ours, theirs.as_ref().map(|it| || it.grants_and_frees(times)));
     let name = format!("{managed} pages: a grant and its free");
-    crate::calls::row(&name, pairs);
+    row(&name, pairs);
     if managed == 16 {
-        words_alone();
+        lent_words(&mut store);
     }
 }
 
-/// A call on a state whose first row is torn: the audit reads no more than that.
-fn words_alone() {
-    let mut words = [0; jilakkor::WORDS];
-    (words[0], words[1], words[2]) = (jilakkor::VERSION, 1, 2);
-    let mut torn = || assert_eq!(black_box(rattle::low)(black_box(&mut words)), 6);
-    let [time] = best(400, 2000, [&mut torn]);
-    println!("{:<39}{time:>12.1}", "the words taken apart and put back");
+/// A find through the library and the same find with the state by value: what lies
+/// between is the state taken out of the words and put back.
+fn lent_words(store: &mut FrameStore) {
+    let mut lent = || {
+        for _ in 0..TIMES {
+            black_box(store.get_frame(black_box(PhysAddr::new(FIRST))).unwrap());
+        }
+    };
+    let mut loans = loans(16);
+    let mut by_value = || drive(rattle::finds, &mut loans, FIRST, TIMES);
+    let [lent, by_value] =
+        best(TURNS, 1, [&mut lent, &mut by_value]).map(|time| time / TIMES as f64);
+    println!("\n{:<39}{:>12}{:>12}{:>8}", "16 pages, ns a call", "lent", "by value", "words");
+    println!("{:<39}{lent:>12.1}{by_value:>12.1}{:>8.1}", "a find", lent - by_value);
 }

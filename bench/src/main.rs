@@ -27,6 +27,7 @@ fn main() {
         Some("script") => return script::run(),
         Some("kernel") => {
             let pages = std::env::args().nth(2).and_then(|pages| pages.parse().ok());
+            original::set_up();
             return kernel::run(pages.unwrap_or(16));
         }
         _ => (),

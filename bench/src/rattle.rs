@@ -15,18 +15,6 @@ extern "C" {
         memory_len: usize,
         queue_len: usize,
     ) -> u32;
-    fn jilakkor_low(
-        words: *mut u64,
-        words_len: usize,
-        records: *mut u8,
-        records_len: usize,
-        memory: *mut u8,
-        memory_len: usize,
-        queue: *mut u64,
-        queue_len: usize,
-        answer: *mut u64,
-        answer_len: usize,
-    ) -> u32;
     fn jilakkor_run(
         script: *const u8,
         script_len: usize,
@@ -127,26 +115,6 @@ pub fn audit(words: &[u64], records: &[u8], memory_len: usize, queue_len: usize)
     let (count, length) = (words.len(), records.len());
     unsafe {
         jilakkor_audit(words.as_ptr(), count, records.as_ptr(), length, memory_len, queue_len)
-    }
-}
-
-/// Whether memory is low, by the refusal's number, where nothing but words is lent.
-pub fn low(words: &mut [u64]) -> u32 {
-    let (mut bytes, mut queue, mut answer) = ([0u8; 0], [0u64; 0], [0; 2]);
-    let bytes = bytes.as_mut_ptr();
-    unsafe {
-        jilakkor_low(
-            words.as_mut_ptr(),
-            words.len(),
-            bytes,
-            0,
-            bytes,
-            0,
-            queue.as_mut_ptr(),
-            0,
-            answer.as_mut_ptr(),
-            answer.len(),
-        )
     }
 }
 
