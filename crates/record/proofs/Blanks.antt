@@ -2,9 +2,9 @@
 use Prim.Native.Nat.{ℕ, _+_, _-_, _*_, _≤_, _<_}
 use mathlib.Core.Bool.{Bool, true, false, _&&_}
 use mathlib.Core.List.{List}
-use mathlib.Core.Path.{_≡_, refl}
+use mathlib.Core.Path.{_≡_, refl, _∙_}
 use native.Mathlib.Omega.{arith}
-use borrow.Author.Tests.{eq-eqb, ne-eqb, eqb-true}
+use borrow.Author.Tests.{eq-eqb, ne-eqb, eqb-true, eqb-false}
 use lib.Dec.{eqb}
 use lib.ListN.{getD}
 use Rattle.definition.specs.declared.Record.{Record}
@@ -51,6 +51,19 @@ module _ (bs : List ℕ) where
       go : (t : Bool) → false ≡ t && false
       go true = refl
       go false = refl
+
+  -- the largest of the bytes passed is 0 where all of them are
+  pub zeros-larger : (at i m : ℕ) → m < getD bs (at + i) 0 → eqb (getD bs (at + i) 0) 0 ≡ zeros bs at (i + 1)
+  zeros-larger at i m h = ne-eqb (getD bs (at + i) 0) 0 (λ e. omega (arith, e, h)) ∙ zeros-taken at i (λ e. omega (arith, e, h))
+
+  pub zeros-largest : (at i m : ℕ) → eqb m 0 ≡ zeros bs at i → (m < getD bs (at + i) 0 → ⊥) → eqb m 0 ≡ zeros bs at (i + 1)
+  zeros-largest at i m e h = go (eqb (getD bs (at + i) 0) 0) refl
+    where
+      go : (t : Bool) → eqb (getD bs (at + i) 0) 0 ≡ t → eqb m 0 ≡ zeros bs at (i + 1)
+      go true z = zeros-left at i (eqb m 0) e (eqb-true (getD bs (at + i) 0) 0 z)
+      go false z =
+          let nonzero = eqb-false (getD bs (at + i) 0) 0 z in
+          ne-eqb m 0 (λ o. h (omega (arith, o, nonzero))) ∙ zeros-taken at i nonzero
 
   word : (q w : ℕ) → ((i : ℕ) → q * 16 ≤ i → i < q * 16 + 16 → getD bs i 0 ≡ 0) → q * 4 ≤ w → w < q * 4 + 4 → eqb (wordAt bs w) 0 ≡ true
   unfolding wordAt

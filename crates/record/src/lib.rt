@@ -150,22 +150,24 @@ pub fn clear(records: &mut [u8], first: usize, count: usize)
     }
 }
 
-// Whether the records of `count` pages, from `first` on, are four zeros each. No early exit: LLVM turns the loop into vector code.
+// Whether the records of `count` pages, from `first` on, are four zeros each: whether the largest of their bytes is 0. No early exit, and the largest rather than a
+// flag: LLVM then makes it one vector instruction for each 16 bytes.
 pub fn is_clear(records: &[u8], first: usize, count: usize) -> bool
     requires { ⌜ first + count ≤ pagesIn (now records) ⌝ }
     ensures { λ r. ⌜ r ≡ all (λ q. isBlank (recordAt (now (records .entry)) q)) (range first count) ⌝ }
 {
     let start = first * 16;
     let bytes = count * 16;
-    let mut blank = true;
+    let mut largest: u8 = 0;
     let mut i: usize = 0;
     while i < bytes {
-        if records[start + i] != 0 {
-            blank = false;
+        let byte = records[start + i];
+        if largest < byte {
+            largest = byte;
         }
         i += 1;
     }
-    blank
+    largest == 0
 }
 
 // The marks, taken apart and put together in this one place: 1 ADMITTED, 2 ALLOCATED, 4 ZEROED, 8 KERNEL.

@@ -1,18 +1,19 @@
--- `record::is_clear` meets its contract. The loop's invariant: the flag says whether the bytes passed are zeros.
+-- `record::is_clear` meets its contract. The loop's invariant: the largest byte passed is 0 just where all of them are.
 use Prim.Native.Nat.{_-_, _*_, _≤_}
 use mathlib.Core.Logic.{⊎-elim}
 use mathlib.Core.Path.{_≡_, _∙_}
+use lib.Dec.{eqb}
 use native.Mathlib.Omega.{arith}
 use borrow.Author.Needs.{needs}
-use Rattle.record.proofs.Blanks.{zeros, zeros-none, zeros-left, zeros-taken, zeros-blank}
+use Rattle.record.proofs.Blanks.{zeros, zeros-none, zeros-larger, zeros-largest, zeros-blank}
 use Rattle.record.proofs.is_clear.Statement.{statement}
 use Rattle.record.proofs.is_clear.Tie as tie
 
 abbrev Inv-loop : tie.InvT-loop
-Inv-loop records first count start bytes blank₀ i₀ blank i = (i ≤ bytes) × (blank ≡ zeros records start i)
+Inv-loop records first count start bytes largest₀ i₀ largest i = (i ≤ bytes) × (eqb largest 0 ≡ zeros records start i)
 
 abbrev μ-loop : tie.MeasureT-loop
-μ-loop records first count start bytes blank₀ i₀ blank i = bytes - i
+μ-loop records first count start bytes largest₀ i₀ largest i = bytes - i
 
 mul-start : tie.Need-mul-start Inv-loop μ-loop
 mul-start c = search needs
@@ -23,11 +24,11 @@ mul-bytes c = search needs
 loop-holds : tie.Need-loop-holds Inv-loop μ-loop
 loop-holds c = (search needs, zeros-none (c .args .records .now) _)
 
-add-if1 : tie.Need-add-if1 Inv-loop μ-loop
-add-if1 c = search needs
+add-byte : tie.Need-add-byte Inv-loop μ-loop
+add-byte c = search needs
 
-shared-slice-read-if1 : tie.Need-shared-slice-read-if1 Inv-loop μ-loop
-shared-slice-read-if1 c = search needs
+shared-slice-read-byte : tie.Need-shared-slice-read-byte Inv-loop μ-loop
+shared-slice-read-byte c = search needs
 
 add-i : tie.Need-add-i Inv-loop μ-loop
 add-i c = search needs
@@ -41,8 +42,8 @@ loop-again c =
     let k = c .before .before .before .loop in (
       search needs,
       ⊎-elim
-          (λ w. w .1 ∙ zeros-taken s _ (k .i) (w .0 .taken))
-          (λ w. w .1 ∙ zeros-left s _ (k .i) (k .blank) (k .inv .1) (w .0 .left))
+          (λ w. rw (w .1) (zeros-larger s _ (k .i) (k .largest) (w .0 .taken)))
+          (λ w. rw (w .1) (zeros-largest s _ (k .i) (k .largest) (k .inv .1) (λ l. omega (arith, l, w .0 .left))))
           (c .if1 .came),
     )
 
@@ -62,8 +63,8 @@ is-clear-spec =
     mul-start
     mul-bytes
     loop-holds
-    add-if1
-    shared-slice-read-if1
+    add-byte
+    shared-slice-read-byte
     add-i
     loop-less
     loop-again
