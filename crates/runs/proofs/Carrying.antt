@@ -59,7 +59,7 @@ use Rattle.service.specs.Serving.{
   worldIn,
   written,
 }
-use Rattle.service.proofs.Serving.{lent-long, lent-room}
+use Rattle.service.proofs.Serving.{lent-kept, lent-long, lent-room}
 use Rattle.runs.specs.Runs.{Carries}
 use Rattle.runs.proofs.Narrow.{sound-narrow}
 
@@ -131,7 +131,7 @@ pub served-world : (c : Call) (l : Lent) → isLent l ≡ true → sound standar
 unfolding served
 served-world c l e s =
     let x = call standard (worldIn l) c in
-    rw e (carried l x (lent-long l e) (lent-room l e) (sound-narrow (x .world) s))
+    rw e (carried l x (lent-long l e) (lent-room l (lent-kept l e)) (sound-narrow (x .world) s))
 
 -- the number that it returns
 pub served-number : (c : Call) (l : Lent) → isLent l ≡ true → served c l .number ≡ told (call standard (worldIn l) c .answer) .number

@@ -4,9 +4,8 @@ use Prim.Native.Nat.{ℕ, _<_}
 use mathlib.Core.Bool.{Bool, true, false}
 use mathlib.Core.List.{List}
 use mathlib.Core.Path.{_≡_, refl, ap, _∙_}
-use borrow.Author.Tests.{eqb-true, ne-eqb}
-use lib.Dec.{eqb, leb}
-use lib.ListN.{length, getD}
+use borrow.Author.Tests.{ne-eqb}
+use lib.ListN.{getD}
 use Rattle.definition.specs.declared.Counters.{Counters}
 use Rattle.definition.specs.declared.Refusal.{Refusal}
 use Rattle.definition.specs.Board.{standard}
@@ -14,10 +13,8 @@ use Rattle.definition.specs.Calls.{Answer as AnswerOf, Call, Refused, Done, Tex
 use Rattle.definition.specs.Store.{Store}
 use Rattle.definition.specs.World.{World, decode, encode}
 use Rattle.definition.specs.Torn.{Left, call, sound, written as writtenWorld}
-use Rattle.definition.proofs.Tests.{and-left, and-right}
 use Rattle.bookkeeping.proofs.Answers.{answered}
-use Rattle.words.specs.Words.{wordIn, isKept}
-use Rattle.words.proofs.Words.{kept-again, counters-again}
+use Rattle.words.proofs.Words.{counters-again}
 use Rattle.audit.proofs.Sheets.{sound-is}
 use Rattle.world.proofs.Calling.{torn-call}
 use Rattle.world.proofs.RoundTrip.{round-trip}
@@ -34,13 +31,12 @@ use Rattle.service.specs.Serving.{
   tells,
   isLent,
   isLentKept,
-  hasRoom,
   worldIn,
   worldWith,
   stateOver,
   keptOver,
 }
-use Rattle.service.proofs.Serving.{kept-long, lent-long, serves-torn, serves-with-torn}
+use Rattle.service.proofs.Serving.{kept-same, lent-kept, lent-long, serves-torn, serves-with-torn}
 
 -- ---- the world
 
@@ -69,11 +65,6 @@ module _ (w : World) (c : Call) where
 
 -- ---- the words and the answer
 
-kept-same : (k : Counters) (l : Lent) → isKept (l .words) ≡ true → keptOver (worldWith k l) (l .words) ≡ l .words
-kept-same k l e =
-    let ws = l .words in
-    kept-again ws (kept-long ws e) (eqb-true (wordIn ws 0) 1 (and-right (leb 92 (length ws)) (eqb (wordIn ws 0) 1) e))
-
 tells-none : (y : Answer) (ys : List ℕ) → (y .number ≡ 0 → ⊥) → tells y ys ≡ ys
 unfolding tells
 tells-none y ys d = rw (ne-eqb (y .number) 0 d) refl
@@ -98,12 +89,11 @@ module _ (c : Call) (l : Lent) (small : (i : ℕ) → getD (l .records) i 0 < 25
       go true e =
           let m = serves-made c l e in
           let n : told (call standard (worldIn l) c .answer) .number ≡ 0 → ⊥ = rw m at d in
-          let k : isKept (l .words) ≡ true = and-left (isKept (l .words)) (hasRoom l) (and-right (leb 101 (length (l .words))) _ e) in
           ap (λ (x : Served). x .lent) m
           ∙ rw (
             call-untouched (worldIn l) c small n,
             tells-none (told (call standard (worldIn l) c .answer)) (l .answer) n,
-            kept-same (worldIn l .counters) l k,
+            kept-same l (lent-kept l e) (worldIn l .counters),
             counters-again (l .words) (lent-long l e),
           ) refl
 
@@ -120,5 +110,5 @@ module _ (c : Call) (l : Lent) (small : (i : ℕ) → getD (l .records) i 0 < 25
             m,
             call-untouched (worldWith k l) c small n,
             tells-none (told (call standard (worldWith k l) c .answer)) (l .answer) n,
-            kept-same k l (and-left (isKept (l .words)) (hasRoom l) e),
+            kept-same l e k,
           ) (refl, refl)

@@ -1,11 +1,11 @@
 -- What it says of the loans that they are a state's, and what a call over them leaves and answers, by what it leaves of the world and answers there.
 use Prim.Native.Nat.{ℕ, _≤_, _<_}
-use mathlib.Core.Bool.{Bool, true, false, cond}
+use mathlib.Core.Bool.{Bool, true, false, cond, and-false}
 use mathlib.Core.List.{List, [], _∷_}
 use mathlib.Core.Option.{Option, none, some}
 use mathlib.Core.Path.{_≡_, refl, sym, ap, _∙_}
 use native.Mathlib.Omega.{arith}
-use borrow.Author.Tests.{leb-true, le-leb, lt-leb, eq-eqb, ne-eqb}
+use borrow.Author.Tests.{leb-true, le-leb, lt-leb, eq-eqb, ne-eqb, eqb-true}
 use lib.Dec.{eqb, leb}
 use lib.ListN.{length, take, length-take}
 use Rattle.definition.specs.declared.Counters.{Counters}
@@ -20,7 +20,8 @@ use Rattle.definition.specs.World.{World, decode}
 use Rattle.definition.specs.Torn.{bootCall, booted as bootedWorld, call, sound, untouched, unlessRefused as unlessBootRefused, written as writtenWorld}
 use Rattle.definition.proofs.Tests.{and-left, and-right}
 use Rattle.record.specs.Records.{withBytes}
-use Rattle.words.specs.Words.{wordIn, isKept, rowsIn, queuedIn, passIn, countersIn}
+use Rattle.words.specs.Words.{wordIn, isKept, rowsIn, queuedIn, passIn, countersIn, counterWords}
+use Rattle.words.proofs.Words.{kept-again, counters-again}
 use Rattle.world.specs.Refusals.{numberIf}
 use Rattle.exam.specs.declared.Answer.{Answer}
 use Rattle.exam.specs.declared.State.{State}
@@ -32,18 +33,29 @@ use Rattle.counts.specs.declared.Report.{Report}
 use Rattle.counts.specs.Counting.{Reports as ReportsOf, textOf}
 use Rattle.service.specs.Serving.{
   Lent,
+  Served,
+  Counted,
   Serves,
   ServesWith,
   Reports,
+  ReportsBy,
+  ReportsWith,
   Places,
+  PlacesBy,
+  PlacesWith,
   served,
   servedWith,
   booted,
+  bootedWith,
   refusedAs,
+  stays,
+  countedBy,
+  written,
   tells,
   isLent,
   isLentKept,
   isRoomy,
+  isRoomyKept,
   hasRoom,
   shortNumber,
   worldIn,
@@ -57,12 +69,25 @@ use Rattle.service.specs.Serving.{
 pub kept-long : (ws : List ℕ) → isKept ws ≡ true → 92 ≤ length ws
 kept-long ws e = leb-true 92 (length ws) (and-left (leb 92 (length ws)) (eqb (wordIn ws 0) 1) e)
 
+module _ (l : Lent) (e : isLentKept l ≡ true) where
+  pub lent-words : 92 ≤ length (l .words)
+  lent-words = kept-long (l .words) (and-left (isKept (l .words)) (hasRoom l) e)
+
+  pub lent-room : 2 ≤ length (l .answer)
+  lent-room = leb-true 2 (length (l .answer)) (and-right (isKept (l .words)) (hasRoom l) e)
+
+  -- what is read out of the words and written over them again is the words
+  pub kept-same : (k : Counters) → keptOver (worldWith k l) (l .words) ≡ l .words
+  kept-same k =
+      let ws = l .words in
+      kept-again ws lent-words (eqb-true (wordIn ws 0) 1 (and-right (leb 92 (length ws)) (eqb (wordIn ws 0) 1) (and-left (isKept ws) (hasRoom l) e)))
+
 module _ (l : Lent) (e : isLent l ≡ true) where
   pub lent-long : 101 ≤ length (l .words)
   lent-long = leb-true 101 (length (l .words)) (and-left _ _ e)
 
-  pub lent-room : 2 ≤ length (l .answer)
-  lent-room = leb-true 2 (length (l .answer)) (and-right (isKept (l .words)) (hasRoom l) (and-right (leb 101 (length (l .words))) _ e))
+  pub lent-kept : isLentKept l ≡ true
+  lent-kept = and-right (leb 101 (length (l .words))) (isLentKept l) e
 
 -- ---- a call that is refused for its loans
 
@@ -80,25 +105,54 @@ module _ (c : Call) (l : Lent) where
 abbrev pub stateWith : Counters → List ℕ → State
 stateWith k ws = record { rows = rowsIn ws; counters = k; queued = queuedIn ws; pass = passIn ws }
 
-abbrev pub stateIn : List ℕ → State
-stateIn ws = stateWith (countersIn ws) ws
-
-module _ {c : Call} (l : Lent) {given left : State} {records memory queue : List ℕ} {y : Answer}
+module _ {c : Call} (l : Lent) (k : Counters) {given left : State} {records memory queue : List ℕ} {y : Answer}
     (L : Leaves (worldOf given (l .records) (l .memory) (l .queue)) c (worldOf left records memory queue) y)
-    {words answer : List ℕ} {r : ℕ} (told-answer : answer ≡ tells y (l .answer)) (told-number : r ≡ y .number) where
-  pub serves : isLent l ≡ true → given ≡ stateIn (l .words) → words ≡ stateOver (worldOf left [] [] []) (l .words)
-      → Serves c l (record { words = words; records = records; memory = memory; queue = queue; answer = answer }) r
-  unfolding served
-  serves e g p =
-      let K : Leaves (worldIn l) c (worldOf left records memory queue) y = rw g at L in
-      rw (e, K .world, K .answer, p, told-answer, told-number) refl
-
-  pub serves-with : (k : Counters) → isLentKept l ≡ true → given ≡ stateWith k (l .words) → words ≡ keptOver (worldOf left [] [] []) (l .words)
+    {answer : List ℕ} {r : ℕ} (told-answer : answer ≡ tells y (l .answer)) (told-number : r ≡ y .number)
+    (e : isLentKept l ≡ true) (g : given ≡ stateWith k (l .words)) where
+  pub serves-with : {words : List ℕ} → words ≡ keptOver (worldOf left [] [] []) (l .words)
       → ServesWith c k l (left .counters) (record { words = words; records = records; memory = memory; queue = queue; answer = answer }) r
   unfolding servedWith
-  serves-with k e g p =
+  serves-with p =
       let K : Leaves (worldWith k l) c (worldOf left records memory queue) y = rw g at L in
       rw (e, K .world, K .answer, p, told-answer, told-number) refl
+
+  -- where the state stays, the words do
+  pub serves-kept : left ≡ given
+      → ServesWith c k l k (record { words = l .words; records = records; memory = memory; queue = queue; answer = answer }) r
+  serves-kept s =
+      let f : left ≡ stateWith k (l .words) = s ∙ g in
+      rw (ap (λ (x : State). x .counters) f) at (serves-with {words = l .words} (rw f (sym (kept-same l e k))))
+
+-- ---- the words with the counters: these are read out of the words and written over them
+
+abbrev pub wordsFrom : Counted → Served
+wordsFrom x =
+    record {
+      lent =
+          record {
+            words = withBytes (x .served .lent .words) 92 (counterWords (x .counters));
+            records = x .served .lent .records;
+            memory = x .served .lent .memory;
+            queue = x .served .lent .queue;
+            answer = x .served .lent .answer;
+          };
+      number = x .served .number;
+    }
+
+-- the loans with the words of before
+abbrev besides : Lent → (records memory queue answer : List ℕ) → Lent
+besides l records memory queue answer = record { words = l .words; records = records; memory = memory; queue = queue; answer = answer }
+
+module _ (c : Call) (l : Lent) (e : isLent l ≡ true) where
+  pub in-words : served c l ≡ wordsFrom (servedWith c (countersIn (l .words)) l)
+  unfolding served servedWith
+  in-words = rw (e, lent-kept l e) refl
+
+  -- where neither the words nor the counters change
+  pub kept-in-words : {records memory queue answer : List ℕ} {r : ℕ}
+      → ServesWith c (countersIn (l .words)) l (countersIn (l .words)) (besides l records memory queue answer) r
+      → Serves c l (besides l records memory queue answer) r
+  kept-in-words S = in-words ∙ ap wordsFrom S ∙ rw (counters-again (l .words) (lent-long l e)) refl
 
 -- ---- a read
 
@@ -115,10 +169,10 @@ word-told true at len ys = refl
 word-told false at len ys = refl
 
 module _ (a off len : ℕ) (l : Lent) where
-  pub places-torn : isLent l ≡ false → Places a off len l l 6
-  places-torn e =
+  pub places-refused : (w : World) {n : ℕ} → n ≡ 6 → PlacesBy w n a off len l l 6
+  places-refused w e =
       record {
-        number = sym (ap (λ x. x .number) (serves-torn (Read a off len) l e));
+        number = sym e;
         words = refl;
         records = refl;
         memory = refl;
@@ -127,15 +181,15 @@ module _ (a off len : ℕ) (l : Lent) where
         bytes = λ z. absurd (omega arith);
       }
 
-  module _ {given : State} {p : Place} (F : Finds (worldOf given (l .records) (l .memory) (l .queue)) (Read a off len) len p)
-      (e : isLent l ≡ true) (g : given ≡ stateIn (l .words))
+  module _ (k : Counters) {given : State} {p : Place} (F : Finds (worldOf given (l .records) (l .memory) (l .queue)) (Read a off len) len p)
+      (e : isLentKept l ≡ true) (g : given ≡ stateWith k (l .words))
       {answer : List ℕ} {r : ℕ} (told-answer : answer ≡ tells (record { number = p .number; address = p .at; bytes = len }) (l .answer)) (number : r ≡ p .number) where
-    found : Finds (worldIn l) (Read a off len) len p
+    found : Finds (worldWith k l) (Read a off len) len p
     found = rw g at F
 
-    read-number : r ≡ served (Read a off len) l .number
-    unfolding served
-    read-number = rw e (number ∙ found .numbers .number ∙ answer-number (call standard (worldIn l) (Read a off len) .answer))
+    read-number : r ≡ servedWith (Read a off len) k l .served .number
+    unfolding servedWith
+    read-number = rw e (number ∙ found .numbers .number ∙ answer-number (call standard (worldWith k l) (Read a off len) .answer))
 
     placed : r ≡ 0 → wordIn answer 0 ≡ p .at
     unfolding tells withBytes
@@ -145,7 +199,7 @@ module _ (a off len : ℕ) (l : Lent) where
     unfolding tells
     answered = rw (told-answer, number) (word-told (eqb (p .number) 0) (p .at) len (l .answer))
 
-    pub places : Places a off len l (record { words = l .words; records = l .records; memory = l .memory; queue = l .queue; answer = answer }) r
+    pub places : PlacesWith a off len k l (record { words = l .words; records = l .records; memory = l .memory; queue = l .queue; answer = answer }) r
     places =
         record {
           number = read-number;
@@ -156,6 +210,9 @@ module _ (a off len : ℕ) (l : Lent) where
           answer = answered;
           bytes = λ z. rw (placed z) (found .bytes (sym number ∙ z));
         }
+
+  pub places-in-words : isLent l ≡ true → {l′ : Lent} {r : ℕ} → PlacesWith a off len (countersIn (l .words)) l l′ r → Places a off len l l′ r
+  places-in-words e P = rw (in-words (Read a off len) l e) P
 
 -- ---- the statistics
 
@@ -178,25 +235,43 @@ report-short {w} {p} R =
     let e : told (call standard w Stats .answer) .bytes ≡ p .len = ap (λ (y : Answer). y .bytes) (R .answer) in
     omega (arith, stats-bytes w, simp length-take at (ap length (R .text)))
 
-module _ (l : Lent) (text : List ℕ) where
-  pub reports-short : length text < 368 → Reports l text l text 6
+cond-same : {O : Type 0} (t : Bool) (x : O) → cond t x x ≡ x
+cond-same true x = refl
+cond-same false x = refl
+
+module _ {O : Type 0} (fit : Bool) (w : World) {made refused : O} (text : List ℕ) where
+  pub reports-short : length text < 368 → ReportsBy O fit w made refused refused text text
   reports-short h = let n = lt-leb 368 (length text) h in record { loans = rw n refl; report = rw n refl }
 
-  pub reports-torn : 368 ≤ length text → isLent l ≡ false → Reports l text l text 6
-  reports-torn h e = let n = le-leb 368 (length text) h in record { loans = rw n (serves-torn Stats l e); report = rw (n, e) refl }
+  pub reports-torn : fit ≡ false → made ≡ refused → ReportsBy O fit w made refused refused text text
+  reports-torn e m = record { loans = rw m (cond-same (leb 368 (length text)) refused); report = rw (e, and-false (leb 368 (length text))) refl }
 
-  pub reports : {given : State} {p : Report} → ReportsOf (worldOf given (l .records) (l .memory) (l .queue)) p
-      → {words answer text′ : List ℕ} {r : ℕ} → answer ≡ tells (record { number = p .number; address = 0; bytes = p .len }) (l .answer) → r ≡ p .number
-      → 368 ≤ length text → isLent l ≡ true → given ≡ stateIn (l .words) → words ≡ stateOver (worldOf given [] [] []) (l .words)
+module _ (l : Lent) (text : List ℕ) where
+  pub reports : (k : Counters) {given : State} {p : Report} → ReportsOf (worldOf given (l .records) (l .memory) (l .queue)) p
+      → {answer text′ : List ℕ} {r : ℕ} → answer ≡ tells (record { number = p .number; address = 0; bytes = p .len }) (l .answer) → r ≡ p .number
+      → 368 ≤ length text → isLentKept l ≡ true → given ≡ stateWith k (l .words)
       → text′ ≡ withBytes text 0 (take (p .len) (p .text))
-      → Reports l text (record { words = words; records = l .records; memory = l .memory; queue = l .queue; answer = answer }) text′ r
-  reports {given} {p} R a b h e g s t =
+      → ReportsWith k l text k (record { words = l .words; records = l .records; memory = l .memory; queue = l .queue; answer = answer }) text′ r
+  reports k {given} {p} R a b h e g t =
       let n = le-leb 368 (length text) h in
-      let K : ReportsOf (worldIn l) p = rw g at R in
+      let K : ReportsOf (worldWith k l) p = rw g at R in
       record {
-        loans = rw n (serves l (record { world = R .world; answer = R .answer }) a b e g s);
+        loans = rw n (serves-kept l k (record { world = R .world; answer = R .answer }) a b e g refl);
         report = rw (n, e) (t ∙ ap (withBytes text 0) (K .text));
       }
+
+  pub reports-in-words : {records memory queue answer text′ : List ℕ} {r : ℕ} → isLent l ≡ true
+      → ReportsWith (countersIn (l .words)) l text (countersIn (l .words)) (besides l records memory queue answer) text′ r
+      → Reports l text (besides l records memory queue answer) text′ r
+  reports-in-words {records} {memory} {queue} {answer} {text′} {r} e R =
+      record { loans = go (leb 368 (length text)) (R .loans); report = rw e (rw (lent-kept l e) at (R .report)) }
+    where
+      go : (t : Bool)
+          → cond t (servedWith Stats (countersIn (l .words)) l) (stays (countersIn (l .words)) l 6)
+          ≡ record { counters = countersIn (l .words); served = record { lent = besides l records memory queue answer; number = r } }
+          → cond t (served Stats l) (refusedAs l 6) ≡ record { lent = besides l records memory queue answer; number = r }
+      go true S = kept-in-words Stats l e S
+      go false S = ap (λ (x : Counted). x .served) S
 
 -- ---- a boot
 
@@ -209,28 +284,58 @@ boot-leaves : (ms : List MemoryRegion) (w : World) → (told (bootCall standard 
 unfolding bootCall
 boot-leaves ms w = boot-or ms w (lowest (bootSheet standard ms (length (w .records)) (length (w .memory))))
 
+module _ (l : Lent) (e : isRoomyKept l ≡ true) where
+  pub roomy-words : 92 ≤ length (l .words)
+  roomy-words = leb-true 92 (length (l .words)) (and-left (leb 92 (length (l .words))) (hasRoom l) e)
+
+  pub roomy-room : 2 ≤ length (l .answer)
+  roomy-room = leb-true 2 (length (l .answer)) (and-right (leb 92 (length (l .words))) (hasRoom l) e)
+
 module _ (ms : List MemoryRegion) (l : Lent) where
-  pub boots-short : isRoomy l ≡ false → {r : ℕ} → r ≡ shortNumber (numberIf (lowest (bootSheet standard ms (length (l .records)) (length (l .memory)))))
-      → booted ms l ≡ refusedAs l r
+  abbrev pub shortBoot : ℕ
+  shortBoot = shortNumber (numberIf (lowest (bootSheet standard ms (length (l .records)) (length (l .memory)))))
+
+  pub boots-short : isRoomy l ≡ false → {r : ℕ} → r ≡ shortBoot → booted ms l ≡ refusedAs l r
   unfolding booted
   boots-short e n = rw (e, n) refl
 
-  module _ {given left : State} {records : List ℕ} {y : Answer} (e : isRoomy l ≡ true) (g : given ≡ stateIn (l .words))
+  pub boots-with-short : (k : Counters) → isRoomyKept l ≡ false → {r : ℕ} → r ≡ shortBoot → bootedWith ms k l ≡ stays k l r
+  unfolding bootedWith
+  boots-with-short k e n = rw (e, n) refl
+
+  module _ (k : Counters) {given left : State} {records : List ℕ} {y : Answer} (e : isRoomyKept l ≡ true) (g : given ≡ stateWith k (l .words))
       (B : BootsOf ms (worldOf given (l .records) (l .memory) (l .queue)) (worldOf left records (l .memory) (l .queue)) y) where
-    made : BootsOf ms (worldIn l) (worldOf left records (l .memory) (l .queue)) y
+    made : BootsOf ms (worldWith k l) (worldOf left records (l .memory) (l .queue)) y
     made = rw g at B
 
     same-records : (y .number ≡ 0 → ⊥) → records ≡ l .records
     same-records d =
         sym (ap (λ (w : World). w .records) (made .world))
-        ∙ ap (λ (w : World). w .records) (boot-leaves ms (worldIn l) (λ z. d (sym (ap (λ (x : Answer). x .number) (made .answer)) ∙ z)))
+        ∙ ap (λ (w : World). w .records) (boot-leaves ms (worldWith k l) (λ z. d (sym (ap (λ (x : Answer). x .number) (made .answer)) ∙ z)))
 
     pub boots-refused : (y .number ≡ 0 → ⊥)
-        → booted ms l ≡ refusedAs (record { words = l .words; records = records; memory = l .memory; queue = l .queue; answer = l .answer }) (y .number)
-    unfolding booted
+        → bootedWith ms k l ≡ stays k (record { words = l .words; records = records; memory = l .memory; queue = l .queue; answer = l .answer }) (y .number)
+    unfolding bootedWith
     boots-refused d = rw (e, made .answer, ne-eqb (y .number) 0 d, same-records d) refl
 
-    pub boots : y .number ≡ 0 → {words answer : List ℕ} {r : ℕ} → words ≡ stateOver (worldOf left [] [] []) (l .words) → answer ≡ tells y (l .answer) → r ≡ y .number
-        → booted ms l ≡ refusedAs (record { words = words; records = records; memory = l .memory; queue = l .queue; answer = answer }) r
-    unfolding booted
+    pub boots : y .number ≡ 0 → {words answer : List ℕ} {r : ℕ} → words ≡ keptOver (worldOf left [] [] []) (l .words) → answer ≡ tells y (l .answer) → r ≡ y .number
+        → bootedWith ms k l ≡ record { counters = left .counters; served = refusedAs (record { words = words; records = records; memory = l .memory; queue = l .queue; answer = answer }) r }
+    unfolding bootedWith
     boots z p q n = rw (e, made .answer, eq-eqb (y .number) 0 z, made .world, p, q, n) refl
+
+  -- the words with the counters, whether they have room or not
+  pub boot-in-words : 101 ≤ length (l .words) → booted ms l ≡ wordsFrom (bootedWith ms (countersIn (l .words)) l)
+  unfolding booted bootedWith
+  boot-in-words h =
+      let x = bootCall standard ms (worldIn l) in
+      rw (le-leb 101 (length (l .words)) h, le-leb 92 (length (l .words)) (omega arith)) (roomy (hasRoom l) (eqb (told (x .answer) .number) 0))
+    where
+      stayed : (n : ℕ) → refusedAs l n ≡ wordsFrom (stays (countersIn (l .words)) l n)
+      stayed n = rw (counters-again (l .words) h) refl
+
+      roomy : (t u : Bool) → let x = bootCall standard ms (worldIn l) in let n = told (x .answer) .number in
+          cond t (cond u (written stateOver l x) (refusedAs l n)) (refusedAs l shortBoot)
+          ≡ wordsFrom (cond t (cond u (countedBy l x) (stays (countersIn (l .words)) l n)) (stays (countersIn (l .words)) l shortBoot))
+      roomy true true = refl
+      roomy true false = stayed (told (bootCall standard ms (worldIn l) .answer) .number)
+      roomy false u = stayed shortBoot

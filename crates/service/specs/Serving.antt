@@ -21,7 +21,7 @@ use Rattle.exam.specs.declared.Answer.{Answer}
 use Rattle.exam.specs.Promise.{told}
 use Rattle.counts.specs.Counting.{textOf}
 use Rattle.copies.specs.Copies.{bytesOf}
-use Rattle.words.specs.Words.{wordIn, stateWords, rowsIn, queuedIn, passIn, countersIn, isKept, keptOf, counterWords}
+use Rattle.words.specs.Words.{wordIn, keptWords, stateWords, rowsIn, queuedIn, passIn, countersIn, isKept, keptOf, counterWords}
 
 -- the loans of a call, whole
 pub record Lent : Type 0 where
@@ -109,32 +109,47 @@ isLentKept l = isKept (l .words) && hasRoom l
 abbrev pub countedBy : Lent → Left → Counted
 countedBy l x = record { counters = x .world .counters; served = written keptOver l x }
 
+-- nothing changes
+abbrev pub stays : Counters → Lent → ℕ → Counted
+stays k l n = record { counters = k; served = refusedAs l n }
+
 unfoldable pub servedWith : Call → Counters → Lent → Counted
-servedWith c k l =
-    cond (isLentKept l) (countedBy l (call standard (worldWith k l) c)) (record { counters = k; served = refusedAs l 6 })
+servedWith c k l = cond (isLentKept l) (countedBy l (call standard (worldWith k l) c)) (stays k l 6)
 
 abbrev pub ServesWith : Call → Counters → Lent → Counters → Lent → ℕ → Type 0
 ServesWith c k l k′ l′ r = servedWith c k l ≡ record { counters = k′; served = record { lent = l′; number = r } }
 
--- ---- a call that answers by bytes
+-- ---- a call that answers by bytes: the same in both forms of the counters
 
 -- the statistics stand in front of the text, which has room for 368 bytes; else the call is refused 6
-abbrev pub hasText : Lent → List ℕ → Bool
-hasText l text = leb 368 (length text) && isLent l
+pub record ReportsBy (O : Type 0) (fit : Bool) (w : World) (made refused left : O) (text text′ : List ℕ) : Type 0 where
+  pub loans : cond (leb 368 (length text)) made refused ≡ left
+  pub report : text′ ≡ cond (leb 368 (length text) && fit) (withBytes text 0 (textOf (call standard w Stats .answer))) text
 
-pub record Reports (l : Lent) (text : List ℕ) (l′ : Lent) (text′ : List ℕ) (r : ℕ) : Type 0 where
-  pub loans : cond (leb 368 (length text)) (served Stats l) (refusedAs l 6) ≡ record { lent = l′; number = r }
-  pub report : text′ ≡ cond (hasText l text) (withBytes text 0 (textOf (call standard (worldIn l) Stats .answer))) text
+abbrev pub Reports : Lent → List ℕ → Lent → List ℕ → ℕ → Type 0
+Reports l text l′ text′ r =
+    ReportsBy Served (isLent l) (worldIn l) (served Stats l) (refusedAs l 6) (record { lent = l′; number = r }) text text′
+
+abbrev pub ReportsWith : Counters → Lent → List ℕ → Counters → Lent → List ℕ → ℕ → Type 0
+ReportsWith k l text k′ l′ text′ r =
+    ReportsBy Counted (isLentKept l) (worldWith k l) (servedWith Stats k l) (stays k l 6)
+    (record { counters = k′; served = record { lent = l′; number = r } }) text text′
 
 -- a read tells where the bytes stand in the lent memory, and how many they are
-pub record Places (a off len : ℕ) (l l′ : Lent) (r : ℕ) : Type 0 where
-  pub number : r ≡ served (Read a off len) l .number
+pub record PlacesBy (w : World) (n : ℕ) (a off len : ℕ) (l l′ : Lent) (r : ℕ) : Type 0 where
+  pub number : r ≡ n
   pub words : l′ .words ≡ l .words
   pub records : l′ .records ≡ l .records
   pub memory : l′ .memory ≡ l .memory
   pub queue : l′ .queue ≡ l .queue
   pub answer : l′ .answer ≡ cond (eqb r 0) (withBytes (l .answer) 0 (wordIn (l′ .answer) 0 ∷ len ∷ [])) (l .answer)
-  pub bytes : r ≡ 0 → take len (drop (wordIn (l′ .answer) 0) (l .memory)) ≡ bytesOf (call standard (worldIn l) (Read a off len) .answer)
+  pub bytes : r ≡ 0 → take len (drop (wordIn (l′ .answer) 0) (l .memory)) ≡ bytesOf (call standard w (Read a off len) .answer)
+
+abbrev pub Places : (a off len : ℕ) → Lent → Lent → ℕ → Type 0
+Places a off len l = PlacesBy (worldIn l) (served (Read a off len) l .number) a off len l
+
+abbrev pub PlacesWith : (a off len : ℕ) → Counters → Lent → Lent → ℕ → Type 0
+PlacesWith a off len k l = PlacesBy (worldWith k l) (servedWith (Read a off len) k l .served .number) a off len l
 
 -- ---- a boot
 
@@ -162,3 +177,21 @@ booted ms l =
 abbrev pub Boots : List MemoryRegion → ℕ → Lent → Lent → ℕ → Type 0
 Boots map count l l′ r =
     (ms : List MemoryRegion) → length ms ≡ count → take 8 ms ≡ take count map → booted ms l ≡ record { lent = l′; number = r }
+
+-- ---- a boot whose counters are a record of their own
+
+abbrev pub isRoomyKept : Lent → Bool
+isRoomyKept l = leb keptWords (length (l .words)) && hasRoom l
+
+abbrev pub bootCounted : Counters → Lent → Left → Counted
+bootCounted k l x = cond (eqb (told (x .answer) .number) 0) (countedBy l x) (stays k l (told (x .answer) .number))
+
+unfoldable pub bootedWith : List MemoryRegion → Counters → Lent → Counted
+bootedWith ms k l =
+    cond (isRoomyKept l) (bootCounted k l (bootCall standard ms (worldWith k l)))
+    (stays k l (shortNumber (numberIf (lowest (bootSheet standard ms (length (l .records)) (length (l .memory)))))))
+
+abbrev pub BootsWith : List MemoryRegion → ℕ → Counters → Lent → Counters → Lent → ℕ → Type 0
+BootsWith map count k l k′ l′ r =
+    (ms : List MemoryRegion) → length ms ≡ count → take 8 ms ≡ take count map
+    → bootedWith ms k l ≡ record { counters = k′; served = record { lent = l′; number = r } }

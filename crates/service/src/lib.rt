@@ -12,22 +12,36 @@ ghost use Prim.Native.Nat.{_≤_};
 ghost use lib.ListN.{length, getD};
 ghost use Rattle.definition.specs.Calls.{Write};
 ghost use Rattle.lines.specs.Reading.{callOf};
-ghost use Rattle.words.specs.Words.{rowsIn, queuedIn, passIn, countersIn};
+ghost use Rattle.words.specs.Words.{rowsIn, queuedIn, passIn};
 ghost use Rattle.exam.specs.Promise.{worldOf};
 ghost use Rattle.service.specs.Serving.{
   tells,
   isLent,
-  stateOver,
+  isLentKept,
+  isRoomyKept,
   keptOver,
   Serves,
   ServesWith,
   Reports,
+  ReportsWith,
   Places,
+  PlacesWith,
   ShortBoots,
   Boots,
+  BootsWith,
 };
 
 // ---- the words
+
+// Whether the words are a state's but for its counters, and the answer has room.
+fn is_lent_kept(words: &[u64], answer: &[u64]) -> bool
+    ensures { λ r. ⌜ r ≡ isLentKept (record { words = now (words .entry); records = []; memory = []; queue = []; answer = now (answer .entry) }) ⌝ }
+{
+    if answer.len() < 2 {
+        return false;
+    }
+    words::is_kept(words)
+}
 
 fn is_lent(words: &[u64], answer: &[u64]) -> bool
     ensures { λ r. ⌜ r ≡ isLent (record { words = now (words .entry); records = []; memory = []; queue = []; answer = now (answer .entry) }) ⌝ }
@@ -35,10 +49,7 @@ fn is_lent(words: &[u64], answer: &[u64]) -> bool
     if words.len() < 101 {
         return false;
     }
-    if answer.len() < 2 {
-        return false;
-    }
-    words::is_kept(words)
+    is_lent_kept(words, answer)
 }
 
 fn state_with(words: &[u64], counters: Counters) -> State
@@ -55,13 +66,6 @@ fn state_with(words: &[u64], counters: Counters) -> State
     }
 }
 
-fn state_in(words: &[u64]) -> State
-    requires { ⌜ 101 ≤ length (now words) ⌝ }
-    ensures { λ r. ⌜ r ≡ record { rows = rowsIn (now (words .entry)); counters = countersIn (now (words .entry)); queued = queuedIn (now (words .entry)); pass = passIn (now (words .entry)) } ⌝ }
-{
-    state_with(words, words::counters_in(words))
-}
-
 fn put_kept(words: &mut [u64], state: State)
     requires { ⌜ 92 ≤ length (now words) ⌝ }
     ensures { λ _. ⌜ now (words .exit) ≡ keptOver (worldOf state [] [] []) (now (words .entry)) ⌝ }
@@ -69,15 +73,6 @@ fn put_kept(words: &mut [u64], state: State)
     let rows = state.rows;
     let pass = state.pass;
     words::put_kept(words, rows, state.queued, pass);
-}
-
-fn put_state(words: &mut [u64], state: State)
-    requires { ⌜ 101 ≤ length (now words) ⌝ }
-    ensures { λ _. ⌜ now (words .exit) ≡ stateOver (worldOf state [] [] []) (now (words .entry)) ⌝ }
-{
-    put_kept(words, state);
-    let counters = state.counters;
-    words::put_counters(words, counters);
 }
 
 // ---- the answer
@@ -96,33 +91,13 @@ fn tell(answer: &mut [u64], y: Answer) -> u32
 
 // ---- the calls
 
-// A call that answers by numbers.
-pub fn serve(
-    words: &mut [u64],
-    records: &mut [u8],
-    memory: &mut [u8],
-    queue: &mut [u64],
-    answer: &mut [u64],
-    op: Ask,
-    n: [u64; 5],
-) -> u32
-    ensures { λ r. ⌜ Serves (callOf op (λ i. getD n i 0)) (record { words = now (words .entry); records = now (records .entry); memory = now (memory .entry); queue = now (queue .entry); answer = now (answer .entry) }) (record { words = now (words .exit); records = now (records .exit); memory = now (memory .exit); queue = now (queue .exit); answer = now (answer .exit) }) r ⌝ }
-{
-    if !is_lent(words, answer) {
-        return 6;
-    }
-    let o = calls::ask(state_in(words), records, memory, queue, op, n);
-    put_state(words, o.state);
-    tell(answer, o.answer)
-}
-
 // The counters that a call left, and the refusal's number.
 pub struct Counted {
     pub counters: Counters,
     pub number: u32,
 }
 
-// The same where the counters are a record of their own and the words go without.
+// A call that answers by numbers, where the counters are a record of their own and the words go without.
 pub fn serve_with(
     counters: Counters,
     words: &mut [u64],
@@ -135,13 +110,7 @@ pub fn serve_with(
 ) -> Counted
     ensures { λ r. ⌜ ServesWith (callOf op (λ i. getD n i 0)) counters (record { words = now (words .entry); records = now (records .entry); memory = now (memory .entry); queue = now (queue .entry); answer = now (answer .entry) }) (r .counters) (record { words = now (words .exit); records = now (records .exit); memory = now (memory .exit); queue = now (queue .exit); answer = now (answer .exit) }) (r .number) ⌝ }
 {
-    if answer.len() < 2 {
-        return Counted {
-            counters,
-            number: 6,
-        };
-    }
-    if !words::is_kept(words) {
+    if !is_lent_kept(words, answer) {
         return Counted {
             counters,
             number: 6,
@@ -158,8 +127,32 @@ pub fn serve_with(
     }
 }
 
-pub fn serve_write(
+// The same over words that have the counters too.
+pub fn serve(
     words: &mut [u64],
+    records: &mut [u8],
+    memory: &mut [u8],
+    queue: &mut [u64],
+    answer: &mut [u64],
+    op: Ask,
+    n: [u64; 5],
+) -> u32
+    ensures { λ r. ⌜ Serves (callOf op (λ i. getD n i 0)) (record { words = now (words .entry); records = now (records .entry); memory = now (memory .entry); queue = now (queue .entry); answer = now (answer .entry) }) (record { words = now (words .exit); records = now (records .exit); memory = now (memory .exit); queue = now (queue .exit); answer = now (answer .exit) }) r ⌝ }
+{
+    if !is_lent(words, answer) {
+        return 6;
+    }
+    let counters = words::counters_in(words);
+    let c = serve_with(counters, words, records, memory, queue, answer, op, n);
+    let left = c.counters;
+    words::put_counters(words, left);
+    c.number
+}
+
+// A write leaves the state as it is, so that the words are only read.
+pub fn serve_write_with(
+    counters: Counters,
+    words: &[u64],
     records: &mut [u8],
     memory: &mut [u8],
     queue: &[u64],
@@ -168,18 +161,74 @@ pub fn serve_write(
     offset: u64,
     bytes: &[u8],
 ) -> u32
-    ensures { λ r. ⌜ Serves (Write (pa .0) offset (now (bytes .entry))) (record { words = now (words .entry); records = now (records .entry); memory = now (memory .entry); queue = now (queue .entry); answer = now (answer .entry) }) (record { words = now (words .exit); records = now (records .exit); memory = now (memory .exit); queue = now (queue .entry); answer = now (answer .exit) }) r ⌝ }
+    ensures { λ r. ⌜ ServesWith (Write (pa .0) offset (now (bytes .entry))) counters (record { words = now (words .entry); records = now (records .entry); memory = now (memory .entry); queue = now (queue .entry); answer = now (answer .entry) }) counters (record { words = now (words .entry); records = now (records .exit); memory = now (memory .exit); queue = now (queue .entry); answer = now (answer .exit) }) r ⌝ }
+{
+    if !is_lent_kept(words, answer) {
+        return 6;
+    }
+    let state = state_with(words, counters);
+    let y = ranges::write(state, records, memory, queue, pa, offset, bytes);
+    tell(answer, y)
+}
+
+pub fn serve_write(
+    words: &[u64],
+    records: &mut [u8],
+    memory: &mut [u8],
+    queue: &[u64],
+    answer: &mut [u64],
+    pa: PhysAddr,
+    offset: u64,
+    bytes: &[u8],
+) -> u32
+    ensures { λ r. ⌜ Serves (Write (pa .0) offset (now (bytes .entry))) (record { words = now (words .entry); records = now (records .entry); memory = now (memory .entry); queue = now (queue .entry); answer = now (answer .entry) }) (record { words = now (words .entry); records = now (records .exit); memory = now (memory .exit); queue = now (queue .entry); answer = now (answer .exit) }) r ⌝ }
 {
     if !is_lent(words, answer) {
         return 6;
     }
-    let state = state_in(words);
-    let y = ranges::write(state, records, memory, queue, pa, offset, bytes);
-    put_state(words, state);
-    tell(answer, y)
+    let counters = words::counters_in(words);
+    serve_write_with(
+        counters,
+        words,
+        records,
+        memory,
+        queue,
+        answer,
+        pa,
+        offset,
+        bytes,
+    )
 }
 
 // Where the bytes that are read stand in the memory, and how many they are.
+pub fn serve_read_with(
+    counters: Counters,
+    words: &[u64],
+    records: &[u8],
+    memory: &[u8],
+    queue: &[u64],
+    answer: &mut [u64],
+    pa: PhysAddr,
+    offset: u64,
+    len: u64,
+) -> u32
+    ensures { λ r. ⌜ PlacesWith (pa .0) offset len counters (record { words = now (words .entry); records = now (records .entry); memory = now (memory .entry); queue = now (queue .entry); answer = now (answer .entry) }) (record { words = now (words .entry); records = now (records .entry); memory = now (memory .entry); queue = now (queue .entry); answer = now (answer .exit) }) r ⌝ }
+{
+    if !is_lent_kept(words, answer) {
+        return 6;
+    }
+    let state = state_with(words, counters);
+    let place = copies::read_place(state, records, memory, queue, pa, offset, len);
+    tell(
+        answer,
+        Answer {
+            number: place.number,
+            address: place.at as u64,
+            bytes: len,
+        },
+    )
+}
+
 pub fn serve_read(
     words: &[u64],
     records: &[u8],
@@ -195,40 +244,43 @@ pub fn serve_read(
     if !is_lent(words, answer) {
         return 6;
     }
-    let place = copies::read_place(state_in(words), records, memory, queue, pa, offset, len);
-    tell(
+    let counters = words::counters_in(words);
+    serve_read_with(
+        counters,
+        words,
+        records,
+        memory,
+        queue,
         answer,
-        Answer {
-            number: place.number,
-            address: place.at as u64,
-            bytes: len,
-        },
+        pa,
+        offset,
+        len,
     )
 }
 
 // The statistics, at most 368 bytes, in front of `text`.
-pub fn serve_stats(
-    words: &mut [u64],
+pub fn serve_stats_with(
+    counters: Counters,
+    words: &[u64],
     records: &[u8],
     memory: &[u8],
     queue: &[u64],
     answer: &mut [u64],
     text: &mut [u8],
 ) -> u32
-    ensures { λ r. ⌜ Reports (record { words = now (words .entry); records = now (records .entry); memory = now (memory .entry); queue = now (queue .entry); answer = now (answer .entry) }) (now (text .entry)) (record { words = now (words .exit); records = now (records .entry); memory = now (memory .entry); queue = now (queue .entry); answer = now (answer .exit) }) (now (text .exit)) r ⌝ }
+    ensures { λ r. ⌜ ReportsWith counters (record { words = now (words .entry); records = now (records .entry); memory = now (memory .entry); queue = now (queue .entry); answer = now (answer .entry) }) (now (text .entry)) counters (record { words = now (words .entry); records = now (records .entry); memory = now (memory .entry); queue = now (queue .entry); answer = now (answer .exit) }) (now (text .exit)) r ⌝ }
 {
     if text.len() < 368 {
         return 6;
     }
-    if !is_lent(words, answer) {
+    if !is_lent_kept(words, answer) {
         return 6;
     }
-    let state = state_in(words);
+    let state = state_with(words, counters);
     let report = counts::stats(state, records, memory, queue);
     let told = report.text;
     let len = report.len;
     text::put_text(text, 0, &told[..len]);
-    put_state(words, state);
     tell(
         answer,
         Answer {
@@ -239,7 +291,33 @@ pub fn serve_stats(
     )
 }
 
+pub fn serve_stats(
+    words: &[u64],
+    records: &[u8],
+    memory: &[u8],
+    queue: &[u64],
+    answer: &mut [u64],
+    text: &mut [u8],
+) -> u32
+    ensures { λ r. ⌜ Reports (record { words = now (words .entry); records = now (records .entry); memory = now (memory .entry); queue = now (queue .entry); answer = now (answer .entry) }) (now (text .entry)) (record { words = now (words .entry); records = now (records .entry); memory = now (memory .entry); queue = now (queue .entry); answer = now (answer .exit) }) (now (text .exit)) r ⌝ }
+{
+    if !is_lent(words, answer) {
+        return 6;
+    }
+    let counters = words::counters_in(words);
+    serve_stats_with(counters, words, records, memory, queue, answer, text)
+}
+
 // ---- the boot
+
+fn is_roomy(words: &[u64], answer: &[u64]) -> bool
+    ensures { λ r. ⌜ r ≡ isRoomyKept (record { words = now (words .entry); records = []; memory = []; queue = []; answer = now (answer .entry) }) ⌝ }
+{
+    if words.len() < 92 {
+        return false;
+    }
+    answer.len() >= 2
+}
 
 // Refusals 1 to 5 where the words or the answer are too short.
 fn short_boot(map: [MemoryRegion; 8], count: usize, records: usize, memory: usize) -> u32
@@ -252,7 +330,48 @@ fn short_boot(map: [MemoryRegion; 8], count: usize, records: usize, memory: usiz
     number
 }
 
-// A map of `count` entries, of which `map` has the first eight. A boot reads nothing of the words.
+// A map of `count` entries, of which `map` has the first eight. A boot reads nothing of the words and of the counters.
+pub fn serve_boot_with(
+    counters: Counters,
+    map: [MemoryRegion; 8],
+    count: usize,
+    words: &mut [u64],
+    records: &mut [u8],
+    memory: &[u8],
+    queue: &[u64],
+    answer: &mut [u64],
+) -> Counted
+    ensures { λ r. ⌜ BootsWith map count counters (record { words = now (words .entry); records = now (records .entry); memory = now (memory .entry); queue = now (queue .entry); answer = now (answer .entry) }) (r .counters) (record { words = now (words .exit); records = now (records .exit); memory = now (memory .entry); queue = now (queue .entry); answer = now (answer .exit) }) (r .number) ⌝ }
+{
+    if !is_roomy(words, answer) {
+        let number = short_boot(map, count, records.len(), memory.len());
+        return Counted { counters, number };
+    }
+    let o = boot::boot(
+        state_with(words, counters),
+        map,
+        count,
+        records,
+        memory,
+        queue,
+    );
+    let y = o.answer;
+    if y.number != 0 {
+        return Counted {
+            counters,
+            number: y.number,
+        };
+    }
+    let next = o.state;
+    put_kept(words, next);
+    let left = next.counters;
+    let number = tell(answer, y);
+    Counted {
+        counters: left,
+        number,
+    }
+}
+
 pub fn serve_boot(
     map: [MemoryRegion; 8],
     count: usize,
@@ -267,14 +386,9 @@ pub fn serve_boot(
     if words.len() < 101 {
         return short_boot(map, count, records.len(), memory.len());
     }
-    if answer.len() < 2 {
-        return short_boot(map, count, records.len(), memory.len());
-    }
-    let o = boot::boot(state_in(words), map, count, records, memory, queue);
-    let y = o.answer;
-    if y.number != 0 {
-        return y.number;
-    }
-    put_state(words, o.state);
-    tell(answer, y)
+    let counters = words::counters_in(words);
+    let c = serve_boot_with(counters, map, count, words, records, memory, queue, answer);
+    let left = c.counters;
+    words::put_counters(words, left);
+    c.number
 }

@@ -1,10 +1,11 @@
--- Loans that are no state's are refused as they are; else `ask` promises what the call leaves, and it is written over them.
-use mathlib.Core.Bool.{true}
-use mathlib.Core.Path.{_≡_, sym, _∙_}
+-- As `serve_with`: the counters are read out of the words and written over them.
+use mathlib.Core.Bool.{true, false}
+use mathlib.Core.Path.{_≡_, refl, sym, ap, _∙_}
+use native.Mathlib.Omega.{arith}
 use borrow.Author.Needs.{needs}
 use borrow.Author.Tests.{not-true, not-false}
-use Rattle.service.specs.Serving.{Lent, isLent}
-use Rattle.service.proofs.Serving.{lent-long, lent-room, serves, serves-torn}
+use Rattle.service.specs.Serving.{Lent, ServesWith, isLent}
+use Rattle.service.proofs.Serving.{in-words, lent-long, serves-torn, wordsFrom}
 use Rattle.service.proofs.serve.Statement.{statement}
 use Rattle.service.proofs.serve.Tie as tie
 
@@ -25,6 +26,9 @@ loans s =
 lent : (c : tie.Else1) → isLent (loans (start (c .before))) ≡ true
 lent c = sym (c .before .is-lent .ensures) ∙ not-false (c .before .is-lent .result) (c .if1 .left)
 
+torn : (c : tie.Then1) → isLent (loans (start (c .before))) ≡ false
+torn c = sym (c .before .is-lent .ensures) ∙ not-true (c .before .is-lent .result) (c .if1 .taken)
+
 is-lent-requires : tie.Need-is-lent-requires
 is-lent-requires c κs = search needs
 
@@ -35,23 +39,21 @@ same-length-2 : tie.Need-same-length-2
 same-length-2 c = search needs
 
 returns : tie.Need-returns
-returns c = serves-torn _ (loans (start (c .before))) (sym (c .before .is-lent .ensures) ∙ not-true (c .before .is-lent .result) (c .if1 .taken))
+returns c =
+    serves-torn _ (loans (start (c .before))) (torn c)
 
-state-in-requires : tie.Need-state-in-requires
-state-in-requires c κs = let e = c .before in lent-long (loans (start (e .before))) (lent e)
+counters-in-requires : tie.Need-counters-in-requires
+counters-in-requires c κs =
+    let e = c .before in lent-long (loans (start (e .before))) (lent e)
 
-ask-requires : tie.Need-ask-requires
-ask-requires c κs = search needs
+serve-with-requires : tie.Need-serve-with-requires
+serve-with-requires c κs = search needs
 
-put-state-requires : tie.Need-put-state-requires
-put-state-requires c κs =
-    let e = c .before .before .before .before .before .before .before .before .before .before .before .before .before in
-    lent-long (loans (start (e .before))) (lent e)
-
-tell-requires : tie.Need-tell-requires
-tell-requires c κs =
-    let e = c .before .before .before .before .before .before .before .before .before .before .before .before .before .before .before .before .before in
-    lent-room (loans (start (e .before))) (lent e)
+put-counters-requires : tie.Need-put-counters-requires
+put-counters-requires c κs =
+    let x = c .before .before .before .before .before .before .before .before .before .before .before .before in
+    let e = x .before .before .before .before .before .before .before .before in
+    omega (arith, x .serve-with .kept .1 .0, lent-long (loans (start (e .before))) (lent e))
 
 same-length-3 : tie.Need-same-length-3
 same-length-3 c = search needs
@@ -70,13 +72,11 @@ same-length-7 c = search needs
 
 returns-2 : tie.Need-returns-2
 returns-2 c =
-    let t = c .before .before in
-    let p = t .before .before .before .before in
-    let k = p .before .before .before .before .before .before .before .before in
-    let i = k .before .before .before .before in
-    let e = i .before .before in
-    serves (loans (start (e .before))) (k .ask .ensures) (t .tell .ensures .1) (t .tell .ensures .0) (lent e) (i .state-in .ensures)
-    (p .put-state .ensures)
+    let p = c .before .before in
+    let x = p .before .before .before .before .before .before .before .before .before .before .before .before .before in
+    let k = x .before .before .before .before .before .before in
+    let e = k .before .before in
+    in-words _ (loans (start (e .before))) (lent e) ∙ rw (← k .counters-in .ensures, x .serve-with .ensures, p .put-counters .ensures) refl
 
 pub serve-spec : {M : Type 1} → statement M
 serve-spec =
@@ -86,10 +86,9 @@ serve-spec =
     same-length
     same-length-2
     returns
-    state-in-requires
-    ask-requires
-    put-state-requires
-    tell-requires
+    counters-in-requires
+    serve-with-requires
+    put-counters-requires
     same-length-3
     same-length-4
     same-length-5

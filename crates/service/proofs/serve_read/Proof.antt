@@ -1,10 +1,10 @@
--- The place that `read_place` finds is told in front of the answer, and nothing else changes.
-use mathlib.Core.Bool.{true}
-use mathlib.Core.Path.{_≡_, sym, _∙_}
+-- As `serve_read_with`: the counters are read out of the words.
+use mathlib.Core.Bool.{true, false}
+use mathlib.Core.Path.{_≡_, ap, sym, _∙_}
 use borrow.Author.Needs.{needs}
 use borrow.Author.Tests.{not-true, not-false}
-use Rattle.service.specs.Serving.{Lent, isLent}
-use Rattle.service.proofs.Serving.{lent-long, lent-room, places, places-torn}
+use Rattle.service.specs.Serving.{Lent, Served, isLent, worldIn}
+use Rattle.service.proofs.Serving.{lent-long, places-in-words, places-refused, serves-torn}
 use Rattle.service.proofs.serve_read.Statement.{statement}
 use Rattle.service.proofs.serve_read.Tie as tie
 
@@ -25,6 +25,9 @@ loans s =
 lent : (c : tie.Else1) → isLent (loans (start (c .before))) ≡ true
 lent c = sym (c .before .is-lent .ensures) ∙ not-false (c .before .is-lent .result) (c .if1 .left)
 
+torn : (c : tie.Then1) → isLent (loans (start (c .before))) ≡ false
+torn c = sym (c .before .is-lent .ensures) ∙ not-true (c .before .is-lent .result) (c .if1 .taken)
+
 is-lent-requires : tie.Need-is-lent-requires
 is-lent-requires c κs = search needs
 
@@ -34,30 +37,26 @@ same-length c = search needs
 returns : tie.Need-returns
 returns c =
     let s = start (c .before) in
-    places-torn (s .args .pa .0) (s .args .offset) (s .args .len) (loans s)
-    (sym (c .before .is-lent .ensures) ∙ not-true (c .before .is-lent .result) (c .if1 .taken))
+    places-refused (s .args .pa .0) (s .args .offset) (s .args .len) (loans s) (worldIn (loans s))
+    (ap (λ (x : Served). x .number) (serves-torn _ (loans s) (torn c)))
 
-state-in-requires : tie.Need-state-in-requires
-state-in-requires c κs = lent-long (loans (start (c .before))) (lent c)
+counters-in-requires : tie.Need-counters-in-requires
+counters-in-requires c κs =
+    lent-long (loans (start (c .before))) (lent c)
 
-read-place-requires : tie.Need-read-place-requires
-read-place-requires c κs = search needs
-
-tell-requires : tie.Need-tell-requires
-tell-requires c κs = let e = c .before .before .before in lent-room (loans (start (e .before))) (lent e)
+serve-read-with-requires : tie.Need-serve-read-with-requires
+serve-read-with-requires c κs = search needs
 
 same-length-2 : tie.Need-same-length-2
 same-length-2 c = search needs
 
 returns-2 : tie.Need-returns-2
 returns-2 c =
-    let t = c .before .before in
-    let k = t .before .before in
-    let i = k .before in
-    let e = i .before in
+    let x = c .before .before in
+    let k = x .before .before in
+    let e = k .before in
     let s = start (e .before) in
-    places (s .args .pa .0) (s .args .offset) (s .args .len) (loans s) (k .read-place .ensures) (lent e) (i .state-in .ensures)
-    (t .tell .ensures .1) (t .tell .ensures .0)
+    places-in-words (s .args .pa .0) (s .args .offset) (s .args .len) (loans s) (lent e) (rw (k .counters-in .ensures) at (x .serve-read-with .ensures))
 
 pub serve-read-spec : {M : Type 1} → statement M
 serve-read-spec =
@@ -66,8 +65,7 @@ serve-read-spec =
     is-lent-requires
     same-length
     returns
-    state-in-requires
-    read-place-requires
-    tell-requires
+    counters-in-requires
+    serve-read-with-requires
     same-length-2
     returns-2)

@@ -1,18 +1,15 @@
--- As `serve`, with counters from elsewhere: they are not read out of the words and not written over them.
-use mathlib.Core.Bool.{true, false, and-false}
-use mathlib.Core.Path.{_≡_, refl, sym, _∙_}
+-- Loans that are no state's are refused as they are; else `ask` promises what the call leaves, and it is written over them and told.
+use mathlib.Core.Bool.{true}
+use mathlib.Core.Path.{_≡_, sym, _∙_}
 use borrow.Author.Needs.{needs}
-use borrow.Author.Tests.{not-true, not-false, lt-leb, le-leb}
-use lib.ListN.{length}
-use Rattle.definition.proofs.Tests.{and-true}
-use Rattle.words.specs.Words.{isKept}
+use borrow.Author.Tests.{not-true, not-false}
 use Rattle.service.specs.Serving.{Lent, isLentKept}
-use Rattle.service.proofs.Serving.{kept-long, serves-with, serves-with-torn}
+use Rattle.service.proofs.Serving.{lent-room, lent-words, serves-with, serves-with-torn}
 use Rattle.service.proofs.serve_with.Statement.{statement}
 use Rattle.service.proofs.serve_with.Tie as tie
 
 -- the loans as they were given, and that they are a state's
-abbrev start : tie.After-is-kept → tie.Start
+abbrev start : tie.After-is-lent-kept → tie.Start
 start d = d .before .before .before .before .before .before .before .before
 
 abbrev loans : tie.Start → Lent
@@ -25,32 +22,26 @@ loans s =
       answer = s .args .answer .now;
     }
 
-kept : (c : tie.Else2) → isKept (start (c .before) .args .words .now) ≡ true
-kept c = sym (c .before .is-kept .ensures) ∙ not-false (c .before .is-kept .result) (c .if2 .left)
+lent : (c : tie.Else1) → isLentKept (loans (start (c .before))) ≡ true
+lent c = sym (c .before .is-lent-kept .ensures) ∙ not-false (c .before .is-lent-kept .result) (c .if1 .left)
 
-lent : (c : tie.Else2) → isLentKept (loans (start (c .before))) ≡ true
-lent c = and-true (kept c) (le-leb 2 (length (start (c .before) .args .answer .now)) (c .before .before .before .if1 .left))
-
-returns : tie.Need-returns
-returns c =
-    let s = c .before .before .before .before .before .before in
-    serves-with-torn _ (loans s) (s .args .counters)
-    (rw (lt-leb 2 (length (s .args .answer .now)) (c .if1 .taken)) (and-false (isKept (s .args .words .now))))
-
-is-kept-requires : tie.Need-is-kept-requires
-is-kept-requires c κs = search needs
+is-lent-kept-requires : tie.Need-is-lent-kept-requires
+is-lent-kept-requires c κs = search needs
 
 same-length : tie.Need-same-length
 same-length c = search needs
 
-returns-2 : tie.Need-returns-2
-returns-2 c =
+same-length-2 : tie.Need-same-length-2
+same-length-2 c = search needs
+
+returns : tie.Need-returns
+returns c =
     let s = start (c .before) in
-    let e : isKept (s .args .words .now) ≡ false = sym (c .before .is-kept .ensures) ∙ not-true (c .before .is-kept .result) (c .if2 .taken) in
-    serves-with-torn _ (loans s) (s .args .counters) (rw e refl)
+    serves-with-torn _ (loans s) (s .args .counters) (sym (c .before .is-lent-kept .ensures) ∙ not-true (c .before .is-lent-kept .result) (c .if1 .taken))
 
 state-with-requires : tie.Need-state-with-requires
-state-with-requires c κs = let e = c .before in kept-long (start (e .before) .args .words .now) (kept e)
+state-with-requires c κs =
+    let e = c .before in lent-words (loans (start (e .before))) (lent e)
 
 ask-requires : tie.Need-ask-requires
 ask-requires c κs = search needs
@@ -58,13 +49,12 @@ ask-requires c κs = search needs
 put-kept-requires : tie.Need-put-kept-requires
 put-kept-requires c κs =
     let e = c .before .before .before .before .before .before .before .before .before .before .before .before .before .before in
-    kept-long (start (e .before) .args .words .now) (kept e)
+    lent-words (loans (start (e .before))) (lent e)
 
 tell-requires : tie.Need-tell-requires
-tell-requires c κs = search needs
-
-same-length-2 : tie.Need-same-length-2
-same-length-2 c = search needs
+tell-requires c κs =
+    let e = c .before .before .before .before .before .before .before .before .before .before .before .before .before .before .before .before .before .before .before in
+    lent-room (loans (start (e .before))) (lent e)
 
 same-length-3 : tie.Need-same-length-3
 same-length-3 c = search needs
@@ -78,31 +68,35 @@ same-length-5 c = search needs
 same-length-6 : tie.Need-same-length-6
 same-length-6 c = search needs
 
-returns-3 : tie.Need-returns-3
-returns-3 c =
+same-length-7 : tie.Need-same-length-7
+same-length-7 c = search needs
+
+returns-2 : tie.Need-returns-2
+returns-2 c =
     let t = c .before .before in
     let p = t .before .before .before .before .before in
     let k = p .before .before .before .before .before .before .before .before .before in
     let i = k .before .before .before .before in
     let e = i .before .before in
-    serves-with (loans (start (e .before))) (k .ask .ensures) (t .tell .ensures .1) (t .tell .ensures .0)
-    (start (e .before) .args .counters) (lent e) (i .state-with .ensures) (p .put-kept .ensures)
+    let s = start (e .before) in
+    serves-with (loans s) (s .args .counters) (k .ask .ensures) (t .tell .ensures .1) (t .tell .ensures .0) (lent e) (i .state-with .ensures)
+    (p .put-kept .ensures)
 
 pub serve-with-spec : {M : Type 1} → statement M
 serve-with-spec =
     tie.close
     (tie.spec
-    returns
-    is-kept-requires
+    is-lent-kept-requires
     same-length
-    returns-2
+    same-length-2
+    returns
     state-with-requires
     ask-requires
     put-kept-requires
     tell-requires
-    same-length-2
     same-length-3
     same-length-4
     same-length-5
     same-length-6
-    returns-3)
+    same-length-7
+    returns-2)

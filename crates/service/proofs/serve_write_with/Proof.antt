@@ -1,0 +1,81 @@
+-- As `serve_with`, of `write`, which leaves the state as it was: the words stay.
+use mathlib.Core.Bool.{true}
+use mathlib.Core.Path.{_≡_, refl, sym, _∙_}
+use borrow.Author.Needs.{needs}
+use borrow.Author.Tests.{not-true, not-false}
+use Rattle.service.specs.Serving.{Lent, isLentKept}
+use Rattle.service.proofs.Serving.{lent-room, lent-words, serves-kept, serves-with-torn}
+use Rattle.service.proofs.serve_write_with.Statement.{statement}
+use Rattle.service.proofs.serve_write_with.Tie as tie
+
+-- the loans as they were given, and that they are a state's
+abbrev start : tie.After-is-lent-kept → tie.Start
+start d = d .before .before .before .before .before .before .before .before
+
+abbrev loans : tie.Start → Lent
+loans s =
+    record {
+      words = s .args .words .now;
+      records = s .args .records .now;
+      memory = s .args .memory .now;
+      queue = s .args .queue .now;
+      answer = s .args .answer .now;
+    }
+
+lent : (c : tie.Else1) → isLentKept (loans (start (c .before))) ≡ true
+lent c = sym (c .before .is-lent-kept .ensures) ∙ not-false (c .before .is-lent-kept .result) (c .if1 .left)
+
+is-lent-kept-requires : tie.Need-is-lent-kept-requires
+is-lent-kept-requires c κs = search needs
+
+same-length : tie.Need-same-length
+same-length c = search needs
+
+returns : tie.Need-returns
+returns c =
+    let s = start (c .before) in
+    serves-with-torn _ (loans s) (s .args .counters) (sym (c .before .is-lent-kept .ensures) ∙ not-true (c .before .is-lent-kept .result) (c .if1 .taken))
+
+state-with-requires : tie.Need-state-with-requires
+state-with-requires c κs =
+    lent-words (loans (start (c .before))) (lent c)
+
+write-requires : tie.Need-write-requires
+write-requires c κs = search needs
+
+tell-requires : tie.Need-tell-requires
+tell-requires c κs =
+    let e = c .before .before .before .before .before .before .before .before .before in lent-room (loans (start (e .before))) (lent e)
+
+same-length-2 : tie.Need-same-length-2
+same-length-2 c = search needs
+
+same-length-3 : tie.Need-same-length-3
+same-length-3 c = search needs
+
+same-length-4 : tie.Need-same-length-4
+same-length-4 c = search needs
+
+returns-2 : tie.Need-returns-2
+returns-2 c =
+    let t = c .before .before in
+    let k = t .before .before .before .before .before .before in
+    let i = k .before .before .before in
+    let e = i .before in
+    let s = start (e .before) in
+    serves-kept (loans s) (s .args .counters) (k .write .ensures) (t .tell .ensures .1) (t .tell .ensures .0) (lent e) (i .state-with .ensures) refl
+
+pub serve-write-with-spec : {M : Type 1} → statement M
+serve-write-with-spec =
+    tie.close
+    (tie.spec
+    is-lent-kept-requires
+    same-length
+    returns
+    state-with-requires
+    write-requires
+    tell-requires
+    same-length-2
+    same-length-3
+    same-length-4
+    returns-2)
