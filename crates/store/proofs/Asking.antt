@@ -1,7 +1,6 @@
--- A call by its number: five numbers are all that any call takes, so that what is served by them is served.
+-- Five numbers are all that a call that answers by numbers takes, so that what is served by them is served.
 use Prim.Native.Nat.{ℕ}
 use mathlib.Core.List.{List, [], _∷_}
-use mathlib.Core.Option.{none, some}
 use mathlib.Core.Path.{_≡_, refl, subst}
 use lib.ListN.{getD}
 use Rattle.definition.specs.declared.Counters.{Counters}
@@ -25,7 +24,7 @@ use Rattle.lines.specs.declared.Ask.the-variants.{
 }
 use Rattle.lines.specs.Reading.{callOf}
 use Rattle.service.specs.Serving.{Lent, ServesWith}
-use Rattle.store.specs.Lending.{CallsWith, askOf, numbersOf}
+use Rattle.store.specs.Lending.{numbersOf}
 
 five-numbers : (a : Ask) (f : ℕ → ℕ) → callOf a (λ i. getD (f 0 ∷ f 1 ∷ f 2 ∷ f 3 ∷ f 4 ∷ []) i 0) ≡ callOf a f
 five-numbers Alloc f = refl
@@ -44,15 +43,9 @@ five-numbers Lend f = refl
 five-numbers Back f = refl
 five-numbers Low f = refl
 
-module _ (op : ℕ) (ns : List ℕ) (k : Counters) (l : Lent) where
-  abbrev five : List ℕ
-  five = numbersOf ns 0 ∷ numbersOf ns 1 ∷ numbersOf ns 2 ∷ numbersOf ns 3 ∷ numbersOf ns 4 ∷ []
-
-  pub calls-known : {k′ : Counters} {l′ : Lent} {r : ℕ} (a : Ask) (xs : List ℕ) → askOf op ≡ some a → xs ≡ five
-      → ServesWith (callOf a (λ i. getD xs i 0)) k l k′ l′ r
-      → CallsWith op ns k l k′ l′ r
-  calls-known {k′} {l′} {r} a xs e x S =
-      rw e (rw (five-numbers a (numbersOf ns)) at (subst (λ (ys : List ℕ). ServesWith (callOf a (λ i. getD ys i 0)) k l k′ l′ r) x S))
-
-  pub calls-none : askOf op ≡ none → CallsWith op ns k l k l 17
-  calls-none e = rw e refl
+pub serves-five : (a : Ask) (ns xs : List ℕ) (k : Counters) (l : Lent) {k′ : Counters} {l′ : Lent} {r : ℕ}
+    → xs ≡ numbersOf ns 0 ∷ numbersOf ns 1 ∷ numbersOf ns 2 ∷ numbersOf ns 3 ∷ numbersOf ns 4 ∷ []
+    → ServesWith (callOf a (λ i. getD xs i 0)) k l k′ l′ r
+    → ServesWith (callOf a (numbersOf ns)) k l k′ l′ r
+serves-five a ns xs k l {k′} {l′} {r} x S =
+    rw (five-numbers a (numbersOf ns)) at (subst (λ (ys : List ℕ). ServesWith (callOf a (λ i. getD ys i 0)) k l k′ l′ r) x S)

@@ -28,7 +28,8 @@ ghost use Rattle.definition.specs.Calls.{
   Back,
   Low,
 };
-ghost use Rattle.service.specs.Serving.{Serves, Places, Reports};
+ghost use Rattle.lines.specs.Reading.{callOf};
+ghost use Rattle.service.specs.Serving.{Serves, ServesWith, Places, PlacesWith, Reports};
 ghost use Rattle.store.specs.Exported.{Audits};
 ghost use Rattle.store.specs.Lending.{
   regionOf,
@@ -39,7 +40,9 @@ ghost use Rattle.store.specs.Lending.{
   Boots,
   askOf,
   numbersOf,
-  Asks,
+  entryIn,
+  entriesOf,
+  BootsFrom,
   CallsWith,
 };
 
@@ -603,13 +606,18 @@ pub extern "C" fn jilakkor_boot(
 
 // ---- the lent counters
 
+// What a number asks for: a call that answers by numbers, one of the four others, or none.
 pub enum Asked {
     Known(Ask),
+    Write,
+    Read,
+    Stats,
+    Boot,
     Unknown,
 }
 
 fn ask_of(op: u64) -> Asked
-    ensures { λ r. ⌜ Asks (askOf op) r ⌝ }
+    ensures { λ r. ⌜ r ≡ askOf op ⌝ }
 {
     match op {
         0 => Asked::Known(Ask::Alloc),
@@ -627,6 +635,10 @@ fn ask_of(op: u64) -> Asked
         12 => Asked::Known(Ask::Lend),
         13 => Asked::Known(Ask::Back),
         14 => Asked::Known(Ask::Low),
+        15 => Asked::Write,
+        16 => Asked::Read,
+        17 => Asked::Stats,
+        18 => Asked::Boot,
         _ => Asked::Unknown,
     }
 }
@@ -635,6 +647,145 @@ fn number_at(numbers: &[u64], i: usize) -> u64
     ensures { λ r. ⌜ r ≡ numbersOf (now (numbers .entry)) i ⌝ }
 {
     if i < numbers.len() { numbers[i] } else { 0 }
+}
+
+fn known_counted(
+    counters: Counters,
+    words: &mut [u64],
+    records: &mut [u8],
+    memory: &mut [u8],
+    queue: &mut [u64],
+    answer: &mut [u64],
+    ask: Ask,
+    numbers: &[u64],
+) -> Counted
+    ensures { λ r. ⌜ ServesWith (callOf ask (numbersOf (now (numbers .entry)))) counters (record { words = now (words .entry); records = now (records .entry); memory = now (memory .entry); queue = now (queue .entry); answer = now (answer .entry) }) (r .counters) (record { words = now (words .exit); records = now (records .exit); memory = now (memory .exit); queue = now (queue .exit); answer = now (answer .exit) }) (r .number) ⌝ }
+{
+    let n = [
+        number_at(numbers, 0),
+        number_at(numbers, 1),
+        number_at(numbers, 2),
+        number_at(numbers, 3),
+        number_at(numbers, 4),
+    ];
+    service::serve_with(counters, words, records, memory, queue, answer, ask, n)
+}
+
+fn write_counted(
+    counters: Counters,
+    words: &[u64],
+    records: &mut [u8],
+    memory: &mut [u8],
+    queue: &[u64],
+    answer: &mut [u64],
+    numbers: &[u64],
+    bytes: &[u8],
+) -> Counted
+    ensures { λ r. ⌜ ServesWith (Write (numbersOf (now (numbers .entry)) 0) (numbersOf (now (numbers .entry)) 1) (now (bytes .entry))) counters (record { words = now (words .entry); records = now (records .entry); memory = now (memory .entry); queue = now (queue .entry); answer = now (answer .entry) }) (r .counters) (record { words = now (words .entry); records = now (records .exit); memory = now (memory .exit); queue = now (queue .entry); answer = now (answer .exit) }) (r .number) ⌝ }
+{
+    let pa = PhysAddr(number_at(numbers, 0));
+    let offset = number_at(numbers, 1);
+    Counted {
+        counters,
+        number: service::serve_write_with(
+            counters,
+            words,
+            records,
+            memory,
+            queue,
+            answer,
+            pa,
+            offset,
+            bytes,
+        ),
+    }
+}
+
+fn read_counted(
+    counters: Counters,
+    words: &[u64],
+    records: &[u8],
+    memory: &[u8],
+    queue: &[u64],
+    answer: &mut [u64],
+    numbers: &[u64],
+) -> Counted
+    ensures { λ r. ⌜ PlacesWith (numbersOf (now (numbers .entry)) 0) (numbersOf (now (numbers .entry)) 1) (numbersOf (now (numbers .entry)) 2) counters (record { words = now (words .entry); records = now (records .entry); memory = now (memory .entry); queue = now (queue .entry); answer = now (answer .entry) }) (record { words = now (words .entry); records = now (records .entry); memory = now (memory .entry); queue = now (queue .entry); answer = now (answer .exit) }) (r .number) × (r .counters ≡ counters) ⌝ }
+{
+    let pa = PhysAddr(number_at(numbers, 0));
+    let offset = number_at(numbers, 1);
+    let len = number_at(numbers, 2);
+    Counted {
+        counters,
+        number: service::serve_read_with(
+            counters,
+            words,
+            records,
+            memory,
+            queue,
+            answer,
+            pa,
+            offset,
+            len,
+        ),
+    }
+}
+
+fn entry_in(numbers: &[u64], i: usize) -> Entry
+    requires { ⌜ i < 8 ⌝ }
+    ensures { λ r. ⌜ r ≡ entryIn (now (numbers .entry)) i ⌝ }
+{
+    Entry {
+        start: number_at(numbers, 3 * i),
+        length: number_at(numbers, 3 * i + 1),
+        kind: number_at(numbers, 3 * i + 2),
+    }
+}
+
+// As `gather`, of a map that is lent as numbers.
+fn gather_numbers(numbers: &[u64]) -> Gathered
+    ensures { λ r. ⌜ r ≡ gathered (entriesOf (now (numbers .entry))) ⌝ }
+{
+    let count = numbers.len() / 3;
+    let n = at_most_eight(count);
+    let mut g = nothing(count);
+    let mut i: usize = 0;
+    while i < n {
+        g = entered(g, i, entry_in(numbers, i));
+        i += 1;
+    }
+    g
+}
+
+fn boot_counted(
+    counters: Counters,
+    words: &mut [u64],
+    records: &mut [u8],
+    memory: &[u8],
+    queue: &[u64],
+    answer: &mut [u64],
+    numbers: &[u64],
+) -> Counted
+    ensures { λ r. ⌜ BootsFrom (now (numbers .entry)) counters (record { words = now (words .entry); records = now (records .entry); memory = now (memory .entry); queue = now (queue .entry); answer = now (answer .entry) }) (r .counters) (record { words = now (words .exit); records = now (records .exit); memory = now (memory .entry); queue = now (queue .entry); answer = now (answer .exit) }) (r .number) ⌝ }
+{
+    if numbers.len() % 3 != 0 {
+        return Counted {
+            counters,
+            number: 17,
+        };
+    }
+    let g = gather_numbers(numbers);
+    let map = g.map;
+    service::serve_boot_with(
+        counters,
+        map,
+        g.count,
+        words,
+        records,
+        memory,
+        queue,
+        answer,
+    )
 }
 
 fn call_counted(
@@ -646,20 +797,45 @@ fn call_counted(
     answer: &mut [u64],
     op: u64,
     numbers: &[u64],
+    bytes: &mut [u8],
 ) -> Counted
-    ensures { λ r. ⌜ CallsWith op (now (numbers .entry)) counters (record { words = now (words .entry); records = now (records .entry); memory = now (memory .entry); queue = now (queue .entry); answer = now (answer .entry) }) (r .counters) (record { words = now (words .exit); records = now (records .exit); memory = now (memory .exit); queue = now (queue .exit); answer = now (answer .exit) }) (r .number) ⌝ }
+    ensures { λ r. ⌜ CallsWith op (now (numbers .entry)) counters (record { words = now (words .entry); records = now (records .entry); memory = now (memory .entry); queue = now (queue .entry); answer = now (answer .entry) }) (now (bytes .entry)) (r .counters) (record { words = now (words .exit); records = now (records .exit); memory = now (memory .exit); queue = now (queue .exit); answer = now (answer .exit) }) (now (bytes .exit)) (r .number) ⌝ }
 {
-    let n = [
-        number_at(numbers, 0),
-        number_at(numbers, 1),
-        number_at(numbers, 2),
-        number_at(numbers, 3),
-        number_at(numbers, 4),
-    ];
     match ask_of(op) {
-        Asked::Known(ask) => {
-            service::serve_with(counters, words, records, memory, queue, answer, ask, n)
-        }
+        Asked::Known(ask) => known_counted(
+            counters,
+            words,
+            records,
+            memory,
+            queue,
+            answer,
+            ask,
+            numbers,
+        ),
+        Asked::Write => write_counted(
+            counters,
+            words,
+            records,
+            memory,
+            queue,
+            answer,
+            numbers,
+            bytes,
+        ),
+        Asked::Read => read_counted(counters, words, records, memory, queue, answer, numbers),
+        Asked::Stats => Counted {
+            counters,
+            number: service::serve_stats_with(
+                counters,
+                words,
+                records,
+                memory,
+                queue,
+                answer,
+                bytes,
+            ),
+        },
+        Asked::Boot => boot_counted(counters, words, records, memory, queue, answer, numbers),
         Asked::Unknown => Counted {
             counters,
             number: 17,
@@ -667,8 +843,8 @@ fn call_counted(
     }
 }
 
-// A call by its number, 0 for alloc to 14 for low, where MemoryTracker's nine counters are one lent record, which it updates. The words go without them: the first 92
-// of a state's, of which the record is the rest.
+// Every call by its number, 0 for alloc to 14 for low, 15 write, 16 read, 17 stats and 18 boot, where MemoryTracker's nine counters are one lent record, which it
+// updates. The words go without them: the first 92 of a state's, of which the record is the rest. `bytes` are what a write writes and where the statistics go.
 #[no_mangle]
 pub extern "C" fn jilakkor_call(
     counters: &mut Counters,
@@ -679,8 +855,9 @@ pub extern "C" fn jilakkor_call(
     answer: &mut [u64],
     op: u64,
     numbers: &[u64],
+    bytes: &mut [u8],
 ) -> u32
-    ensures { λ r. ⌜ CallsWith op (now (numbers .entry)) (now (counters .entry)) (record { words = now (words .entry); records = now (records .entry); memory = now (memory .entry); queue = now (queue .entry); answer = now (answer .entry) }) (now (counters .exit)) (record { words = now (words .exit); records = now (records .exit); memory = now (memory .exit); queue = now (queue .exit); answer = now (answer .exit) }) r ⌝ }
+    ensures { λ r. ⌜ CallsWith op (now (numbers .entry)) (now (counters .entry)) (record { words = now (words .entry); records = now (records .entry); memory = now (memory .entry); queue = now (queue .entry); answer = now (answer .entry) }) (now (bytes .entry)) (now (counters .exit)) (record { words = now (words .exit); records = now (records .exit); memory = now (memory .exit); queue = now (queue .exit); answer = now (answer .exit) }) (now (bytes .exit)) r ⌝ }
 {
     let counted = call_counted(
         *counters,
@@ -691,6 +868,7 @@ pub extern "C" fn jilakkor_call(
         answer,
         op,
         numbers,
+        bytes,
     );
     *counters = counted.counters;
     counted.number

@@ -67,11 +67,27 @@ returns-15 c = rw (c .match .keys15) refl
 
 returns-16 : tie.Need-returns-16
 unfolding askOf
-returns-16 c =
+returns-16 c = rw (c .match .keys16) refl
+
+returns-17 : tie.Need-returns-17
+unfolding askOf
+returns-17 c = rw (c .match .keys17) refl
+
+returns-18 : tie.Need-returns-18
+unfolding askOf
+returns-18 c = rw (c .match .keys18) refl
+
+returns-19 : tie.Need-returns-19
+unfolding askOf
+returns-19 c = rw (c .match .keys19) refl
+
+returns-20 : tie.Need-returns-20
+unfolding askOf
+returns-20 c =
     let op = c .before .args .op in
     let n = c .match .rest in
-    rw (ne-eqb op 0 (n .0 .0 .0 .0 .0 .0 .0 .0 .0 .0 .0 .0 .0 .0 .1), ne-eqb op 1 (n .0 .0 .0 .0 .0 .0 .0 .0 .0 .0 .0 .0 .0 .1), ne-eqb op 2 (n .0 .0 .0 .0 .0 .0 .0 .0 .0 .0 .0 .0 .1), ne-eqb op 3 (n .0 .0 .0 .0 .0 .0 .0 .0 .0 .0 .0 .1), ne-eqb op 4 (n .0 .0 .0 .0 .0 .0 .0 .0 .0 .0 .1), ne-eqb op 5 (n .0 .0 .0 .0 .0 .0 .0 .0 .0 .1), ne-eqb op 6 (n .0 .0 .0 .0 .0 .0 .0 .0 .1), ne-eqb op 7 (n .0 .0 .0 .0 .0 .0 .0 .1), ne-eqb op 8 (n .0 .0 .0 .0 .0 .0 .1), ne-eqb op 9 (n .0 .0 .0 .0 .0 .1), ne-eqb op 10 (n .0 .0 .0 .0 .1), ne-eqb op 11 (n .0 .0 .0 .1), ne-eqb op 12 (n .0 .0 .1), ne-eqb op 13 (n .0 .1), ne-eqb op 14 (n .1)) refl
+    rw (ne-eqb op 0 (n .0 .0 .0 .0 .0 .0 .0 .0 .0 .0 .0 .0 .0 .0 .0 .0 .0 .0 .1), ne-eqb op 1 (n .0 .0 .0 .0 .0 .0 .0 .0 .0 .0 .0 .0 .0 .0 .0 .0 .0 .1), ne-eqb op 2 (n .0 .0 .0 .0 .0 .0 .0 .0 .0 .0 .0 .0 .0 .0 .0 .0 .1), ne-eqb op 3 (n .0 .0 .0 .0 .0 .0 .0 .0 .0 .0 .0 .0 .0 .0 .0 .1), ne-eqb op 4 (n .0 .0 .0 .0 .0 .0 .0 .0 .0 .0 .0 .0 .0 .0 .1), ne-eqb op 5 (n .0 .0 .0 .0 .0 .0 .0 .0 .0 .0 .0 .0 .0 .1), ne-eqb op 6 (n .0 .0 .0 .0 .0 .0 .0 .0 .0 .0 .0 .0 .1), ne-eqb op 7 (n .0 .0 .0 .0 .0 .0 .0 .0 .0 .0 .0 .1), ne-eqb op 8 (n .0 .0 .0 .0 .0 .0 .0 .0 .0 .0 .1), ne-eqb op 9 (n .0 .0 .0 .0 .0 .0 .0 .0 .0 .1), ne-eqb op 10 (n .0 .0 .0 .0 .0 .0 .0 .0 .1), ne-eqb op 11 (n .0 .0 .0 .0 .0 .0 .0 .1), ne-eqb op 12 (n .0 .0 .0 .0 .0 .0 .1), ne-eqb op 13 (n .0 .0 .0 .0 .0 .1), ne-eqb op 14 (n .0 .0 .0 .0 .1), ne-eqb op 15 (n .0 .0 .0 .1), ne-eqb op 16 (n .0 .0 .1), ne-eqb op 17 (n .0 .1), ne-eqb op 18 (n .1)) refl
 
 pub ask-of-spec : {M : Type 1} → statement M
 ask-of-spec =
-    tie.close (tie.spec returns returns-2 returns-3 returns-4 returns-5 returns-6 returns-7 returns-8 returns-9 returns-10 returns-11 returns-12 returns-13 returns-14 returns-15 returns-16)
+    tie.close (tie.spec returns returns-2 returns-3 returns-4 returns-5 returns-6 returns-7 returns-8 returns-9 returns-10 returns-11 returns-12 returns-13 returns-14 returns-15 returns-16 returns-17 returns-18 returns-19 returns-20)

@@ -55,6 +55,7 @@ use denote.Triple.Clauses.{ensured, lasts}
 use Rattle.store.specs.declared.Entry.{Entry}
 use Rattle.store.specs.declared.Gathered.{Gathered}
 use Rattle.store.specs.Lending.{noEntry, nothing as none, entered, enteredAll, gathered}
+use Rattle.store.proofs.Gathering.{Capped, Onward, either, onward-end, onward-next}
 use Rattle.store.proofs.Entry as R
 use Rattle.store.proofs.Entry.Laws as R′
 use Rattle.store.proofs.Gathered as S
@@ -76,27 +77,6 @@ use Rattle.store.proofs.gather as f
 use Rattle.store.proofs.gather.Statement as stated
 use Rattle.store.proofs.gather.Code as code
 use Rattle.store.proofs.gather.Code.Mir as mir
-
--- ---- the plain mathematics
-either : (i n : ℕ) (y : Bool) → ltb i n ≡ y → (i < n) ⊎ (n ≤ i)
-either i n true e = inl (ltb-true i n e)
-either i n false e = inr (ltb-false i n e)
-
--- what `at_most_eight` says of its result, at n entries
-abbrev Capped : ℕ → ℕ → Type 0
-Capped n m = (m ≤ n) × (m ≤ 8) × (m < 8 → m ≡ n)
-
--- so many entries are taken
-taken : (ys : List Entry) (m : ℕ) → Capped (length ys) m → length (take 8 ys) ≡ m
-taken ys m c = ⊎-elim (λ h. ap length (take-all 8 ys (omega (arith, c .2 h))) ∙ sym (c .2 h)) (λ h. length-take-le 8 ys (omega (arith, c .0)) ∙ omega (arith, c .1)) (either m 8 (ltb m 8) refl)
-
-step-all : (zs : List Entry) (i : ℕ) (s : Gathered) → i < length zs → enteredAll (dropped i zs) i s ≡ enteredAll (dropped (i + 1) zs) (i + 1) (entered s i (getD zs i noEntry))
-unfolding enteredAll
-step-all zs i s h = ap (λ (l : List Entry). enteredAll l i s) (drop-cons zs i noEntry h) ∙ ap (λ (k : ℕ). enteredAll (dropped k zs) (i + 1) (entered s i (getD zs i noEntry))) (sym (add-one i))
-
-end-all : (zs : List Entry) (i : ℕ) (s : Gathered) → length zs ≤ i → enteredAll (dropped i zs) i s ≡ s
-unfolding enteredAll
-end-all zs i s h = rw (drop-of-length-le zs {i = i} h)
 
 -- ---- the walk
 abbrev stayed : Stays (f.ended .signature .params) (f.ended .kept)
@@ -204,7 +184,7 @@ module _ {M : Type 1} (𝓤 : URA M) (H : Heap 𝓤) (A : Atoms 𝓤) (W : Given
           v : Val
           within : i ≤ m
           is : Is S.the-row s (v ∷ [])
-          left : enteredAll (dropped i (take 8 ys)) i s ≡ all
+          left : Onward ys i s
 
         abbrev less : St → St → Type 0
         less t u = m - t .i < m - u .i
@@ -213,13 +193,11 @@ module _ {M : Type 1} (𝓤 : URA M) (H : Heap 𝓤) (A : Atoms 𝓤) (W : Given
         less-wf = InvImage·wf (λ (t : St). m - t .i) (Nat·lt-wfRel .wf)
 
         -- what is left, after a turn and at the end
-        goes : (t : St) → t .i < m → (r : Gathered) → r ≡ entered (t .s) (t .i) (getD ys (t .i) noEntry) → enteredAll (dropped (t .i + 1) (take 8 ys)) (t .i + 1) r ≡ all
-        goes t small r e =
-            ap (enteredAll (dropped (t .i + 1) (take 8 ys)) (t .i + 1)) (e ∙ ap (entered (t .s) (t .i)) (sym (getD-take 8 ys (t .i) noEntry (omega (arith, c .1)))))
-            ∙ sym (step-all (take 8 ys) (t .i) (t .s) (omega (arith, taken ys m c))) ∙ t .left
+        goes : (t : St) → t .i < m → (r : Gathered) → r ≡ entered (t .s) (t .i) (getD ys (t .i) noEntry) → Onward ys (t .i + 1) r
+        goes t small r e = onward-next ys m c (t .i) (t .s) (t .left) small r e
 
         stops : (t : St) → m ≤ t .i → t .s ≡ all
-        stops t big = sym (end-all (take 8 ys) (t .i) (t .s) (omega (arith, taken ys m c))) ∙ t .left
+        stops t big = onward-end ys m c (t .i) (t .s) (t .left) big
 
         -- where a turn begins
         abbrev Items : ℕ → Val → List (Item 𝓤)

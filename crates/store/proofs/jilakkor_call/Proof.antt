@@ -1,4 +1,4 @@
--- `lent::jilakkor_call` meets its contract: a walk of its MIR, by hand. The counters' borrow is opened and the record copied out; it is passed by value to `call_counted`, with the five loans, which are not needed again, the operation and the numbers.
+-- `lent::jilakkor_call` meets its contract: a walk of its MIR, by hand. The counters' borrow is opened and the record copied out; it is passed by value to `call_counted`, with the six loans, which are not needed again, the operation and the numbers.
 -- The counters that come back are stored, the refusal's number is returned, and the borrow is closed.
 -- Of `call_counted` the proof knows only that it meets its contract. What that says is passed on as it stands, so no clause is named here. Assumes nothing.
 use mathlib.Core.Path.{refl, ap}
@@ -84,16 +84,16 @@ slice x = sliceVal (x .ptr) (length (x .now))
 abbrev Counting : {M : Type 1} (𝓤 : URA M) (H : Heap 𝓤) (A : Atoms 𝓤) (at-mem : Memory → SProp 𝓤) (run : Routine → Fun 𝓤) → Contract 𝓤
 Counting 𝓤 H A at-mem run = tripleOf 𝓤 H A g.signature (g.spec 𝓤 H A at-mem run)
 
-module _ {M : Type 1} (𝓤 : URA M) (H : Heap 𝓤) (A : Atoms 𝓤) (W : Given 𝓤 H A) (at-mem : Memory → SProp 𝓤) (run : Routine → Fun 𝓤) (κ : Lft) (ρ : Lfts 6) (q : Share) (p : Shares 6) (b o : ℕ) (γ : GName) (h : Counters) (words records memory queue answer : RefT (List ℕ)) (op : ℕ) (numbers : RefT (List ℕ)) where
+module _ {M : Type 1} (𝓤 : URA M) (H : Heap 𝓤) (A : Atoms 𝓤) (W : Given 𝓤 H A) (at-mem : Memory → SProp 𝓤) (run : Routine → Fun 𝓤) (κ : Lft) (ρ : Lfts 7) (q : Share) (p : Shares 7) (b o : ℕ) (γ : GName) (h : Counters) (words records memory queue answer : RefT (List ℕ)) (op : ℕ) (numbers bytes : RefT (List ℕ)) where
   -- the parameters after the counters: `call_counted` has the same
   abbrev rows : List RattleType
-  rows = MutSlice (named 1) (ρ .0) u64 ∷ MutSlice (named 2) (ρ .1 .0) u8 ∷ MutSlice (named 3) (ρ .1 .1 .0) u8 ∷ MutSlice (named 4) (ρ .1 .1 .1 .0) u64 ∷ MutSlice (named 5) (ρ .1 .1 .1 .1 .0) u64 ∷ u64 ∷ ShrSlice (named 6) (ρ .1 .1 .1 .1 .1 .0) u64 ∷ []
+  rows = MutSlice (named 1) (ρ .0) u64 ∷ MutSlice (named 2) (ρ .1 .0) u8 ∷ MutSlice (named 3) (ρ .1 .1 .0) u8 ∷ MutSlice (named 4) (ρ .1 .1 .1 .0) u64 ∷ MutSlice (named 5) (ρ .1 .1 .1 .1 .0) u64 ∷ u64 ∷ ShrSlice (named 6) (ρ .1 .1 .1 .1 .1 .0) u64 ∷ MutSlice (named 7) (ρ .1 .1 .1 .1 .1 .1 .0) u8 ∷ []
 
   abbrev xs : Denots rows
-  xs = (words, (records, (memory, (queue, (answer, (op, (numbers, tt)))))))
+  xs = (words, (records, (memory, (queue, (answer, (op, (numbers, (bytes, tt))))))))
 
   abbrev vss : Valss rows
-  vss = (slice words ∷ [], (slice records ∷ [], (slice memory ∷ [], (slice queue ∷ [], (slice answer ∷ [], (vint w64 op ∷ [], (slice numbers ∷ [], tt)))))))
+  vss = (slice words ∷ [], (slice records ∷ [], (slice memory ∷ [], (slice queue ∷ [], (slice answer ∷ [], (vint w64 op ∷ [], (slice numbers ∷ [], (slice bytes ∷ [], tt))))))))
 
   abbrev x : Args f.signature (κ, ρ)
   x = (record { ptr = (b, o); name = γ; now = h }, xs)
@@ -114,7 +114,7 @@ module _ {M : Type 1} (𝓤 : URA M) (H : Heap 𝓤) (A : Atoms 𝓤) (W : Given
 
   -- its tokens, the last values of what it was given, what is said of them, and what it ensures
   abbrev Toks : SProp 𝓤
-  Toks = toks 𝓤 A 6 ρ p
+  Toks = toks 𝓤 A 7 ρ p
 
   abbrev Last : Type 0
   Last = Lasts g.ended ρ (h, xs)
@@ -129,61 +129,63 @@ module _ {M : Type 1} (𝓤 : URA M) (H : Heap 𝓤) (A : Atoms 𝓤) (W : Given
       → ent 𝓤 (⋆ 𝓤 H A (‵ (fobs γ (T.the-row .coded .code (r .counters))) ∷ ‵ (fbor κ (Body (mem T.the-row) b o γ)) ∷ ‵ (flft κ q) ∷ raw Toks ∷ ‵ (Said ws) ∷ raw (Ens r ws) ∷ [])) (Post (vint w32 (r .number)))
   exits r ws fits =
       qed W (‵ (fobs γ (T.the-row .coded .code (r .counters))) ∷ ‵ (fbor κ (Body (mem T.the-row) b o γ)) ∷ ‵ (flft κ q) ∷ raw Toks ∷ ‵ (Said ws) ∷ raw (Ens r ws) ∷ []) ∵
-      suffices ! _ (ends-at 𝓤 H A f.ended stayed (f.clauses 𝓤 H A at-mem run) W (((κ, ρ), (q, p), tt, x, at), tt) (vint w32 (r .number)) (r .number) (r .counters, ws .1) (tt, (tt, (tt, (tt, (tt, (tt, (tt, (tt, tt))))))))) $
+      suffices ! _ (ends-at 𝓤 H A f.ended stayed (f.clauses 𝓤 H A at-mem run) W (((κ, ρ), (q, p), tt, x, at), tt) (vint w32 (r .number)) (r .number) (r .counters, ws .1) (tt, (tt, (tt, (tt, (tt, (tt, (tt, (tt, (tt, tt)))))))))) $
       feqI ! (List Val) (vptr b o ∷ []) (vptr b o ∷ []) refl $ fjoin3 ! $ move ! (3 ∷ []) $ fsplit ! $ drop ! $ move ! (1 ∷ 0 ∷ []) $ fjoin ! $
       owned ! u32 (Is u32) (uint-makes 𝓤 H A W w32) (r .number) _ (refl, fits) $ move ! (1 ∷ 0 ∷ []) $ join ! $ move ! (1 ∷ 2 ∷ []) $ join ! $ join ! $ frame ! $ done !
 
   module _ (C : Calls 𝓤 H) (Λ : Loops 𝓤 H) (fm : FmC 𝓤 H (W .laws) C) (known : Triple 𝓤 (C #store·call-counted) (Counting 𝓤 H A at-mem run)) where
-    walk : length (words .now) < 2 ^ 64 → length (records .now) < 2 ^ 64 → length (memory .now) < 2 ^ 64 → length (queue .now) < 2 ^ 64 → length (answer .now) < 2 ^ 64 → op < 2 ^ 64 → length (numbers .now) < 2 ^ 64
-        → ent 𝓤 (sep 𝓤 (onEntry 𝓤 H A f.signature (κ, ρ) (q, p) x at) Req) (WpFn 𝓤 H C Λ code.function (vptr b o ∷ slice words ∷ slice records ∷ slice memory ∷ slice queue ∷ slice answer ∷ vint w64 op ∷ slice numbers ∷ []) Post)
-    walk fits-w fits-r fits-m fits-q fits-a fits-o fits-n =
-        qed W ((((‵ (flft κ q) ⊛ raw Toks) ⊛ ‵ (owns (MutRef (named 0) κ T.the-row ∷ rows) x at)) ⊛ raw Req) ∷ []) ∵ enter ! C Λ code.function (vptr b o ∷ slice words ∷ slice records ∷ slice memory ∷ slice queue ∷ slice answer ∷ vint w64 op ∷ slice numbers ∷ []) _ $
-        alloc1 ! (λ l₀. alloc1 ! (λ l₁. alloc1 ! (λ l₂. alloc1 ! (λ l₃. alloc1 ! (λ l₄. alloc1 ! (λ l₅. alloc1 ! (λ l₆. alloc1 ! (λ l₇. alloc1 ! (λ l₈. alloc1 ! (λ l₉. alloc1 ! (λ l₁₀. alloc1 ! (λ l₁₁. alloc1 ! (λ l₁₂. alloc1 ! (λ l₁₃. alloc1 ! (λ l₁₄. alloc1 ! (λ l₁₅. alloc1 ! (λ l₁₆. alloc1 ! (λ l₁₇. alloc1 ! (λ l₁₈. alloc1 ! (λ l₁₉. alloc1 ! (λ l₂₀. alloc0 ! $ params1 ! $
-        pass1 ! (init ! 38 refl (tt, tt)) $ pass1 ! (init ! 36 refl (tt, (tt, (record { fits = fits-w }, tt)))) $ pass1 ! (init ! 34 refl (tt, (tt, (record { fits = fits-r }, tt)))) $ pass1 ! (init ! 32 refl (tt, (tt, (record { fits = fits-m }, tt)))) $ pass1 ! (init ! 30 refl (tt, (tt, (record { fits = fits-q }, tt)))) $ pass1 ! (init ! 28 refl (tt, (tt, (record { fits = fits-a }, tt)))) $ pass1 ! (init ! 26 refl (tt, record { fits = fits-o })) $ pass1 ! (init ! 24 refl (tt, (tt, (record { fits = fits-n }, tt)))) $ pass0 ! $
+    walk : length (words .now) < 2 ^ 64 → length (records .now) < 2 ^ 64 → length (memory .now) < 2 ^ 64 → length (queue .now) < 2 ^ 64 → length (answer .now) < 2 ^ 64 → op < 2 ^ 64 → length (numbers .now) < 2 ^ 64 → length (bytes .now) < 2 ^ 64
+        → ent 𝓤 (sep 𝓤 (onEntry 𝓤 H A f.signature (κ, ρ) (q, p) x at) Req) (WpFn 𝓤 H C Λ code.function (vptr b o ∷ slice words ∷ slice records ∷ slice memory ∷ slice queue ∷ slice answer ∷ vint w64 op ∷ slice numbers ∷ slice bytes ∷ []) Post)
+    walk fits-w fits-r fits-m fits-q fits-a fits-o fits-n fits-b =
+        qed W ((((‵ (flft κ q) ⊛ raw Toks) ⊛ ‵ (owns (MutRef (named 0) κ T.the-row ∷ rows) x at)) ⊛ raw Req) ∷ []) ∵ enter ! C Λ code.function (vptr b o ∷ slice words ∷ slice records ∷ slice memory ∷ slice queue ∷ slice answer ∷ vint w64 op ∷ slice numbers ∷ slice bytes ∷ []) _ $
+        alloc1 ! (λ l₀. alloc1 ! (λ l₁. alloc1 ! (λ l₂. alloc1 ! (λ l₃. alloc1 ! (λ l₄. alloc1 ! (λ l₅. alloc1 ! (λ l₆. alloc1 ! (λ l₇. alloc1 ! (λ l₈. alloc1 ! (λ l₉. alloc1 ! (λ l₁₀. alloc1 ! (λ l₁₁. alloc1 ! (λ l₁₂. alloc1 ! (λ l₁₃. alloc1 ! (λ l₁₄. alloc1 ! (λ l₁₅. alloc1 ! (λ l₁₆. alloc1 ! (λ l₁₇. alloc1 ! (λ l₁₈. alloc1 ! (λ l₁₉. alloc1 ! (λ l₂₀. alloc1 ! (λ l₂₁. alloc1 ! (λ l₂₂. alloc1 ! (λ l₂₃. alloc0 ! $ params1 ! $
+        pass1 ! (init ! 44 refl (tt, tt)) $ pass1 ! (init ! 42 refl (tt, (tt, (record { fits = fits-w }, tt)))) $ pass1 ! (init ! 40 refl (tt, (tt, (record { fits = fits-r }, tt)))) $ pass1 ! (init ! 38 refl (tt, (tt, (record { fits = fits-m }, tt)))) $ pass1 ! (init ! 36 refl (tt, (tt, (record { fits = fits-q }, tt)))) $ pass1 ! (init ! 34 refl (tt, (tt, (record { fits = fits-a }, tt)))) $ pass1 ! (init ! 32 refl (tt, record { fits = fits-o })) $ pass1 ! (init ! 30 refl (tt, (tt, (record { fits = fits-n }, tt)))) $ pass1 ! (init ! 28 refl (tt, (tt, (record { fits = fits-b }, tt)))) $ pass0 ! $
         -- the borrow is opened
-        move ! (42 ∷ []) $ split ! $ split ! $ split ! $ move ! (2 ∷ []) $ fsplit ! $ fsplit3 ! $ drop ! $ move ! (0 ∷ 1 ∷ 3 ∷ []) $
+        move ! (48 ∷ []) $ split ! $ split ! $ split ! $ move ! (2 ∷ []) $ fsplit ! $ fsplit3 ! $ drop ! $ move ! (0 ∷ 1 ∷ 3 ∷ []) $
         opens ! tt T.the-row {h = h} b o (λ vs. spelt ! T.the-row (Is T.the-row) (shows 𝓤 H A T.the-row) vals (LL.tells T.the-type T′.the-laws) fullShare h vs b o $
         move ! (1 ∷ []) $ peeks ! T.the-row (Is T.the-row) (shows 𝓤 H A T.the-row) h (vals h) (λ was. move ! (1 ∷ 0 ∷ []) $
-        -- [the cell; what it owns; the open borrow; obs; auth; what the other parameters own; their tokens; what is asked; _20; …; _19; …; and so on to _1; …; room for _0; …]
-        assigns ! (of-opd ! (load ! (from ! (hop ! (look ! 46 refl) (stop !))) (look-raw ! 0 refl))) (from ! (stop !)) (init ! 28 refl (LL.lawful T.the-type T′.the-laws 𝓤 H A W .typed h _ was .0)) $
+        -- [the cell; what it owns; the open borrow; obs; auth; what the other parameters own; their tokens; what is asked; _23; …; _22; …; and so on to _1; …; room for _0; …]
+        assigns ! (of-opd ! (load ! (from ! (hop ! (look ! 52 refl) (stop !))) (look-raw ! 0 refl))) (from ! (stop !)) (init ! 32 refl (LL.lawful T.the-type T′.the-laws 𝓤 H A W .typed h _ was .0)) $
         -- each loan is lent on: its pointer and count make a slice anew
-        assigns ! (addr ! (from ! (fld ! refl (hop ! (look-in ! 44 (sub ! 0 refl (whole !))) (stop !))))) (from ! (stop !)) (init ! 26 refl (tt, tt)) $
-        assigns ! (agg ! (and-then ! (load ! (from ! (stop !)) (look ! 26 refl)) (and-then ! (load ! (from ! (fld ! refl (stop !))) (look-in ! 44 (sub ! 1 refl (whole !)))) (no-more !)))) (from ! (stop !)) (init ! 24 refl (tt, (tt, (record { fits = fits-w }, tt)))) $
-        assigns ! (addr ! (from ! (fld ! refl (hop ! (look-in ! 42 (sub ! 0 refl (whole !))) (stop !))))) (from ! (stop !)) (init ! 22 refl (tt, tt)) $
-        assigns ! (agg ! (and-then ! (load ! (from ! (stop !)) (look ! 22 refl)) (and-then ! (load ! (from ! (fld ! refl (stop !))) (look-in ! 42 (sub ! 1 refl (whole !)))) (no-more !)))) (from ! (stop !)) (init ! 20 refl (tt, (tt, (record { fits = fits-r }, tt)))) $
-        assigns ! (addr ! (from ! (fld ! refl (hop ! (look-in ! 40 (sub ! 0 refl (whole !))) (stop !))))) (from ! (stop !)) (init ! 18 refl (tt, tt)) $
-        assigns ! (agg ! (and-then ! (load ! (from ! (stop !)) (look ! 18 refl)) (and-then ! (load ! (from ! (fld ! refl (stop !))) (look-in ! 40 (sub ! 1 refl (whole !)))) (no-more !)))) (from ! (stop !)) (init ! 16 refl (tt, (tt, (record { fits = fits-m }, tt)))) $
-        assigns ! (addr ! (from ! (fld ! refl (hop ! (look-in ! 38 (sub ! 0 refl (whole !))) (stop !))))) (from ! (stop !)) (init ! 14 refl (tt, tt)) $
-        assigns ! (agg ! (and-then ! (load ! (from ! (stop !)) (look ! 14 refl)) (and-then ! (load ! (from ! (fld ! refl (stop !))) (look-in ! 38 (sub ! 1 refl (whole !)))) (no-more !)))) (from ! (stop !)) (init ! 12 refl (tt, (tt, (record { fits = fits-q }, tt)))) $
+        assigns ! (addr ! (from ! (fld ! refl (hop ! (look-in ! 50 (sub ! 0 refl (whole !))) (stop !))))) (from ! (stop !)) (init ! 30 refl (tt, tt)) $
+        assigns ! (agg ! (and-then ! (load ! (from ! (stop !)) (look ! 30 refl)) (and-then ! (load ! (from ! (fld ! refl (stop !))) (look-in ! 50 (sub ! 1 refl (whole !)))) (no-more !)))) (from ! (stop !)) (init ! 28 refl (tt, (tt, (record { fits = fits-w }, tt)))) $
+        assigns ! (addr ! (from ! (fld ! refl (hop ! (look-in ! 48 (sub ! 0 refl (whole !))) (stop !))))) (from ! (stop !)) (init ! 26 refl (tt, tt)) $
+        assigns ! (agg ! (and-then ! (load ! (from ! (stop !)) (look ! 26 refl)) (and-then ! (load ! (from ! (fld ! refl (stop !))) (look-in ! 48 (sub ! 1 refl (whole !)))) (no-more !)))) (from ! (stop !)) (init ! 24 refl (tt, (tt, (record { fits = fits-r }, tt)))) $
+        assigns ! (addr ! (from ! (fld ! refl (hop ! (look-in ! 46 (sub ! 0 refl (whole !))) (stop !))))) (from ! (stop !)) (init ! 22 refl (tt, tt)) $
+        assigns ! (agg ! (and-then ! (load ! (from ! (stop !)) (look ! 22 refl)) (and-then ! (load ! (from ! (fld ! refl (stop !))) (look-in ! 46 (sub ! 1 refl (whole !)))) (no-more !)))) (from ! (stop !)) (init ! 20 refl (tt, (tt, (record { fits = fits-m }, tt)))) $
+        assigns ! (addr ! (from ! (fld ! refl (hop ! (look-in ! 44 (sub ! 0 refl (whole !))) (stop !))))) (from ! (stop !)) (init ! 18 refl (tt, tt)) $
+        assigns ! (agg ! (and-then ! (load ! (from ! (stop !)) (look ! 18 refl)) (and-then ! (load ! (from ! (fld ! refl (stop !))) (look-in ! 44 (sub ! 1 refl (whole !)))) (no-more !)))) (from ! (stop !)) (init ! 16 refl (tt, (tt, (record { fits = fits-q }, tt)))) $
+        assigns ! (addr ! (from ! (fld ! refl (hop ! (look-in ! 42 (sub ! 0 refl (whole !))) (stop !))))) (from ! (stop !)) (init ! 14 refl (tt, tt)) $
+        assigns ! (agg ! (and-then ! (load ! (from ! (stop !)) (look ! 14 refl)) (and-then ! (load ! (from ! (fld ! refl (stop !))) (look-in ! 42 (sub ! 1 refl (whole !)))) (no-more !)))) (from ! (stop !)) (init ! 12 refl (tt, (tt, (record { fits = fits-a }, tt)))) $
         assigns ! (addr ! (from ! (fld ! refl (hop ! (look-in ! 36 (sub ! 0 refl (whole !))) (stop !))))) (from ! (stop !)) (init ! 10 refl (tt, tt)) $
-        assigns ! (agg ! (and-then ! (load ! (from ! (stop !)) (look ! 10 refl)) (and-then ! (load ! (from ! (fld ! refl (stop !))) (look-in ! 36 (sub ! 1 refl (whole !)))) (no-more !)))) (from ! (stop !)) (init ! 8 refl (tt, (tt, (record { fits = fits-a }, tt)))) $
+        assigns ! (agg ! (and-then ! (load ! (from ! (stop !)) (look ! 10 refl)) (and-then ! (load ! (from ! (fld ! refl (stop !))) (look-in ! 36 (sub ! 1 refl (whole !)))) (no-more !)))) (from ! (stop !)) (init ! 8 refl (tt, (tt, (record { fits = fits-b }, tt)))) $
         move ! (1 ∷ 5 ∷ []) $ fjoin ! $ move ! (5 ∷ 0 ∷ []) $ join ! $ move ! (0 ∷ 5 ∷ []) $ join ! $ use1 W (raw (Counting 𝓤 H A at-mem run .pre to)) (id⊢ 𝓤 _) $
-        -- [pre; the cell; the open borrow; obs; auth; _20; …]
-        calls-at ! fm (Counting 𝓤 H A at-mem run) known to (and-then ! (load ! (from ! (stop !)) (look ! 25 refl)) (and-then ! (load ! (from ! (stop !)) (look ! 21 refl)) (and-then ! (load ! (from ! (stop !)) (look ! 17 refl)) (and-then ! (load ! (from ! (stop !)) (look ! 13 refl)) (and-then ! (load ! (from ! (stop !)) (look ! 9 refl)) (and-then ! (load ! (from ! (stop !)) (look ! 5 refl)) (and-then ! (load ! (from ! (stop !)) (look ! 31 refl)) (and-then ! (load ! (from ! (stop !)) (look ! 29 refl)) (no-more !))))))))) (λ v.
+        -- [pre; the cell; the open borrow; obs; auth; _23; …]
+        calls-at ! fm (Counting 𝓤 H A at-mem run) known to (and-then ! (load ! (from ! (stop !)) (look ! 29 refl)) (and-then ! (load ! (from ! (stop !)) (look ! 25 refl)) (and-then ! (load ! (from ! (stop !)) (look ! 21 refl)) (and-then ! (load ! (from ! (stop !)) (look ! 17 refl)) (and-then ! (load ! (from ! (stop !)) (look ! 13 refl)) (and-then ! (load ! (from ! (stop !)) (look ! 9 refl)) (and-then ! (load ! (from ! (stop !)) (look ! 37 refl)) (and-then ! (load ! (from ! (stop !)) (look ! 35 refl)) (and-then ! (load ! (from ! (stop !)) (look ! 5 refl)) (no-more !)))))))))) (λ v.
         use1 W (later (some (λ (r : Counted). (raw Toks ⊛ ‵ (S.the-row .own r (v ∷ []))) ⊛ some (λ (ws : Last). ‵ (Said ws) ⊛ raw (Ens r ws))))) (id⊢ 𝓤 _) $ await ! tt $ pick ! (λ r. split ! $ move ! (1 ∷ []) $ pick ! (λ ws.
         split ! $ move ! (2 ∷ []) $ split ! $ move ! (1 ∷ []) $ peeks ! S.the-row (Is S.the-row) (shows 𝓤 H A S.the-row) r (v ∷ []) (λ is. drop ! $
-        -- [the tokens; the last values; what is ensured; the cell; the open borrow; obs; auth; _20; …]
-        land ! (from ! (stop !)) (init ! 29 refl (LL.lawful S.the-type S′.the-laws 𝓤 H A W .typed r _ is .0)) $
-        rewrite ! 29 (λ (u : Val). ‵ (fat fullShare S′.mir l₉ 0 u)) (ap only (LL.tells S.the-type S′.the-laws r _ is)) refl $
-        assigns ! (of-opd ! (load ! (from ! (fld ! refl (stop !))) (look-in ! 29 (sub ! 0 refl (whole !))))) (from ! (hop ! (look ! 45 refl) (stop !))) (store-raw ! 3 refl (LL.lawful T.the-type T′.the-laws 𝓤 H A W .typed (r .counters) _ (LL.owed S.the-type S′.the-laws r _ is .0) .0)) $
-        assigns ! (of-opd ! (load ! (from ! (fld ! refl (stop !))) (look-in ! 29 (sub ! 1 refl (whole !))))) (from ! (stop !)) (init ! 47 refl (tt, record { fits = LL.owed S.the-type S′.the-laws r _ is .1 .0 .1 })) $
+        -- [the tokens; the last values; what is ensured; the cell; the open borrow; obs; auth; _23; …]
+        land ! (from ! (stop !)) (init ! 33 refl (LL.lawful S.the-type S′.the-laws 𝓤 H A W .typed r _ is .0)) $
+        rewrite ! 33 (λ (u : Val). ‵ (fat fullShare S′.mir l₁₀ 0 u)) (ap only (LL.tells S.the-type S′.the-laws r _ is)) refl $
+        assigns ! (of-opd ! (load ! (from ! (fld ! refl (stop !))) (look-in ! 33 (sub ! 0 refl (whole !))))) (from ! (hop ! (look ! 51 refl) (stop !))) (store-raw ! 3 refl (LL.lawful T.the-type T′.the-laws 𝓤 H A W .typed (r .counters) _ (LL.owed S.the-type S′.the-laws r _ is .0) .0)) $
+        assigns ! (of-opd ! (load ! (from ! (fld ! refl (stop !))) (look-in ! 33 (sub ! 1 refl (whole !))))) (from ! (stop !)) (init ! 53 refl (tt, record { fits = LL.owed S.the-type S′.the-laws r _ is .1 .0 .1 })) $
         owned ! T.the-row (Is T.the-row) ((LL.makes T.the-type T′.the-plain) 𝓤 H A) (r .counters) (vals (r .counters)) (LL.owed S.the-type S′.the-laws r _ is .0) $ move ! (4 ∷ 0 ∷ 5 ∷ 6 ∷ 7 ∷ []) $
         closes ! tt T.the-row (r .counters) (vals (r .counters)) b o $
-        -- [obs; the borrow; its token; the other tokens; the last values; what is ensured; _20; …]
-        returns ! (look ! 46 refl) $ forget ! 6 refl $ forget ! 8 refl $ forget ! 10 refl $ forget ! 12 refl $ forget ! 14 refl $ forget ! 16 refl $ forget ! 18 refl $ forget ! 20 refl $ forget ! 22 refl $ forget ! 24 refl $ forget ! 26 refl $ forget ! 28 refl $ forget ! 30 refl $ forget ! 32 refl $ forget ! 34 refl $ forget ! 36 refl $ forget ! 38 refl $ forget ! 40 refl $ forget ! 42 refl $ forget ! 44 refl $ forget ! 46 refl $
-        move ! (46 ∷ 47 ∷ []) $ free1 ! $ move ! (44 ∷ 45 ∷ []) $ free1 ! $ move ! (42 ∷ 43 ∷ []) $ free1 ! $ move ! (40 ∷ 41 ∷ []) $ free1 ! $ move ! (38 ∷ 39 ∷ []) $ free1 ! $ move ! (36 ∷ 37 ∷ []) $ free1 ! $ move ! (34 ∷ 35 ∷ []) $ free1 ! $ move ! (32 ∷ 33 ∷ []) $ free1 ! $ move ! (30 ∷ 31 ∷ []) $ free1 ! $ move ! (28 ∷ 29 ∷ []) $ free1 ! $ move ! (26 ∷ 27 ∷ []) $ free1 ! $ move ! (24 ∷ 25 ∷ []) $ free1 ! $ move ! (22 ∷ 23 ∷ []) $ free1 ! $ move ! (20 ∷ 21 ∷ []) $ free1 ! $ move ! (18 ∷ 19 ∷ []) $ free1 ! $ move ! (16 ∷ 17 ∷ []) $ free1 ! $ move ! (14 ∷ 15 ∷ []) $ free1 ! $ move ! (12 ∷ 13 ∷ []) $ free1 ! $ move ! (10 ∷ 11 ∷ []) $ free1 ! $ move ! (8 ∷ 9 ∷ []) $ free1 ! $ move ! (6 ∷ 7 ∷ []) $ free1 ! $ free0 ! $
-        keep ! (0 ∷ 1 ∷ 2 ∷ 3 ∷ 4 ∷ 5 ∷ []) $ by ! (exits r ws (LL.owed S.the-type S′.the-laws r _ is .1 .0 .1)))))))))))))))))))))))))))))
+        -- [obs; the borrow; its token; the other tokens; the last values; what is ensured; _23; …]
+        returns ! (look ! 52 refl) $ forget ! 6 refl $ forget ! 8 refl $ forget ! 10 refl $ forget ! 12 refl $ forget ! 14 refl $ forget ! 16 refl $ forget ! 18 refl $ forget ! 20 refl $ forget ! 22 refl $ forget ! 24 refl $ forget ! 26 refl $ forget ! 28 refl $ forget ! 30 refl $ forget ! 32 refl $ forget ! 34 refl $ forget ! 36 refl $ forget ! 38 refl $ forget ! 40 refl $ forget ! 42 refl $ forget ! 44 refl $ forget ! 46 refl $ forget ! 48 refl $ forget ! 50 refl $ forget ! 52 refl $
+        move ! (52 ∷ 53 ∷ []) $ free1 ! $ move ! (50 ∷ 51 ∷ []) $ free1 ! $ move ! (48 ∷ 49 ∷ []) $ free1 ! $ move ! (46 ∷ 47 ∷ []) $ free1 ! $ move ! (44 ∷ 45 ∷ []) $ free1 ! $ move ! (42 ∷ 43 ∷ []) $ free1 ! $ move ! (40 ∷ 41 ∷ []) $ free1 ! $ move ! (38 ∷ 39 ∷ []) $ free1 ! $ move ! (36 ∷ 37 ∷ []) $ free1 ! $ move ! (34 ∷ 35 ∷ []) $ free1 ! $ move ! (32 ∷ 33 ∷ []) $ free1 ! $ move ! (30 ∷ 31 ∷ []) $ free1 ! $ move ! (28 ∷ 29 ∷ []) $ free1 ! $ move ! (26 ∷ 27 ∷ []) $ free1 ! $ move ! (24 ∷ 25 ∷ []) $ free1 ! $ move ! (22 ∷ 23 ∷ []) $ free1 ! $ move ! (20 ∷ 21 ∷ []) $ free1 ! $ move ! (18 ∷ 19 ∷ []) $ free1 ! $ move ! (16 ∷ 17 ∷ []) $ free1 ! $ move ! (14 ∷ 15 ∷ []) $ free1 ! $ move ! (12 ∷ 13 ∷ []) $ free1 ! $ move ! (10 ∷ 11 ∷ []) $ free1 ! $ move ! (8 ∷ 9 ∷ []) $ free1 ! $ move ! (6 ∷ 7 ∷ []) $ free1 ! $ free0 ! $
+        keep ! (0 ∷ 1 ∷ 2 ∷ 3 ∷ 4 ∷ 5 ∷ []) $ by ! (exits r ws (LL.owed S.the-type S′.the-laws r _ is .1 .0 .1))))))))))))))))))))))))))))))))
 
 module _ {M : Type 1} (𝓤 : URA M) (H : Heap 𝓤) (A : Atoms 𝓤) (W : Given 𝓤 H A) (at-mem : Memory → SProp 𝓤) (run : Routine → Fun 𝓤) (𝓣 : Tables 𝓤 H) (known : Triple 𝓤 (𝓣 .C #store·call-counted) (Counting 𝓤 H A at-mem run)) where
   call-walks : Walks 𝓤 H A f.ended stayed (WpFn 𝓤 H (𝓣 .C) (𝓣 .Λ) code.function) (f.clauses 𝓤 H A at-mem run)
   call-walks = walked 𝓤 H A f.ended stayed (f.clauses 𝓤 H A at-mem run) (WpFn 𝓤 H (𝓣 .C) (𝓣 .Λ) code.function)
-      (λ κs. (ptr-vals, (slice-vals, (slice-vals, (slice-vals, (slice-vals, (slice-vals, (uint-vals w64, (slice-vals, tt)))))))))
-      (λ κs. (mut-tells (named 0) (κs .0) T.the-row, (mut-slice-tells (named 1) (κs .1 .0) u64, (mut-slice-tells (named 2) (κs .1 .1 .0) u8, (mut-slice-tells (named 3) (κs .1 .1 .1 .0) u8, (mut-slice-tells (named 4) (κs .1 .1 .1 .1 .0) u64, (mut-slice-tells (named 5) (κs .1 .1 .1 .1 .1 .0) u64, (uint-tells w64, (shr-slice-tells (named 6) (κs .1 .1 .1 .1 .1 .1 .0) u64, tt)))))))))
-      (λ κs qs bounds a _ are. walk 𝓤 H A W at-mem run (κs .0) (κs .1) (qs .0) (qs .1) (a .0 .ptr .0) (a .0 .ptr .1) (a .0 .name) (a .0 .now) (a .1 .0) (a .1 .1 .0) (a .1 .1 .1 .0) (a .1 .1 .1 .1 .0) (a .1 .1 .1 .1 .1 .0) (a .1 .1 .1 .1 .1 .1 .0) (a .1 .1 .1 .1 .1 .1 .1 .0) (𝓣 .C) (𝓣 .Λ) (fmOf 𝓤 H (W .laws) 𝓣) known
-      (are .1 .0 .0 .1 .0) (are .1 .1 .0 .0 .1 .0) (are .1 .1 .1 .0 .0 .1 .0) (are .1 .1 .1 .1 .0 .0 .1 .0) (are .1 .1 .1 .1 .1 .0 .0 .1 .0) (are .1 .1 .1 .1 .1 .1 .0 .1) (are .1 .1 .1 .1 .1 .1 .1 .0 .0 .1 .0))
+      (λ κs. (ptr-vals, (slice-vals, (slice-vals, (slice-vals, (slice-vals, (slice-vals, (uint-vals w64, (slice-vals, (slice-vals, tt))))))))))
+      (λ κs. (mut-tells (named 0) (κs .0) T.the-row, (mut-slice-tells (named 1) (κs .1 .0) u64, (mut-slice-tells (named 2) (κs .1 .1 .0) u8, (mut-slice-tells (named 3) (κs .1 .1 .1 .0) u8, (mut-slice-tells (named 4) (κs .1 .1 .1 .1 .0) u64, (mut-slice-tells (named 5) (κs .1 .1 .1 .1 .1 .0) u64, (uint-tells w64, (shr-slice-tells (named 6) (κs .1 .1 .1 .1 .1 .1 .0) u64, (mut-slice-tells (named 7) (κs .1 .1 .1 .1 .1 .1 .1 .0) u8, tt))))))))))
+      (λ κs qs bounds a _ are. walk 𝓤 H A W at-mem run (κs .0) (κs .1) (qs .0) (qs .1) (a .0 .ptr .0) (a .0 .ptr .1) (a .0 .name) (a .0 .now) (a .1 .0) (a .1 .1 .0) (a .1 .1 .1 .0) (a .1 .1 .1 .1 .0) (a .1 .1 .1 .1 .1 .0) (a .1 .1 .1 .1 .1 .1 .0) (a .1 .1 .1 .1 .1 .1 .1 .0) (a .1 .1 .1 .1 .1 .1 .1 .1 .0) (𝓣 .C) (𝓣 .Λ) (fmOf 𝓤 H (W .laws) 𝓣) known
+      (are .1 .0 .0 .1 .0) (are .1 .1 .0 .0 .1 .0) (are .1 .1 .1 .0 .0 .1 .0) (are .1 .1 .1 .1 .0 .0 .1 .0) (are .1 .1 .1 .1 .1 .0 .0 .1 .0) (are .1 .1 .1 .1 .1 .1 .0 .1) (are .1 .1 .1 .1 .1 .1 .1 .0 .0 .1 .0) (are .1 .1 .1 .1 .1 .1 .1 .1 .0 .0 .1 .0))
 
   call-meets : Meets 𝓤 H A f.signature (WpFn 𝓤 H (𝓣 .C) (𝓣 .Λ) code.function) (f.spec 𝓤 H A at-mem run)
-  call-meets = walk-meets 𝓤 H A f.ended stayed W (goes-ref 𝓤 H A W 7 0 tt (plain (λ _. T.the-row)), all-given-up 𝓤 H A W (after-first (f.signature .params)) (f.ended .kept .1)) (f.clauses 𝓤 H A at-mem run) (WpFn 𝓤 H (𝓣 .C) (𝓣 .Λ) code.function) (WpFn-mono 𝓤 H (W .laws) 𝓣 code.function) call-walks
+  call-meets = walk-meets 𝓤 H A f.ended stayed W (goes-ref 𝓤 H A W 8 0 tt (plain (λ _. T.the-row)), all-given-up 𝓤 H A W (after-first (f.signature .params)) (f.ended .kept .1)) (f.clauses 𝓤 H A at-mem run) (WpFn 𝓤 H (𝓣 .C) (𝓣 .Λ) code.function) (WpFn-mono 𝓤 H (W .laws) 𝓣 code.function) call-walks
 
 pub jilakkor-call-spec : {M : Type 1} → stated.statement M
 unfolding code.routine tablesOf
