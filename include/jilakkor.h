@@ -67,7 +67,7 @@ enum jilakkor_refusal {
     JILAKKOR_PAST_THE_END = 14,   /* past the end: range leaves its frame, or its region */
     JILAKKOR_PAGER_LOW = 15,      /* pager low: more given back than is out */
     JILAKKOR_QUEUE_FULL = 16,     /* queue full: no place left in the lent queue */
-    JILAKKOR_BAD_LINE = 17        /* bad line: jilakkor_call, no such op */
+    JILAKKOR_BAD_LINE = 17        /* bad line: jilakkor_call, no such op or map */
 };
 
 /* ---- what a grant asks for, added up */
@@ -315,18 +315,26 @@ enum jilakkor_op {
     JILAKKOR_OP_ROUND = 11,
     JILAKKOR_OP_LEND = 12, /* count */
     JILAKKOR_OP_BACK = 13, /* count */
-    JILAKKOR_OP_LOW = 14
+    JILAKKOR_OP_LOW = 14,
+    JILAKKOR_OP_WRITE = 15, /* address, offset: all of bytes is written there */
+    JILAKKOR_OP_READ = 16,  /* address, offset, len: answered as jilakkor_read does */
+    JILAKKOR_OP_STATS = 17, /* the statistics go to the front of bytes */
+    JILAKKOR_OP_BOOT = 18   /* start, length, kind of each entry of the map */
 };
 
 /*
  * The call of a number, with the counters as a struct of their own and the words
  * without them, JILAKKOR_KEPT_WORDS; missing numbers count as 0. Answers and is
- * refused as the call is; 17, whatever is lent, where there is no such op.
+ * refused as the call is; 17, whatever is lent, where there is no such op, and for
+ * a boot whose numbers do not come in threes. A write reads bytes and the
+ * statistics are written there, which takes JILAKKOR_STATS_BYTES, else 6; every
+ * other call leaves bytes alone, and their length may be 0.
  */
 uint32_t jilakkor_call(struct jilakkor_counters *counters,
                        uint64_t *words, size_t words_len, uint8_t *records, size_t records_len,
                        uint8_t *memory, size_t memory_len, uint64_t *queue, size_t queue_len,
-                       uint64_t *answer, size_t answer_len, uint64_t op, const uint64_t *numbers, size_t numbers_len);
+                       uint64_t *answer, size_t answer_len, uint64_t op, const uint64_t *numbers, size_t numbers_len,
+                       uint8_t *bytes, size_t bytes_len);
 
 #ifdef __cplusplus
 }

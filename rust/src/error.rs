@@ -40,7 +40,7 @@ pub enum Error {
     PagerLow,
     /// 16: no place is left in the queue.
     QueueFull,
-    /// 17: there is no such op.
+    /// 17: there is no such op, or a map's numbers do not come in threes.
     BadLine,
     /// A number that this version does not know.
     Unknown(u32),

@@ -337,6 +337,8 @@ extern "C" {
         op: u64,
         numbers: *const u64,
         numbers_len: usize,
+        bytes: *mut u8,
+        bytes_len: usize,
     ) -> u32;
 }
 
@@ -429,8 +431,15 @@ pub fn boot(map: &[Entry], lent: Lent<'_>) -> u32 {
     }
 }
 
-/// The call of a number, on counters of their own.
-pub fn call(counters: &mut Counters, lent: Lent<'_>, op: u64, numbers: &[u64]) -> u32 {
+/// The call of a number, on counters of their own, with the bytes to write or room
+/// for the statistics.
+pub fn call(
+    counters: &mut Counters,
+    lent: Lent<'_>,
+    op: u64,
+    numbers: &[u64],
+    bytes: &mut [u8],
+) -> u32 {
     let Lent { words, records, memory, queue, answer } = lent;
     // Safety: the counters and all slices are lent for the call.
     unsafe {
@@ -449,6 +458,8 @@ pub fn call(counters: &mut Counters, lent: Lent<'_>, op: u64, numbers: &[u64]) -
             op,
             numbers.as_ptr(),
             numbers.len(),
+            bytes.as_mut_ptr(),
+            bytes.len(),
         )
     }
 }

@@ -299,7 +299,7 @@ fn asked(flags: FrameAllocFlags, layout: Layout) -> [u64; 3] {
     [layout.size() as u64, layout.align() as u64, flags.bits().into()]
 }
 
-fn entry_of(region: &MemoryRegion) -> Entry {
+pub(crate) fn entry_of(region: &MemoryRegion) -> Entry {
     Entry { start: region.start.raw(), length: region.length as u64, kind: region.kind as u64 }
 }
 

@@ -18,6 +18,9 @@ static uint64_t answer[2];
 
 static int failed;
 
+/* For calls that take no bytes. */
+static uint8_t none[1];
+
 #define LENT_BESIDE_WORDS                                                                          \
     records, sizeof records, memory, sizeof memory, queue, PLACES, answer, 2
 #define LENT store.words, JILAKKOR_WORDS, LENT_BESIDE_WORDS
@@ -123,18 +126,50 @@ static void counts(void)
     HOLDS(memcmp(text, expected, sizeof expected - 1) == 0);
 }
 
+#define BY_NUMBER(op, numbers, count, bytes, length)                                               \
+    jilakkor_call(&counters, store.words, JILAKKOR_KEPT_WORDS, LENT_BESIDE_WORDS, op, numbers,     \
+                  count, bytes, length)
+
 /* The counters are the state's tail, so that both forms serve the same store. */
 static void by_number(void)
 {
     const uint64_t asked[2] = {page, page};
     struct jilakkor_counters *counters = &store.state.counters;
     ANSWERED(jilakkor_call(counters, store.words, JILAKKOR_KEPT_WORDS, LENT_BESIDE_WORDS,
-                           JILAKKOR_OP_ALLOC, asked, 2),
+                           JILAKKOR_OP_ALLOC, asked, 2, none, 0),
              other, page);
     HOLDS(counters->page_data == 5 && counters->allocated == 7);
     ANSWERED(jilakkor_free(LENT, other), other, page);
     HOLDS(jilakkor_call(counters, store.words, JILAKKOR_KEPT_WORDS, LENT_BESIDE_WORDS,
-                        JILAKKOR_OP_LOW + 1, asked, 2) == JILAKKOR_BAD_LINE);
+                        JILAKKOR_OP_BOOT + 1, asked, 2, none, 0) == JILAKKOR_BAD_LINE);
+}
+
+/* The calls over bytes, and a boot, with counters that are in no words. */
+static void bytes_by_number(void)
+{
+    static const char expected[] = "memory status (in frames):\n"
+                                   "       total: 16 -- a: 1 f: 0 r: 0, 0 waiters\n"
+                                   "        idle: 15 93%\n"
+                                   "      kernel: 0 0%\n"
+                                   "        page: 1 6% (0 loaned)\n";
+    static struct jilakkor_counters counters = {1, 2, 3, 4, 5, 6, 7, 8, 9};
+    const uint64_t map[6] = {
+        0x100000, 0x10000, JILAKKOR_USABLE_RAM, 0, 0x100000, JILAKKOR_RESERVED,
+    };
+    const uint64_t asked[2] = {page, page}, range[3] = {frame, 6, 5};
+    uint8_t text[JILAKKOR_STATS_BYTES] = {'b', 'y', 't', 'e', 's'};
+    HOLDS(BY_NUMBER(JILAKKOR_OP_BOOT, map, 5, none, 0) == JILAKKOR_BAD_LINE);
+    HOLDS(counters.total == 4);
+    ANSWERED(BY_NUMBER(JILAKKOR_OP_BOOT, map, 6, none, 0), 0, PAGES * page);
+    HOLDS(counters.total == 16 && counters.idle == 16 && counters.pager_outstanding == 0);
+    ANSWERED(BY_NUMBER(JILAKKOR_OP_ALLOC, asked, 2, none, 0), frame, page);
+    ANSWERED(BY_NUMBER(JILAKKOR_OP_WRITE, range, 2, text, 5), frame, 5);
+    HOLDS(memcmp(LAST + 6, "bytes", 5) == 0 && memcmp(text, "bytes", 5) == 0);
+    ANSWERED(BY_NUMBER(JILAKKOR_OP_READ, range, 3, none, 0), (uint64_t)(LAST + 6 - memory), 5);
+    HOLDS(BY_NUMBER(JILAKKOR_OP_STATS, asked, 0, text, sizeof text - 1) == JILAKKOR_TORN);
+    HOLDS(memcmp(text, "bytes", 5) == 0);
+    ANSWERED(BY_NUMBER(JILAKKOR_OP_STATS, asked, 0, text, sizeof text), 0, sizeof expected - 1);
+    HOLDS(memcmp(text, expected, sizeof expected) == 0);
 }
 
 /* A refused call changes nothing. */
@@ -161,6 +196,7 @@ int main(void)
     counts();
     by_number();
     refusals();
+    bytes_by_number();
     if (!failed) {
         printf("kernel: every exported function from C, as expected\n");
     }

@@ -3,7 +3,7 @@
 
 use script::{
     case::{lent, lent_mut},
-    model::{Answer, Asked, Call, Entry, Told},
+    model::{Answer, Asked, Call, Entry, Range, Told},
 };
 
 use crate::{
@@ -44,6 +44,8 @@ extern "C" {
         op: u64,
         numbers: *const u64,
         numbers_len: usize,
+        bytes: *mut u8,
+        bytes_len: usize,
     ) -> u32;
 }
 
@@ -53,6 +55,15 @@ const WORDS: usize = 101;
 
 const UNLENT: u64 = 0x5eed;
 
+/// The ops beyond those that answer by numbers.
+const WRITE: u64 = 15;
+const READ: u64 = 16;
+const STATS: u64 = 17;
+const BOOT: u64 = 18;
+
+/// Fills of more bytes are not made as writes.
+const MOST_WRITTEN: u64 = 1 << 22;
+
 /// The second of the two, with a lot of its own.
 #[derive(Default)]
 pub struct Both {
@@ -61,42 +72,91 @@ pub struct Both {
 }
 
 impl Caller for Both {
-    /// Only the words' form boots; the other starts from what it left.
     fn boot(&mut self, map: &[Entry], lot: &mut Lot) -> Result<Answer, String> {
+        let mut other = lot.clone();
+        // Noise, as all of the words are before the boot.
+        let mut counters = taken(lent_mut(&mut other.words));
         let entry = |it: &Entry| ffi::Entry { start: it.start, length: it.length, kind: it.kind };
-        let map: Vec<ffi::Entry> = map.iter().map(entry).collect();
-        let answer = watched(lot, |lot| {
-            let returned = ffi::boot(&map, lot.lent());
+        let entries: Vec<ffi::Entry> = map.iter().map(entry).collect();
+        let first = watched(lot, |lot| {
+            let returned = ffi::boot(&entries, lot.lent());
             Ok(answer(returned, lot))
         })?;
-        if answer.is_ok() {
-            let mut other = lot.clone();
-            let counters = taken(lent_mut(&mut other.words));
-            self.counted = Some((counters, other));
-        }
-        Ok(answer)
+        let numbers: Vec<u64> = map.iter().flat_map(|it| [it.start, it.length, it.kind]).collect();
+        let returned = by_number(BOOT, &numbers, &mut [], &mut counters, &mut other);
+        agrees(BOOT, returned, &first)?;
+        same(lot, &counters, &other)?;
+        self.counted = first.is_ok().then_some((counters, other));
+        Ok(first)
     }
 
+    /// A fill may be made as a write, which does the same, and follows a read of what
+    /// it is to fill.
     fn call(&mut self, call: &Call, lot: &mut Lot) -> Result<Answer, String> {
+        let (mut op, mut numbers) = numbers(call);
+        let mut bytes = vec![b'*'; 400];
+        if let Call::Fill(range, byte) = *call {
+            self.read(range, lot)?;
+            if self.calls % 2 == 0 && range.length <= MOST_WRITTEN {
+                (op, numbers) = (WRITE, [range.address, range.offset, 0, 0, 0]);
+                bytes = vec![byte; range.length as usize];
+            }
+        }
+        let (answer, bytes) = self.in_both(op, numbers, &bytes, lot)?;
+        match answer {
+            Ok(Told::Numbers(_, length)) if op == STATS => text(&bytes, length as usize),
+            answer => Ok(answer),
+        }
+    }
+}
+
+impl Both {
+    /// What is read is a part of the memory.
+    fn read(&mut self, range: Range, lot: &mut Lot) -> Result<(), String> {
+        let Range { address, offset, length } = range;
+        let (answer, _) = self.in_both(READ, [address, offset, length, 0, 0], b"left", lot)?;
+        match answer {
+            Ok(Told::Numbers(place, found)) => {
+                let end = place.checked_add(found).filter(|_| found == length);
+                let inside = end.is_some_and(|end| end <= lent(&lot.memory).len() as u64);
+                inside.then_some(()).ok_or("what is read is no part of the memory".into())
+            }
+            _ => Ok(()),
+        }
+    }
+
+    /// Makes a call in both forms: its answer, and what it left of the bytes.
+    fn in_both(
+        &mut self,
+        op: u64,
+        numbers: [u64; 5],
+        bytes: &[u8],
+        lot: &mut Lot,
+    ) -> Result<(Answer, Vec<u8>), String> {
         let (counters, other) = self.counted.as_mut().ok_or("no boot")?;
-        let Some((op, numbers)) = numbers(call) else {
-            let answer = watched(lot, stats);
-            other.answer.clone_from(&lot.answer);
-            return answer;
-        };
         self.calls += 1;
+        let [mut bytes, mut others] = [bytes.to_vec(), bytes.to_vec()];
         let first = watched(lot, |lot| {
-            let returned = on_words(op, numbers, lot.lent());
+            let returned = on_words(op, numbers, &mut bytes, lot.lent());
             Ok(answer(returned, lot))
         })?;
         // Numbers that are missing count as 0.
         let given = numbers.iter().rposition(|&number| number != 0).map_or(0, |last| last + 1);
         let given = if self.calls % 2 == 0 { given } else { numbers.len() };
-        let returned = by_number(op, &numbers[..given], counters, other);
-        if returned != first.as_ref().err().map_or(0, |&number| number.into()) {
-            return Err(format!("by its number, op {op} is refused {returned}"));
+        let returned = by_number(op, &numbers[..given], &mut others, counters, other);
+        agrees(op, returned, &first)?;
+        same(lot, counters, other)?;
+        if bytes != others {
+            return Err(format!("the two forms of op {op} differ in bytes"));
         }
-        same(lot, counters, other).map(|()| first)
+        Ok((first, bytes))
+    }
+}
+
+fn agrees(op: u64, returned: u32, first: &Answer) -> Result<(), String> {
+    match returned == first.as_ref().err().map_or(0, |&number| number.into()) {
+        true => Ok(()),
+        false => Err(format!("by its number, op {op} is refused {returned}")),
     }
 }
 
@@ -149,22 +209,22 @@ fn answer(returned: u32, lot: &Lot) -> Answer {
     }
 }
 
-/// The statistics, which have no number.
-fn stats(lot: &mut Lot) -> Result<Answer, String> {
-    let mut text = [b'*'; 400];
-    let returned = ffi::stats(lot.lent(), &mut text);
-    let length = lot.answered()[1] as usize;
-    match returned {
-        0 if text[length..].iter().any(|&byte| byte != b'*') => {
-            Err("the text was written behind its end".into())
-        }
-        0 => Ok(Ok(Told::Text(String::from_utf8_lossy(&text[..length]).into()))),
-        number => Ok(Err(number as u8)),
+/// The statistics, and nothing written behind them.
+fn text(bytes: &[u8], length: usize) -> Result<Answer, String> {
+    if bytes[length..].iter().any(|&byte| byte != b'*') {
+        return Err("the text was written behind its end".into());
     }
+    Ok(Ok(Told::Text(String::from_utf8_lossy(&bytes[..length]).into())))
 }
 
 /// Lent words without the counters and the counters.
-fn by_number(op: u64, numbers: &[u64], counters: &mut Counters, lot: &mut Lot) -> u32 {
+fn by_number(
+    op: u64,
+    numbers: &[u64],
+    bytes: &mut [u8],
+    counters: &mut Counters,
+    lot: &mut Lot,
+) -> u32 {
     let Lent { words, records, memory, queue, answer } = lot.lent();
     let words = &mut words[..KEPT];
     // Safety: the counters and all slices are lent for the call.
@@ -184,18 +244,20 @@ fn by_number(op: u64, numbers: &[u64], counters: &mut Counters, lot: &mut Lot) -
             op,
             numbers.as_ptr(),
             numbers.len(),
+            bytes.as_mut_ptr(),
+            bytes.len(),
         )
     }
 }
 
 /// The number of a call, and its numbers.
-fn numbers(call: &Call) -> Option<(u64, [u64; 5])> {
+fn numbers(call: &Call) -> (u64, [u64; 5]) {
     let asked = |it: &Asked| {
         let flags = u64::from(it.zeroed) + 2 * u64::from(it.kernel) + 4 * u64::from(it.wait_ok);
         [it.size, it.align, flags, 0, 0]
     };
     let one = |number: u64| [number, 0, 0, 0, 0];
-    Some(match *call {
+    match *call {
         Call::Alloc(ref it) => (0, asked(it)),
         Call::Take(ref it) => (1, asked(it)),
         Call::Split(address) => (2, one(address)),
@@ -215,11 +277,11 @@ fn numbers(call: &Call) -> Option<(u64, [u64; 5])> {
         Call::Lend(pages) => (12, one(pages)),
         Call::Back(pages) => (13, one(pages)),
         Call::Low => (14, one(0)),
-        Call::Stats => return None,
-    })
+        Call::Stats => (STATS, one(0)),
+    }
 }
 
-fn on_words(op: u64, n: [u64; 5], lent: Lent) -> u32 {
+fn on_words(op: u64, n: [u64; 5], bytes: &mut [u8], lent: Lent) -> u32 {
     match op {
         0 => ffi::alloc(lent, n[0], n[1], n[2]),
         1 => ffi::take(lent, n[0], n[1], n[2]),
@@ -235,6 +297,9 @@ fn on_words(op: u64, n: [u64; 5], lent: Lent) -> u32 {
         11 => ffi::round(lent),
         12 => ffi::lend(lent, n[0]),
         13 => ffi::back(lent, n[0]),
-        _ => ffi::low(lent),
+        14 => ffi::low(lent),
+        WRITE => ffi::write(lent, n[0], n[1], bytes),
+        READ => ffi::read(lent, n[0], n[1], n[2]),
+        _ => ffi::stats(lent, bytes),
     }
 }

@@ -1,6 +1,6 @@
 //! The calls by number, on counters of their own.
 
-use jilakkor::{CountedStore, Counters, Error, Op, KEPT_WORDS};
+use jilakkor::{CountedStore, Counters, Error, Op, KEPT_WORDS, STATS_BYTES};
 use script::case::MARGIN;
 
 use super::{example, exported::prepared, same, Checked, EXAMPLE_PAGES};
@@ -11,12 +11,15 @@ use crate::{
 
 pub fn all() -> Checked {
     through_the_crate()?;
+    booted()?;
     no_such_op()?;
-    numbers()
+    numbers()?;
+    bytes()?;
+    maps()
 }
 
 /// The ops of the enum, in the order of their numbers.
-pub const OPS: [Op; 15] = [
+pub const OPS: [Op; 19] = [
     Op::Alloc,
     Op::Take,
     Op::Split,
@@ -32,6 +35,10 @@ pub const OPS: [Op; 15] = [
     Op::Lend,
     Op::Back,
     Op::Low,
+    Op::Write,
+    Op::Read,
+    Op::Stats,
+    Op::Boot,
 ];
 
 /// A call with its numbers, and what it answers.
@@ -68,7 +75,7 @@ fn through_the_crate() -> Checked {
     let Lent { words, records, memory, queue, .. } = lot.lent();
     let mut store = CountedStore::resume(&mut counters, words, records, memory, queue)?;
     for (op, numbers, expected) in CALLS {
-        same(&format!("{op:?}"), store.call(op, numbers), expected)?;
+        same(&format!("{op:?}"), store.call(op, numbers, &mut []), expected)?;
     }
     let expected = Counters {
         page_data: 1,
@@ -86,13 +93,45 @@ fn through_the_crate() -> Checked {
     same("torn counters", torn.err(), Some(Error::Torn))
 }
 
+/// A store that was never in the other form.
+fn booted() -> Checked {
+    let mut lot = Lot::new(EXAMPLE_PAGES, 1);
+    lot.words.truncate(lot.words.len() - (jilakkor::WORDS - KEPT_WORDS));
+    let mut counters = Counters { idle: 77, ..Counters::default() };
+    let Lent { words, records, memory, queue, .. } = lot.lent();
+    let map = example();
+    let mut store = CountedStore::boot(&mut counters, words, records, memory, queue, &map)?;
+    let expected = Counters { idle: 16, total: 16, ..Counters::default() };
+    same("counters", *store.counters(), expected)?;
+    same("a grant", store.call(Op::Alloc, &[1, 1], &mut []), Ok([FRAME, 4096]))?;
+    same("a write", store.call(Op::Write, &[FRAME, 7], &mut *b"abc".to_vec()), Ok([FRAME, 3]))?;
+    let place = 14 * 4096 + 7;
+    same("a read", store.call(Op::Read, &[FRAME, 7, 3], &mut []), Ok([place, 3]))?;
+    let expected = b"memory status (in frames):
+       total: 16 -- a: 1 f: 0 r: 0, 0 waiters
+        idle: 15 93%
+      kernel: 0 0%
+        page: 1 6% (0 loaned)
+";
+    let mut text = [b'*'; STATS_BYTES];
+    let length = expected.len();
+    same("statistics", store.call(Op::Stats, &[], &mut text), Ok([0, length as u64]))?;
+    same("their text", &text[..length], expected)?;
+    same("behind it", &text[length..], &[b'*'; STATS_BYTES][length..])?;
+    same("the memory", &lot.memory[MARGIN..][place as usize..][..3], b"abc")?;
+    let Lent { words, records, memory, queue, .. } = lot.lent();
+    let long = [map[0]; 12];
+    let refused = CountedStore::boot(&mut counters, words, records, memory, queue, &long);
+    same("a long map", refused.err(), Some(Error::LongMap))
+}
+
 /// Whatever is lent.
 fn no_such_op() -> Checked {
-    for (op, version) in [(15, 1), (17, 2), (1 << 32, 1), (u64::MAX, 1)] {
+    for (op, version) in [(19, 1), (19, 2), (1 << 32, 1), (u64::MAX, 1)] {
         let (mut lot, mut counters) = prepared()?;
         lot.words[MARGIN] = version;
         let (before, counted) = (lot.clone(), counters);
-        same("an op", ffi::call(&mut counters, lot.lent(), op, &[1; 5]), 17)?;
+        same("an op", ffi::call(&mut counters, lot.lent(), op, &[1; 5], &mut [9; 400]), 17)?;
         same("an op", lot.difference(&before), None)?;
         same("an op", counters, counted)?;
     }
@@ -104,7 +143,7 @@ fn numbers() -> Checked {
     let (mut lot, mut counters) = prepared()?;
     lot.words[MARGIN + KEPT_WORDS..].fill(7);
     let mut call = |op: Op, numbers: &[u64]| {
-        let returned = ffi::call(&mut counters, lot.lent(), op as u64, numbers);
+        let returned = ffi::call(&mut counters, lot.lent(), op as u64, numbers, &mut []);
         (returned, lot.answered())
     };
     let last = [FRAME, 4096];
@@ -118,4 +157,56 @@ fn numbers() -> Checked {
         same("a number", op as u64, number)?;
     }
     Ok(())
+}
+
+/// Only the statistics write the bytes, and only where there is room.
+fn bytes() -> Checked {
+    for (op, numbers, number) in [
+        (Op::Free, &[FRAME][..], 0),
+        (Op::Write, &[FRAME, 5], 0),
+        (Op::Write, &[FRAME, 4000], 14),
+        (Op::Read, &[FRAME, 1, 2], 0),
+        (Op::Read, &[OTHER, 1, 2], 13),
+        (Op::Stats, &[], 6),
+        (Op::Boot, &[0x100000, 0x10000, 0], 0),
+    ] {
+        let (mut lot, mut counters) = prepared()?;
+        let (before, counted) = (lot.clone(), counters);
+        let mut bytes = [b'*'; STATS_BYTES - 1];
+        let returned = ffi::call(&mut counters, lot.lent(), op as u64, numbers, &mut bytes);
+        same("a call with bytes", (op, returned), (op, number))?;
+        same("its bytes", bytes, [b'*'; STATS_BYTES - 1])?;
+        if number != 0 {
+            same("a refused call", lot.difference(&before), None)?;
+            same("a refused call", counters, counted)?;
+        }
+    }
+    Ok(())
+}
+
+/// Maps as numbers: not in threes, of no entry, with the lowest number that applies
+/// beside short loans.
+fn maps() -> Checked {
+    let far = [1 << 41, 1, 0];
+    for (numbers, number) in [
+        (&[0x100000, 0x10000][..], 17),
+        (&[0x100000, 0x10000, 0, 0], 17),
+        (&far, 2),
+        (&far.repeat(9), 1),
+        (&far.repeat(9)[1..], 17),
+    ] {
+        let (mut lot, mut counters) = prepared()?;
+        let (before, counted) = (lot.clone(), counters);
+        let Lent { words, records, memory, queue, answer } = lot.lent();
+        let lent = Lent { words: &mut words[..91], records, memory, queue, answer };
+        let returned = ffi::call(&mut counters, lent, Op::Boot as u64, numbers, &mut []);
+        same("a map", returned, number)?;
+        same("a map", lot.difference(&before), None)?;
+        same("a map", counters, counted)?;
+    }
+    let (mut lot, mut counters) = prepared()?;
+    let Lent { words, records, memory, queue, answer } = lot.lent();
+    let lent = Lent { words: &mut words[..91], records, memory, queue, answer };
+    let usable = [0x100000, 0x10000, 0];
+    same("few words", ffi::call(&mut counters, lent, Op::Boot as u64, &usable, &mut []), 5)
 }

@@ -24,7 +24,7 @@ pub const CALL: Exported = ("call", |lent, counters| {
     // Without its counters, where it has them.
     let kept = words.len().min(92);
     let words = &mut words[..kept];
-    ffi::call(counters, Lent { words, records, memory, queue, answer }, 3, &[FRAME])
+    ffi::call(counters, Lent { words, records, memory, queue, answer }, 3, &[FRAME], &mut [])
 });
 
 /// All others.

@@ -47,7 +47,7 @@ pub fn all(root: &str) -> Done {
     structs(&texts)?;
     names::sizes(&texts.words, &texts.header)?;
     names::refusals(&texts.definition, &texts.header)?;
-    names::ops(&texts.lines, &texts.header)?;
+    names::ops(&texts.lines, &texts.store, &texts.header)?;
     Ok(format!("{} exported functions, declared alike in Rattle, Rust and C", exported.len()))
 }
 

@@ -52,8 +52,11 @@ pub fn refusals(definition: &str, text: &str) -> Result<(), String> {
 }
 
 /// The ops of calls by number.
-pub fn ops(lines: &str, text: &str) -> Result<(), String> {
-    let cases = rattle::cases(lines, "Ask")?;
+pub fn ops(lines: &str, store: &str, text: &str) -> Result<(), String> {
+    let mut cases = rattle::cases(lines, "Ask")?;
+    // Those that answer by bytes and the boot stand between the first and the last.
+    let asked = rattle::cases(store, "Asked")?;
+    cases.extend(asked.get(1..asked.len() - 1).unwrap_or(&[]).iter().cloned());
     if cases.len() != OPS.len() {
         return Err(format!("there are {} ops, and {} in Rust", cases.len(), OPS.len()));
     }
