@@ -108,12 +108,7 @@ impl<'a> CountedStore<'a> {
     /// write or, at least [`STATS_BYTES`](crate::STATS_BYTES), room for the
     /// statistics; no other call looks at them. Gives the answer's two numbers, for
     /// most calls a frame's address and its size.
-    pub fn call(
-        &mut self,
-        op: Op,
-        numbers: &[u64],
-        bytes: &mut [u8],
-    ) -> Result<[u64; 2], Error> {
+    pub fn call(&mut self, op: Op, numbers: &[u64], bytes: &mut [u8]) -> Result<[u64; 2], Error> {
         let mut answer = [0; 2];
         let lent = Lent {
             words: self.words,

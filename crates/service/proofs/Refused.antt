@@ -34,7 +34,6 @@ use Rattle.service.specs.Serving.{
   worldIn,
   worldWith,
   stateOver,
-  keptOver,
 }
 use Rattle.service.proofs.Serving.{kept-same, lent-kept, lent-long, serves-torn, serves-with-torn}
 

@@ -364,10 +364,10 @@ pub fn serve_boot_with(
     }
     let next = o.state;
     put_kept(words, next);
-    let left = next.counters;
+    let fresh = next.counters;
     let number = tell(answer, y);
     Counted {
-        counters: left,
+        counters: fresh,
         number,
     }
 }

@@ -10,7 +10,6 @@ use Rattle.definition.specs.declared.MemoryRegion.{MemoryRegion}
 use Rattle.definition.specs.declared.MemoryRegionKind.the-variants.{Reserved}
 use Rattle.definition.specs.Calls as Calls
 use Rattle.definition.specs.Script.{kindOf}
-use Rattle.lines.specs.declared.Ask.{Ask}
 use Rattle.lines.specs.declared.Ask.the-variants.{
   Alloc,
   Take,

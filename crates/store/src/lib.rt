@@ -29,7 +29,7 @@ ghost use Rattle.definition.specs.Calls.{
   Low,
 };
 ghost use Rattle.lines.specs.Reading.{callOf};
-ghost use Rattle.service.specs.Serving.{Serves, ServesWith, Places, PlacesWith, Reports};
+ghost use Rattle.service.specs.Serving.{Serves, ServesWith, Places, PlacesWith, Reports, ReportsWith};
 ghost use Rattle.store.specs.Exported.{Audits};
 ghost use Rattle.store.specs.Lending.{
   regionOf,
@@ -657,18 +657,18 @@ fn known_counted(
     queue: &mut [u64],
     answer: &mut [u64],
     ask: Ask,
-    numbers: &[u64],
+    n: &[u64],
 ) -> Counted
-    ensures { λ r. ⌜ ServesWith (callOf ask (numbersOf (now (numbers .entry)))) counters (record { words = now (words .entry); records = now (records .entry); memory = now (memory .entry); queue = now (queue .entry); answer = now (answer .entry) }) (r .counters) (record { words = now (words .exit); records = now (records .exit); memory = now (memory .exit); queue = now (queue .exit); answer = now (answer .exit) }) (r .number) ⌝ }
+    ensures { λ r. ⌜ ServesWith (callOf ask (numbersOf (now (n .entry)))) counters (record { words = now (words .entry); records = now (records .entry); memory = now (memory .entry); queue = now (queue .entry); answer = now (answer .entry) }) (r .counters) (record { words = now (words .exit); records = now (records .exit); memory = now (memory .exit); queue = now (queue .exit); answer = now (answer .exit) }) (r .number) ⌝ }
 {
-    let n = [
-        number_at(numbers, 0),
-        number_at(numbers, 1),
-        number_at(numbers, 2),
-        number_at(numbers, 3),
-        number_at(numbers, 4),
+    let five = [
+        number_at(n, 0),
+        number_at(n, 1),
+        number_at(n, 2),
+        number_at(n, 3),
+        number_at(n, 4),
     ];
-    service::serve_with(counters, words, records, memory, queue, answer, ask, n)
+    service::serve_with(counters, words, records, memory, queue, answer, ask, five)
 }
 
 fn write_counted(
@@ -678,13 +678,13 @@ fn write_counted(
     memory: &mut [u8],
     queue: &[u64],
     answer: &mut [u64],
-    numbers: &[u64],
+    n: &[u64],
     bytes: &[u8],
 ) -> Counted
-    ensures { λ r. ⌜ ServesWith (Write (numbersOf (now (numbers .entry)) 0) (numbersOf (now (numbers .entry)) 1) (now (bytes .entry))) counters (record { words = now (words .entry); records = now (records .entry); memory = now (memory .entry); queue = now (queue .entry); answer = now (answer .entry) }) (r .counters) (record { words = now (words .entry); records = now (records .exit); memory = now (memory .exit); queue = now (queue .entry); answer = now (answer .exit) }) (r .number) ⌝ }
+    ensures { λ r. ⌜ ServesWith (Write (numbersOf (now (n .entry)) 0) (numbersOf (now (n .entry)) 1) (now (bytes .entry))) counters (record { words = now (words .entry); records = now (records .entry); memory = now (memory .entry); queue = now (queue .entry); answer = now (answer .entry) }) (r .counters) (record { words = now (words .entry); records = now (records .exit); memory = now (memory .exit); queue = now (queue .entry); answer = now (answer .exit) }) (r .number) ⌝ }
 {
-    let pa = PhysAddr(number_at(numbers, 0));
-    let offset = number_at(numbers, 1);
+    let pa = PhysAddr(number_at(n, 0));
+    let offset = number_at(n, 1);
     Counted {
         counters,
         number: service::serve_write_with(
@@ -708,13 +708,13 @@ fn read_counted(
     memory: &[u8],
     queue: &[u64],
     answer: &mut [u64],
-    numbers: &[u64],
+    n: &[u64],
 ) -> Counted
-    ensures { λ r. ⌜ PlacesWith (numbersOf (now (numbers .entry)) 0) (numbersOf (now (numbers .entry)) 1) (numbersOf (now (numbers .entry)) 2) counters (record { words = now (words .entry); records = now (records .entry); memory = now (memory .entry); queue = now (queue .entry); answer = now (answer .entry) }) (record { words = now (words .entry); records = now (records .entry); memory = now (memory .entry); queue = now (queue .entry); answer = now (answer .exit) }) (r .number) × (r .counters ≡ counters) ⌝ }
+    ensures { λ r. ⌜ PlacesWith (numbersOf (now (n .entry)) 0) (numbersOf (now (n .entry)) 1) (numbersOf (now (n .entry)) 2) counters (record { words = now (words .entry); records = now (records .entry); memory = now (memory .entry); queue = now (queue .entry); answer = now (answer .entry) }) (record { words = now (words .entry); records = now (records .entry); memory = now (memory .entry); queue = now (queue .entry); answer = now (answer .exit) }) (r .number) × (r .counters ≡ counters) ⌝ }
 {
-    let pa = PhysAddr(number_at(numbers, 0));
-    let offset = number_at(numbers, 1);
-    let len = number_at(numbers, 2);
+    let pa = PhysAddr(number_at(n, 0));
+    let offset = number_at(n, 1);
+    let len = number_at(n, 2);
     Counted {
         counters,
         number: service::serve_read_with(
@@ -728,6 +728,23 @@ fn read_counted(
             offset,
             len,
         ),
+    }
+}
+
+fn stats_counted(
+    counters: Counters,
+    words: &[u64],
+    records: &[u8],
+    memory: &[u8],
+    queue: &[u64],
+    answer: &mut [u64],
+    text: &mut [u8],
+) -> Counted
+    ensures { λ r. ⌜ ReportsWith counters (record { words = now (words .entry); records = now (records .entry); memory = now (memory .entry); queue = now (queue .entry); answer = now (answer .entry) }) (now (text .entry)) (r .counters) (record { words = now (words .entry); records = now (records .entry); memory = now (memory .entry); queue = now (queue .entry); answer = now (answer .exit) }) (now (text .exit)) (r .number) ⌝ }
+{
+    Counted {
+        counters,
+        number: service::serve_stats_with(counters, words, records, memory, queue, answer, text),
     }
 }
 
@@ -764,17 +781,17 @@ fn boot_counted(
     memory: &[u8],
     queue: &[u64],
     answer: &mut [u64],
-    numbers: &[u64],
+    n: &[u64],
 ) -> Counted
-    ensures { λ r. ⌜ BootsFrom (now (numbers .entry)) counters (record { words = now (words .entry); records = now (records .entry); memory = now (memory .entry); queue = now (queue .entry); answer = now (answer .entry) }) (r .counters) (record { words = now (words .exit); records = now (records .exit); memory = now (memory .entry); queue = now (queue .entry); answer = now (answer .exit) }) (r .number) ⌝ }
+    ensures { λ r. ⌜ BootsFrom (now (n .entry)) counters (record { words = now (words .entry); records = now (records .entry); memory = now (memory .entry); queue = now (queue .entry); answer = now (answer .entry) }) (r .counters) (record { words = now (words .exit); records = now (records .exit); memory = now (memory .entry); queue = now (queue .entry); answer = now (answer .exit) }) (r .number) ⌝ }
 {
-    if numbers.len() % 3 != 0 {
+    if n.len() % 3 != 0 {
         return Counted {
             counters,
             number: 17,
         };
     }
-    let g = gather_numbers(numbers);
+    let g = gather_numbers(n);
     let map = g.map;
     service::serve_boot_with(
         counters,
@@ -796,46 +813,17 @@ fn call_counted(
     queue: &mut [u64],
     answer: &mut [u64],
     op: u64,
-    numbers: &[u64],
+    n: &[u64],
     bytes: &mut [u8],
 ) -> Counted
-    ensures { λ r. ⌜ CallsWith op (now (numbers .entry)) counters (record { words = now (words .entry); records = now (records .entry); memory = now (memory .entry); queue = now (queue .entry); answer = now (answer .entry) }) (now (bytes .entry)) (r .counters) (record { words = now (words .exit); records = now (records .exit); memory = now (memory .exit); queue = now (queue .exit); answer = now (answer .exit) }) (now (bytes .exit)) (r .number) ⌝ }
+    ensures { λ r. ⌜ CallsWith op (now (n .entry)) counters (record { words = now (words .entry); records = now (records .entry); memory = now (memory .entry); queue = now (queue .entry); answer = now (answer .entry) }) (now (bytes .entry)) (r .counters) (record { words = now (words .exit); records = now (records .exit); memory = now (memory .exit); queue = now (queue .exit); answer = now (answer .exit) }) (now (bytes .exit)) (r .number) ⌝ }
 {
     match ask_of(op) {
-        Asked::Known(ask) => known_counted(
-            counters,
-            words,
-            records,
-            memory,
-            queue,
-            answer,
-            ask,
-            numbers,
-        ),
-        Asked::Write => write_counted(
-            counters,
-            words,
-            records,
-            memory,
-            queue,
-            answer,
-            numbers,
-            bytes,
-        ),
-        Asked::Read => read_counted(counters, words, records, memory, queue, answer, numbers),
-        Asked::Stats => Counted {
-            counters,
-            number: service::serve_stats_with(
-                counters,
-                words,
-                records,
-                memory,
-                queue,
-                answer,
-                bytes,
-            ),
-        },
-        Asked::Boot => boot_counted(counters, words, records, memory, queue, answer, numbers),
+        Asked::Known(ask) => known_counted(counters, words, records, memory, queue, answer, ask, n),
+        Asked::Write => write_counted(counters, words, records, memory, queue, answer, n, bytes),
+        Asked::Read => read_counted(counters, words, records, memory, queue, answer, n),
+        Asked::Stats => stats_counted(counters, words, records, memory, queue, answer, bytes),
+        Asked::Boot => boot_counted(counters, words, records, memory, queue, answer, n),
         Asked::Unknown => Counted {
             counters,
             number: 17,

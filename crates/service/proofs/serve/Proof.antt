@@ -1,11 +1,11 @@
 -- As `serve_with`: the counters are read out of the words and written over them.
 use mathlib.Core.Bool.{true, false}
-use mathlib.Core.Path.{_≡_, refl, sym, ap, _∙_}
+use mathlib.Core.Path.{_≡_, refl, sym, _∙_}
 use native.Mathlib.Omega.{arith}
 use borrow.Author.Needs.{needs}
 use borrow.Author.Tests.{not-true, not-false}
-use Rattle.service.specs.Serving.{Lent, ServesWith, isLent}
-use Rattle.service.proofs.Serving.{in-words, lent-long, serves-torn, wordsFrom}
+use Rattle.service.specs.Serving.{Lent, isLent}
+use Rattle.service.proofs.Serving.{in-words, lent-long, serves-torn}
 use Rattle.service.proofs.serve.Statement.{statement}
 use Rattle.service.proofs.serve.Tie as tie
 

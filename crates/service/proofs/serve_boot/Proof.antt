@@ -1,5 +1,5 @@
 -- Words that are too few are refused by the map or as 5; else as `serve_boot_with`, and the counters are written over the words.
-use mathlib.Core.Path.{_≡_, refl, _∙_}
+use mathlib.Core.Path.{refl, _∙_}
 use borrow.Author.Needs.{needs}
 use borrow.Author.Tests.{lt-leb}
 use lib.ListN.{length}

@@ -2,10 +2,8 @@
 use mathlib.Core.Bool.{true}
 use mathlib.Core.Path.{_≡_, sym, _∙_}
 use borrow.Author.Needs.{needs}
-use borrow.Author.Tests.{leb-true, not-true, not-false}
-use Rattle.definition.proofs.Tests.{and-left, and-right}
-use lib.ListN.{length}
-use Rattle.service.specs.Serving.{Lent, isRoomyKept, hasRoom}
+use borrow.Author.Tests.{not-true, not-false}
+use Rattle.service.specs.Serving.{Lent, isRoomyKept}
 use Rattle.service.proofs.Serving.{boots, boots-refused, boots-with-short, roomy-room, roomy-words}
 use Rattle.service.proofs.serve_boot_with.Statement.{statement}
 use Rattle.service.proofs.serve_boot_with.Tie as tie

@@ -1,6 +1,6 @@
 -- Numbers that do not come in threes are refused; else what was gathered is the map's: its first eight entries and their number are all that a boot looks at.
 use mathlib.Core.List.{map}
-use mathlib.Core.Path.{_≡_, refl, ap, sym, _∙_}
+use mathlib.Core.Path.{refl, ap, sym, _∙_}
 use Prim.Native.Nat.{_%_}
 use borrow.Author.Needs.{needs}
 use borrow.Author.Tests.{eq-eqb, ne-eqb}
@@ -13,7 +13,7 @@ use Rattle.store.proofs.boot_counted.Tie as tie
 
 returns : tie.Need-returns
 returns c =
-    rw (ne-eqb (length (c .before .before .before .before .before .before .before .args .numbers .now) % 3) 0 (c .if1 .taken)) refl
+    rw (ne-eqb (length (c .before .before .before .before .before .before .before .args .n .now) % 3) 0 (c .if1 .taken)) refl
 
 gather-numbers-requires : tie.Need-gather-numbers-requires
 gather-numbers-requires c κs = search needs
@@ -35,7 +35,7 @@ returns-2 c =
     let s = c .before .before .before .before .before .before in
     let e = sym (s .before .before .before .before .before .gather-numbers .ensures) in
     let h = s .before .before .before .before .before .before in
-    let ns = h .before .before .before .before .before .before .before .args .numbers .now in
+    let ns = h .before .before .before .before .before .before .before .args .n .now in
     let es = entriesOf ns in
     rw (eq-eqb (length ns % 3) 0 (h .if1 .left))
     (s .serve-boot-with .ensures (map regionOf es) (gathered-count es ∙ ap (λ (g : Gathered). g .count) e)

@@ -30,8 +30,8 @@ read-counted-requires c κs = search needs
 enum-told-3 : tie.Need-enum-told-3
 enum-told-3 c = search needs
 
-serve-stats-with-requires : tie.Need-serve-stats-with-requires
-serve-stats-with-requires c κs = search needs
+stats-counted-requires : tie.Need-stats-counted-requires
+stats-counted-requires c κs = search needs
 
 enum-told-4 : tie.Need-enum-told-4
 enum-told-4 c = search needs
@@ -135,7 +135,7 @@ returns-4 c =
     let s = c .before .before .before .before in
     let n = s .before .before .before .before .before .before .before .before .before in
     let e : askOf (n .before .before .before .before .before .before .before .before .args .op) ≡ Stats = sym (n .ask-of .ensures) ∙ s .before .before .before .before .before .before .before .enum-told3 .given .1 in
-    rw e (s .serve-stats-with .ensures)
+    rw e (s .stats-counted .ensures)
 
 same-length-23 : tie.Need-same-length-23
 same-length-23 c = search needs
@@ -177,7 +177,7 @@ call-counted-spec =
     enum-told-2
     read-counted-requires
     enum-told-3
-    serve-stats-with-requires
+    stats-counted-requires
     enum-told-4
     boot-counted-requires
     enum-told-5

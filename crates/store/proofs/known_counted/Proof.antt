@@ -44,7 +44,7 @@ returns c =
     let s = c .before .before .before .before .before .before .before .before .before .before in
     let n = s .before .before .before .before .before .before in
     let a = n .before .before .before .before .before .before .before .before .before .before .before .args in
-    serves-five (a .ask) (a .numbers .now)
+    serves-five (a .ask) (a .n .now)
     (n .before .before .before .before .number-at .result
     ∷ n .before .before .before .number-at2 .result
     ∷ n .before .before .number-at3 .result
