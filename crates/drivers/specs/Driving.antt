@@ -4,18 +4,21 @@ use Prim.Native.Nat.{ℕ, zero, suc, _+_}
 use mathlib.Core.Bool.{false, cond}
 use mathlib.Core.List.{List, [], _∷_}
 use mathlib.Core.Path.{_≡_}
-use lib.Dec.{eqb}
-use lib.ListN.{replicate}
+use lib.Dec.{eqb, leb}
+use lib.ListN.{length, set, replicate}
 use Rattle.definition.specs.declared.MemoryRegion.{MemoryRegion}
 use Rattle.definition.specs.declared.MemoryRegionKind.the-variants.{UsableRam}
 use Rattle.definition.specs.Board.{standard}
 use Rattle.definition.specs.Calls.{Alloc, Call, Copy, Free, Layout}
 use Rattle.definition.specs.Torn.{bootCall, call}
 use Rattle.definition.specs.World.{World, noRow}
+use Rattle.world.specs.Stands.{rowAt}
 use Rattle.exam.specs.declared.Answer.{Answer}
 use Rattle.exam.specs.declared.State.{State}
 use Rattle.exam.specs.Promise.{told, worldOf}
 use Rattle.boot.specs.Booting.{stateAtBoot}
+use Rattle.words.specs.Words.{rowsIn, queuedIn, passIn, countersIn, stateWords}
+use Rattle.service.specs.Serving.{stateOver}
 
 -- ---- a turn
 
@@ -80,3 +83,34 @@ onFrame c times t = turns (turn (c (t .answer .address))) times 0 (t .world)
 -- the same to a second frame, from the frame that a turn gave
 abbrev pub toSecond : (size times : ℕ) → Turn → Driven
 toSecond size times t = onFrame (λ a. Copy a 0 (t .answer .address) 0 size) times (turn (Alloc (plain size)) (t .world))
+
+-- ---- the state words by themselves
+
+-- so many times over
+unfoldable pub again : {A : Type 0} → (A → A) → ℕ → A → A
+again f zero x = x
+again f (suc n) x = f (again f n x)
+
+-- the turns where the words are enough for a state, else none
+abbrev pub enough : List ℕ → ℕ → ℕ
+enough ws times = cond (leb stateWords (length ws)) times 0
+
+abbrev pub stateIn : List ℕ → State
+stateIn ws = record { rows = rowsIn ws; counters = countersIn ws; queued = queuedIn ws; pass = passIn ws }
+
+-- the state of some words, written over others
+abbrev pub carriedFrom : (words others : List ℕ) → List ℕ
+carriedFrom ws vs = stateOver (worldOf (stateIn ws) [] [] []) vs
+
+-- one row in the place of another
+abbrev pub moved : (from to : ℕ) → State → State
+moved from to s =
+    record { rows = set (s .rows) to (rowAt (s .rows) from); counters = s .counters; queued = s .queued; pass = s .pass }
+
+abbrev pub movedOver : (from to : ℕ) → List ℕ → List ℕ
+movedOver from to ws = stateOver (worldOf (moved from to (stateIn ws)) [] [] []) ws
+
+-- rows moved between one reading and one writing, where the words are enough
+abbrev pub movedBetween : (from to times : ℕ) → List ℕ → List ℕ
+movedBetween from to times ws =
+    cond (leb stateWords (length ws)) (stateOver (worldOf (again (moved from to) times (stateIn ws)) [] [] []) ws) ws

@@ -10,10 +10,32 @@ use definition::Pass;
 use definition::Row;
 use exam::Outcome;
 use exam::State;
+ghost use mathlib.Core.List.{[]};
 ghost use mathlib.Core.Path.{_≡_};
+ghost use Prim.Native.Nat.{_<_, _≤_, _%_};
+ghost use lib.ListN.{length};
 ghost use Rattle.definition.specs.Calls.{Alloc, Find, Zero, Fill, Copy};
 ghost use Rattle.exam.specs.Promise.{worldOf};
-ghost use Rattle.drivers.specs.Driving.{Drives, bootedWorld, grantAndFree, held, noState, onFrame, plain, toSecond, turn, turns};
+ghost use Rattle.service.specs.Serving.{stateOver};
+ghost use Rattle.drivers.specs.Driving.{
+  Drives,
+  again,
+  bootedWorld,
+  carriedFrom,
+  enough,
+  grantAndFree,
+  held,
+  moved as «moved_def»,
+  movedBetween,
+  movedOver,
+  noState,
+  onFrame,
+  plain,
+  stateIn,
+  toSecond,
+  turn,
+  turns,
+};
 
 // A state with no region, as there is before a boot.
 fn unbooted() -> State
@@ -275,4 +297,104 @@ pub extern "C" fn drivers_copy(
         size,
         times,
     )
+}
+
+// ---- the state words by themselves
+
+// The state as a call reads it out of the words.
+fn state_in(words: &[u64]) -> State
+    requires { ⌜ 101 ≤ length (now words) ⌝ }
+    ensures { λ r. ⌜ r ≡ stateIn (now (words .entry)) ⌝ }
+{
+    service::state_with(words, words::counters_in(words))
+}
+
+// The words as a call leaves them.
+fn put_state(words: &mut [u64], state: State)
+    requires { ⌜ 101 ≤ length (now words) ⌝ }
+    ensures { λ _. ⌜ now (words .exit) ≡ stateOver (worldOf state [] [] []) (now (words .entry)) ⌝ }
+{
+    service::put_kept(words, state);
+    let counters = state.counters;
+    words::put_counters(words, counters);
+}
+
+// Reads the state out of `words` and writes it into `others`, `times` times.
+#[no_mangle]
+pub extern "C" fn drivers_words(words: &[u64], others: &mut [u64], times: usize) -> usize
+    ensures { λ r. ⌜ r ≡ enough (now (words .entry)) (enough (now (others .entry)) times) ⌝ }
+    ensures { λ r. ⌜ now (others .exit) ≡ again (carriedFrom (now (words .entry))) r (now (others .entry)) ⌝ }
+{
+    if words.len() < 101 {
+        return 0;
+    }
+    if others.len() < 101 {
+        return 0;
+    }
+    let mut i: usize = 0;
+    while i < times {
+        put_state(others, state_in(words));
+        i += 1;
+    }
+    i
+}
+
+// The row `from` in the place of the row `to`: which they are shows at run time only, so that the state has to stand in memory.
+fn moved(state: State, from: usize, to: usize) -> State
+    requires { ⌜ (from < 8) × (to < 8) ⌝ }
+    ensures { λ r. ⌜ r ≡ «moved_def» from to state ⌝ }
+{
+    let mut rows = state.rows;
+    let row = rows[from];
+    rows[to] = row;
+    let counters = state.counters;
+    let pass = state.pass;
+    State {
+        rows,
+        counters,
+        queued: state.queued,
+        pass,
+    }
+}
+
+// Reads the state, moves a row and writes the state back, `times` times.
+#[no_mangle]
+pub extern "C" fn drivers_words_moved(
+    words: &mut [u64],
+    from: usize,
+    to: usize,
+    times: usize,
+) -> usize
+    ensures { λ r. ⌜ r ≡ enough (now (words .entry)) times ⌝ }
+    ensures { λ r. ⌜ now (words .exit) ≡ again (movedOver (from % 8) (to % 8)) r (now (words .entry)) ⌝ }
+{
+    if words.len() < 101 {
+        return 0;
+    }
+    let mut i: usize = 0;
+    while i < times {
+        let state = moved(state_in(words), from % 8, to % 8);
+        put_state(words, state);
+        i += 1;
+    }
+    i
+}
+
+// The same with the words read once, before the first turn, and written once, after the last: what is left is the row.
+#[no_mangle]
+pub extern "C" fn drivers_moved(words: &mut [u64], from: usize, to: usize, times: usize) -> usize
+    ensures { λ r. ⌜ r ≡ enough (now (words .entry)) times ⌝ }
+    ensures { λ r. ⌜ now (words .exit) ≡ movedBetween (from % 8) (to % 8) r (now (words .entry)) ⌝ }
+{
+    if words.len() < 101 {
+        return 0;
+    }
+    let mut state = state_in(words);
+    let mut i: usize = 0;
+    while i < times {
+        state = moved(state, from % 8, to % 8);
+        i += 1;
+    }
+    put_state(words, state);
+    i
 }

@@ -52,7 +52,7 @@ fn is_lent(words: &[u64], answer: &[u64]) -> bool
     is_lent_kept(words, answer)
 }
 
-fn state_with(words: &[u64], counters: Counters) -> State
+pub fn state_with(words: &[u64], counters: Counters) -> State
     requires { ⌜ 92 ≤ length (now words) ⌝ }
     ensures { λ r. ⌜ r ≡ record { rows = rowsIn (now (words .entry)); counters = counters; queued = queuedIn (now (words .entry)); pass = passIn (now (words .entry)) } ⌝ }
 {
@@ -66,7 +66,7 @@ fn state_with(words: &[u64], counters: Counters) -> State
     }
 }
 
-fn put_kept(words: &mut [u64], state: State)
+pub fn put_kept(words: &mut [u64], state: State)
     requires { ⌜ 92 ≤ length (now words) ⌝ }
     ensures { λ _. ⌜ now (words .exit) ≡ keptOver (worldOf state [] [] []) (now (words .entry)) ⌝ }
 {
