@@ -1,5 +1,5 @@
-// What bench/ times: loops over the records, the lists and the allocator of one region, exported on slices and numbers. Nothing else calls them.
-// Each tests what it was lent and answers 0 where the loan does not fit; a loan that fits has a record for each page, and at most 1,048,576.
+// What bench/ times: loops over the records, the lists, the allocator of one region and the contents of memory, exported on slices and numbers. Nothing else
+// calls them. Each tests what it was lent and answers 0 where the loan does not fit; a loan of records that fits has one for each page, and at most 1,048,576.
 use address::PhysAddr;
 use definition::Links;
 use definition::Record;
@@ -7,11 +7,14 @@ use definition::Row;
 use list::Popped;
 use region::FoundPage;
 ghost use mathlib.Core.Path.{_≡_};
-ghost use Prim.Native.Nat.{_≤_, _<_, _^_};
+ghost use Prim.Native.Nat.{_+_, _≤_, _<_, _^_};
+ghost use mathlib.Core.Bool.{_&&_};
+ghost use lib.Dec.{leb};
 ghost use Rattle.definition.specs.World.{recordAt};
 ghost use Rattle.record.specs.Records.{pagesIn};
 ghost use Rattle.list.specs.Linked.{Sound};
 ghost use Rattle.region.specs.Rep.{SoundRow, WholeRow};
+ghost use Rattle.leaves.specs.Contents.{inside, turnsIf, filled, copied};
 
 fn wide(x: u32) -> u64
     ensures { λ r. ⌜ (r ≡ x) × (r < 4294967296) ⌝ }
@@ -220,4 +223,60 @@ pub extern "C" fn leaves_new(records: &mut [u8], start: u64, pages: usize) -> us
     let row = region::new(records, 0, PhysAddr::new(start), pages);
     let small = row.lists[0];
     small.count as usize
+}
+
+// Whether `len` bytes from `at` on lie in a loan of `most`.
+fn lies(at: usize, len: usize, most: usize) -> bool
+    ensures { λ r. ⌜ r ≡ leb (at + len) most ⌝ }
+{
+    if most < len {
+        return false;
+    }
+    if most - len < at {
+        return false;
+    }
+    true
+}
+
+// Fills a range, `times` times, each time with another byte, so that no turn can be left out.
+#[no_mangle]
+pub extern "C" fn leaves_fill(memory: &mut [u8], at: usize, len: usize, times: usize) -> usize
+    ensures { λ r. ⌜ r ≡ turnsIf (inside (now (memory .entry)) at len) times ⌝ }
+    ensures { λ r. ⌜ now (memory .exit) ≡ filled at len r (now (memory .entry)) ⌝ }
+{
+    if !lies(at, len, memory.len()) {
+        return 0;
+    }
+    let mut i: usize = 0;
+    while i < times {
+        contents::fill(memory, at, len, (i % 256) as u8);
+        i += 1;
+    }
+    i
+}
+
+// Copies a range to another, which it may overlap, `times` times.
+#[no_mangle]
+pub extern "C" fn leaves_copy(
+    memory: &mut [u8],
+    to: usize,
+    from: usize,
+    len: usize,
+    times: usize,
+) -> usize
+    ensures { λ r. ⌜ r ≡ turnsIf (inside (now (memory .entry)) to len && inside (now (memory .entry)) from len) times ⌝ }
+    ensures { λ r. ⌜ now (memory .exit) ≡ copied to from len r (now (memory .entry)) ⌝ }
+{
+    if !lies(to, len, memory.len()) {
+        return 0;
+    }
+    if !lies(from, len, memory.len()) {
+        return 0;
+    }
+    let mut i: usize = 0;
+    while i < times {
+        contents::copy(memory, to, from, len);
+        i += 1;
+    }
+    i
 }
