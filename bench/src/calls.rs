@@ -55,43 +55,51 @@ pub fn drive(driver: Calls, loans: &mut Loans, number: u64, times: usize) {
 }
 
 fn grants() {
-    println!("\n{:<39}{:>12}{:>12}{:>8}", "16 pages, ns a call", "Rattle", "original", "ratio");
+    heading("16 pages, ns a call");
     let mut loans = loans(16);
-    let theirs = original::Calls::boot(loans.start, loans.length);
-    let pairs = by_turns(
+    let theirs = original::boot(loans.start, loans.length);
+    against(
+        "a grant and its free, a pair",
         TIMES,
-        || drive(rattle::grants_and_frees, &mut loans, 0, TIMES),
-        theirs.as_ref().map(|it| || it.grants_and_frees(TIMES)),
+        &mut || drive(rattle::grants_and_frees, &mut loans, 0, TIMES),
+        theirs.as_ref(),
+        |it| (it.grants_and_frees)(TIMES),
     );
-    row("a grant and its free, a pair", pairs);
-    let finds = by_turns(
+    against(
+        "a find",
         TIMES,
-        || drive(rattle::finds, &mut loans, FIRST, TIMES),
-        theirs.as_ref().map(|it| || it.finds(FIRST, TIMES)),
+        &mut || drive(rattle::finds, &mut loans, FIRST, TIMES),
+        theirs.as_ref(),
+        |it| (it.finds)(FIRST, TIMES),
     );
-    row("a find", finds);
 }
 
-/// The times of the sides for one of so many calls.
-pub fn by_turns(
+pub fn heading(name: &str) {
+    println!(
+        "\n{name:<39}{:>12}{:>14}{:>8}{:>14}{:>8}",
+        "Rattle", "no lock", "ratio", "its own lock", "ratio"
+    );
+}
+
+/// A row: one of so many calls against the original's, where that was built.
+pub fn against(
+    name: &str,
     times: usize,
-    mut ours: impl FnMut(),
-    theirs: Option<impl FnMut()>,
-) -> (f64, Option<f64>) {
+    ours: &mut dyn FnMut(),
+    theirs: Option<&[original::Calls; 2]>,
+    call: impl Fn(&original::Calls),
+) {
     let each = |time: f64| time / times as f64;
     match theirs {
-        Some(mut theirs) => {
-            let [a, b] = best(TURNS, 1, [&mut ours, &mut theirs]).map(each);
-            (a, Some(b))
+        Some([free, locked]) => {
+            let sides: [&mut dyn FnMut(); 3] = [ours, &mut || call(free), &mut || call(locked)];
+            let [a, b, c] = best(TURNS, 1, sides).map(each);
+            println!("{name:<39}{a:>12.1}{b:>14.1}{:>8.2}{c:>14.1}{:>8.2}", a / b, a / c);
         }
-        None => (best(TURNS, 1, [&mut ours]).map(each)[0], None),
-    }
-}
-
-pub fn row(name: &str, (ours, theirs): (f64, Option<f64>)) {
-    match theirs {
-        Some(theirs) => println!("{name:<39}{ours:>12.1}{theirs:>12.1}{:>8.2}", ours / theirs),
-        None => println!("{name:<39}{ours:>12.1}{:>12}{:>8}", "-", "-"),
+        None => {
+            let [a] = best(TURNS, 1, [ours]).map(each);
+            println!("{name:<39}{a:>12.1}{0:>14}{0:>8}{0:>14}{0:>8}", "-");
+        }
     }
 }
 

@@ -7,7 +7,7 @@ use std::{alloc::Layout, hint::black_box};
 use jilakkor::{FrameAllocFlags, FrameStore, MemoryRegion, MemoryRegionKind, PhysAddr};
 
 use crate::{
-    calls::{by_turns, drive, loans, region, row, FIRST, PAGE, TIMES, TURNS},
+    calls::{against, drive, heading, loans, region, FIRST, PAGE, TIMES, TURNS},
     clock::best,
     original, rattle,
 };
@@ -25,17 +25,22 @@ pub fn run(managed: usize) {
         FrameStore::boot(&mut words, &mut records, &mut memory, &mut queue, &map).unwrap();
     let times = (400_000 / managed).clamp(2, 2000);
     let layout = Layout::from_size_align(PAGE, PAGE).unwrap();
-    let ours = || {
+    let mut ours = || {
         for _ in 0..times {
             let flags = black_box(FrameAllocFlags::empty());
             let frame = store.try_alloc_frame(flags, black_box(layout)).unwrap();
             store.free_frame(black_box(frame.address)).unwrap();
         }
     };
-    let theirs = original::Calls::boot(start, length);
-    let pairs = by_turns(times, ours, theirs.as_ref().map(|it| || it.grants_and_frees(times)));
-    let name = format!("{managed} pages: a grant and its free");
-    row(&name, pairs);
+    let theirs = original::boot(start, length);
+    heading("the library, ns a pair");
+    against(
+        &format!("{managed} pages: a grant and its free"),
+        times,
+        &mut ours,
+        theirs.as_ref(),
+        |it| (it.grants_and_frees)(times),
+    );
     if managed == 16 {
         lent_words(&mut store);
     }

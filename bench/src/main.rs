@@ -2,11 +2,13 @@
 //! in plain Rust, a grant that splits a frame against the kernel's own, and a
 //! region's layout against a plain fill of its records; and the audit against
 //! the same audit in plain Rust; and whole calls against the kernel's own, and
-//! against memset and memmove; and the run of a script. README.md says what the figures mean.
+//! against memset and memmove; and contents and the state words by themselves, and
+//! the run of a script. README.md says what the figures mean.
 
 mod audit;
 mod calls;
 mod clock;
+mod contents;
 mod kernel;
 mod original;
 mod plain;
@@ -17,6 +19,7 @@ mod regions;
 mod script;
 mod stack;
 mod whole;
+mod words;
 
 fn main() {
     // The name of one part runs it alone.
@@ -41,6 +44,8 @@ fn main() {
     }
     if runs("calls") {
         calls::run();
+        contents::run();
+        words::run();
         stack::run();
     }
 }

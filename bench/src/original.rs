@@ -1,20 +1,30 @@
 //! The kernel's own allocator, where its sources were at hand for the build, with
 //! its atomic marks and its tests as they stand: that of one region, whose calls
-//! are timed one by one, the best of all turns counting, and whole calls.
+//! are timed one by one, the best of all turns counting, and whole calls. Those are
+//! there twice, with a stand-in that locks nothing and with the kernel's own lock.
 
 use crate::regions::{Region, Times};
+
+/// Each makes a call so many times.
+pub struct Calls {
+    /// Grants a frame of 4 KiB and frees it.
+    pub grants_and_frees: fn(usize),
+    /// Finds the page of an address.
+    pub finds: fn(u64, usize),
+}
 
 #[cfg(feature = "original")]
 mod built {
     use std::{hint::black_box, time::Instant};
 
-    use oracle::bare::{self, BareRegion};
+    use oracle::bare::BareRegion;
 
-    use super::{Region, Times};
+    use super::{Calls, Region, Times};
     use crate::clock::best;
 
     pub fn set_up() {
-        bare::set_up(0..1 << 32);
+        oracle::bare::set_up(0..1 << 32);
+        locked::bare::set_up(0..1 << 32);
     }
 
     pub fn grants(region: &Region, turns: usize) -> Option<Times> {
@@ -48,29 +58,29 @@ mod built {
         Some(time)
     }
 
-    /// The kernel's calls after its only boot, on one usable entry.
-    pub struct Calls;
-
-    impl Calls {
-        pub fn boot(start: u64, length: usize) -> Option<Calls> {
-            bare::boot(start, length);
-            Some(Calls)
-        }
-
-        /// Grants a frame of 4 KiB and frees it, so many times.
-        pub fn grants_and_frees(&self, times: usize) {
-            for _ in 0..times {
-                let address = bare::alloc(black_box(4096)).unwrap();
-                bare::free(black_box(address)).unwrap();
+    /// The kernel's calls after its only boot, of an oracle of either kind.
+    macro_rules! calls {
+        ($oracle:ident) => {{
+            use $oracle::bare::{alloc, find, free};
+            fn grants_and_frees(times: usize) {
+                for _ in 0..times {
+                    let address = alloc(black_box(4096)).unwrap();
+                    free(black_box(address)).unwrap();
+                }
             }
-        }
-
-        /// Finds the page of an address, so many times.
-        pub fn finds(&self, address: u64, times: usize) {
-            for _ in 0..times {
-                black_box(bare::find(black_box(address)).unwrap());
+            fn finds(address: u64, times: usize) {
+                for _ in 0..times {
+                    black_box(find(black_box(address)).unwrap());
+                }
             }
-        }
+            Calls { grants_and_frees, finds }
+        }};
+    }
+
+    pub fn boot(start: u64, length: usize) -> Option<[Calls; 2]> {
+        oracle::bare::boot(start, length);
+        locked::bare::boot(start, length);
+        Some([calls!(oracle), calls!(locked)])
     }
 
     /// Lines of a script after its boot.
@@ -108,17 +118,8 @@ pub fn layout(_: u64, _: usize) -> Option<f64> {
 }
 
 #[cfg(not(feature = "original"))]
-pub struct Calls;
-
-#[cfg(not(feature = "original"))]
-impl Calls {
-    pub fn boot(_: u64, _: usize) -> Option<Calls> {
-        None
-    }
-
-    pub fn grants_and_frees(&self, _: usize) {}
-
-    pub fn finds(&self, _: u64, _: usize) {}
+pub fn boot(_: u64, _: usize) -> Option<[Calls; 2]> {
+    None
 }
 
 #[cfg(not(feature = "original"))]

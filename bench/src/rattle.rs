@@ -7,6 +7,15 @@ extern "C" {
     pub fn leaves_load(records: *const u8, length: usize, count: usize) -> u64;
     pub fn leaves_push(records: *mut u8, length: usize, count: usize) -> usize;
     pub fn leaves_push_pop(records: *mut u8, length: usize, count: usize) -> usize;
+    fn leaves_fill(memory: *mut u8, length: usize, at: usize, len: usize, times: usize) -> usize;
+    fn leaves_copy(
+        memory: *mut u8,
+        length: usize,
+        to: usize,
+        from: usize,
+        len: usize,
+        times: usize,
+    ) -> usize;
     fn jilakkor_audit(
         words: *const u64,
         count: usize,
@@ -95,6 +104,21 @@ extern "C" {
         size: u64,
         times: usize,
     ) -> usize;
+    fn drivers_words(
+        words: *const u64,
+        count: usize,
+        others: *mut u64,
+        others_count: usize,
+        times: usize,
+    ) -> usize;
+    fn drivers_words_moved(
+        words: *mut u64,
+        count: usize,
+        from: usize,
+        to: usize,
+        times: usize,
+    ) -> usize;
+    fn drivers_moved(words: *mut u64, count: usize, from: usize, to: usize, times: usize) -> usize;
 }
 
 pub type New = fn(&mut [u8], u64, usize) -> usize;
@@ -108,6 +132,16 @@ pub fn new(records: &mut [u8], start: u64, pages: usize) -> usize {
 /// Lays a region out and makes grants of a level; how many there were.
 pub fn grants(records: &mut [u8], start: u64, pages: usize, level: usize, times: usize) -> usize {
     unsafe { leaves_grants(records.as_mut_ptr(), records.len(), start, pages, level, times) }
+}
+
+/// Fills the first bytes of a memory, so many times, each time with the next byte.
+pub fn fill_range(memory: &mut [u8], len: usize, times: usize) -> usize {
+    unsafe { leaves_fill(memory.as_mut_ptr(), memory.len(), 0, len, times) }
+}
+
+/// Copies as many bytes behind the first ones over those, so many times.
+pub fn copy_range(memory: &mut [u8], len: usize, times: usize) -> usize {
+    unsafe { leaves_copy(memory.as_mut_ptr(), memory.len(), 0, len, len, times) }
 }
 
 /// 0 where all is whole, and 6 where it is torn or the words are no state.
@@ -166,6 +200,22 @@ calls! {
     fill: drivers_fill(size);
     /// Copies one to another.
     copy: drivers_copy(size);
+}
+
+/// Reads the state out of some words and writes it into others, so many times.
+pub fn words(words: &[u64], others: &mut [u64], times: usize) -> usize {
+    let (count, others_count) = (words.len(), others.len());
+    unsafe { drivers_words(words.as_ptr(), count, others.as_mut_ptr(), others_count, times) }
+}
+
+/// Reads the state, puts one row in the place of another and writes it back, so many times.
+pub fn words_moved(words: &mut [u64], from: usize, to: usize, times: usize) -> usize {
+    unsafe { drivers_words_moved(words.as_mut_ptr(), words.len(), from, to, times) }
+}
+
+/// The same with the words read once and written once.
+pub fn moved(words: &mut [u64], from: usize, to: usize, times: usize) -> usize {
+    unsafe { drivers_moved(words.as_mut_ptr(), words.len(), from, to, times) }
 }
 
 /// The loans of the script program, and room for the answers to so many lines.

@@ -1,5 +1,6 @@
 -- What a driver leaves in the loans and answers: the same turn again and again, each on the world as the last left it, until one is refused. A reader takes
--- from here what the number of a driver counts (`turns`, `Drives`), and from which world it starts (`bootedWorld`, `held`).
+-- from here what the number of a driver counts (`turns`, `Drives`), and from which world it starts (`bootedWorld`, `held`). A driver of the state words makes the
+-- same change again and again (`again`), where the words are enough for a state.
 use Prim.Native.Nat.{ℕ, zero, suc, _+_}
 use mathlib.Core.Bool.{false, cond}
 use mathlib.Core.List.{List, [], _∷_}

@@ -1,5 +1,6 @@
 // What bench/ times of the calls: loops over a store of one region, exported on slices and numbers. Nothing else calls them. Each boots the store first, and
 // stops at the first call that is refused, so that its answer says how many were accepted. What it leaves in the loans is what those calls leave (`Drives`).
+// The last three make no call: they read and write the state words (`again`).
 use address::PhysAddr;
 use definition::Counters;
 use definition::FrameAllocFlags;

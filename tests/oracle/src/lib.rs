@@ -26,6 +26,8 @@ mod script;
 mod store;
 
 // The kernel's text names these modules from the root of its crate.
+#[cfg(feature = "lock")]
+use kernel::interrupt;
 use kernel::{arch, condvar, memory, once, processor, spinlock, syscall, thread};
 
 pub use answer::Answer;

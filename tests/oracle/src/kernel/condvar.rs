@@ -1,8 +1,6 @@
 //! `CondVar`, after condvar.rs. The reclaim thread runs when the driver lets it
 //! and not when it is signalled, so waiting ends at once.
 
-use crate::spinlock::LockGuard;
-
 pub struct CondVar;
 
 impl CondVar {
@@ -10,7 +8,7 @@ impl CondVar {
         Self
     }
 
-    pub fn wait<'a, T>(&self, guard: LockGuard<'a, T>) -> LockGuard<'a, T> {
+    pub fn wait<Guard>(&self, guard: Guard) -> Guard {
         guard
     }
 

@@ -9,6 +9,12 @@ macro_rules! logln {
     ($($argument:tt)*) => { $crate::kernel::console::add_line(format!($($argument)*)) };
 }
 
+/// What a lock says that nobody gives back.
+#[cfg(feature = "lock")]
+macro_rules! emerglogln {
+    ($($argument:tt)*) => { panic!($($argument)*) };
+}
+
 pub fn add_line(line: String) {
     *LINES.lock().unwrap() += &(line + "\n");
 }

@@ -15,3 +15,14 @@ pub mod sched {
         crate::coroutine::hand_back();
     }
 }
+
+/// Tests again and again, as the kernel's lock and Once do until it is their turn.
+#[cfg(feature = "lock")]
+pub fn spin_wait_until<R>(until: impl Fn() -> Option<R>, mut pause: impl FnMut()) -> R {
+    loop {
+        if let Some(ready) = until() {
+            return ready;
+        }
+        pause();
+    }
+}

@@ -48,7 +48,10 @@ pub mod entry {
     use super::{priority::Priority, ThreadRef};
 
     pub fn start_new_kernel(_priority: Priority, start: extern "C" fn(), _arg: usize) -> ThreadRef {
-        crate::coroutine::spawn(start);
+        // A paused thread would keep the queue's own lock, so that there is none then.
+        if !cfg!(feature = "lock") {
+            crate::coroutine::spawn(start);
+        }
         ThreadRef::default()
     }
 }
