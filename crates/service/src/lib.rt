@@ -347,14 +347,8 @@ pub fn serve_boot_with(
         let number = short_boot(map, count, records.len(), memory.len());
         return Counted { counters, number };
     }
-    let o = boot::boot(
-        state_with(words, counters),
-        map,
-        count,
-        records,
-        memory,
-        queue,
-    );
+    let state = state_with(words, counters);
+    let o = boot::boot(state, map, count, records, memory, queue);
     let y = o.answer;
     if y.number != 0 {
         return Counted {
