@@ -1,6 +1,7 @@
 -- What a call over lent words leaves and answers. A kernel lends the state as words beside the records, the memory and the queue, and a slice for the two
 -- numbers of the answer. `served` is the whole outcome: the loans as `call` of definition/specs/Torn.antt leaves them, and the refusal's number, 0 where the call
--- was accepted. Words that are too few or of another version, and an answer slice of under two places, are refused 6 and nothing changes.
+-- was accepted. Words that are too few or of another version, and an answer slice of under two places, are refused 6 and nothing changes. `servedWith` is the same
+-- where the counters are lent apart and the words go without.
 use Prim.Native.Nat.{ℕ}
 use mathlib.Core.Bool.{Bool, cond, _&&_}
 use mathlib.Core.List.{List, [], _∷_}
@@ -119,9 +120,9 @@ servedWith c k l = cond (isLentKept l) (countedBy l (call standard (worldWith k 
 abbrev pub ServesWith : Call → Counters → Lent → Counters → Lent → ℕ → Type 0
 ServesWith c k l k′ l′ r = servedWith c k l ≡ record { counters = k′; served = record { lent = l′; number = r } }
 
--- ---- a call that answers by bytes: the same in both forms of the counters
+-- ---- a call that answers by bytes, in either form of the counters: `w` is the world that the loans hold
 
--- the statistics stand in front of the text, which has room for 368 bytes; else the call is refused 6
+-- the statistics stand in front of the text, which has room for 368 bytes; else the call is refused 6. Where there is room, `made` is what the call leaves.
 pub record ReportsBy (O : Type 0) (fit : Bool) (w : World) (made refused left : O) (text text′ : List ℕ) : Type 0 where
   pub loans : cond (leb 368 (length text)) made refused ≡ left
   pub report : text′ ≡ cond (leb 368 (length text) && fit) (withBytes text 0 (textOf (call standard w Stats .answer))) text
@@ -135,7 +136,7 @@ ReportsWith k l text k′ l′ text′ r =
     ReportsBy Counted (isLentKept l) (worldWith k l) (servedWith Stats k l) (stays k l 6)
     (record { counters = k′; served = record { lent = l′; number = r } }) text text′
 
--- a read tells where the bytes stand in the lent memory, and how many they are
+-- a read tells where the bytes stand in the lent memory, and how many they are; `n` is the number of the call
 pub record PlacesBy (w : World) (n : ℕ) (a off len : ℕ) (l l′ : Lent) (r : ℕ) : Type 0 where
   pub number : r ≡ n
   pub words : l′ .words ≡ l .words

@@ -1,5 +1,6 @@
 // The calls over lent words, for a kernel to make: the state is read out of the words, the call is made, and what it leaves is written back. The answer's two
 // numbers go to a lent slice, and the refusal's number, 0 where the call was accepted, is returned. Every promise is `served` or `booted` of specs/Serving.antt.
+// What ends in `_with` takes the counters apart from the words; beside it stands the same over words that have them, which are read out and written back.
 use address::PhysAddr;
 use definition::Counters;
 use definition::MemoryRegion;

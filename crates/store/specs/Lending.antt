@@ -113,7 +113,7 @@ bootedBy ns k l = cond (eqb (length ns % 3) 0) (bootedWith (map regionOf (entrie
 abbrev pub BootsFrom : List ℕ → Counters → Lent → Counters → Lent → ℕ → Type 0
 BootsFrom ns k l k′ l′ r = bootedBy ns k l ≡ record { counters = k′; served = record { lent = l′; number = r } }
 
--- what is left in the record, the loans and the bytes, and answered. Only the statistics are written to the bytes, and only a write reads them; 17 is no such call.
+-- what is left in the record, the loans and the bytes, and answered. Only the statistics are written to the bytes, only a write reads them, and 17 is no such call.
 abbrev pub CallsBy : Asked → List ℕ → Counters → Lent → List ℕ → Counters → Lent → List ℕ → ℕ → Type 0
 CallsBy (Known a) ns k l bs k′ l′ bs′ r = ServesWith (callOf a (numbersOf ns)) k l k′ l′ r × (bs′ ≡ bs)
 CallsBy Write ns k l bs k′ l′ bs′ r = ServesWith (Calls.Write (numbersOf ns 0) (numbersOf ns 1) bs) k l k′ l′ r × (bs′ ≡ bs)
