@@ -1,0 +1,89 @@
+// The boot over a lent list of region structs (frame.rs's init): any length, of which no more than eight are read. A thin function reads each struct out of the
+// slice and hands it by value to covered code; the whole boot promises what `boot` does, over the list of entries.
+use address::PhysAddr;
+use definition::MemoryRegion;
+use definition::MemoryRegionKind;
+use exam::Outcome;
+use exam::State;
+ghost use mathlib.Core.Path.{_≡_};
+ghost use Prim.Native.Nat.{_≤_, _<_};
+ghost use Rattle.exam.specs.Promise.{worldOf};
+ghost use Rattle.boot.specs.Booting.{Boots};
+ghost use Rattle.map.specs.Lending.{nothing as «nothing_def», entered as «entered_def», gathered, BootsBy};
+
+// The first eight entries of a map, and how many it has.
+pub struct Gathered {
+    pub map: [MemoryRegion; 8],
+    pub count: usize,
+}
+
+fn nothing(count: usize) -> Gathered
+    ensures { λ r. ⌜ r ≡ «nothing_def» count ⌝ }
+{
+    let unused = MemoryRegion {
+        start: PhysAddr(0),
+        length: 0,
+        kind: MemoryRegionKind::Reserved,
+    };
+    let map = [unused; 8];
+    Gathered { map, count }
+}
+
+fn entered(g: Gathered, i: usize, entry: MemoryRegion) -> Gathered
+    ensures { λ r. ⌜ r ≡ «entered_def» g i entry ⌝ }
+{
+    let mut map = g.map;
+    if i < 8 {
+        map[i] = entry;
+    }
+    Gathered {
+        map,
+        count: g.count,
+    }
+}
+
+fn at_most_eight(n: usize) -> usize
+    ensures { λ r. ⌜ (r ≤ n) × (r ≤ 8) × (r < 8 → r ≡ n) ⌝ }
+{
+    if n < 8 { n } else { 8 }
+}
+
+// Each of the first eight entries is handed over by value; past them nothing is read.
+fn gather(map: &[MemoryRegion]) -> Gathered
+    ensures { λ r. ⌜ r ≡ gathered (now (map .entry)) ⌝ }
+{
+    let n = at_most_eight(map.len());
+    let mut g = nothing(map.len());
+    let mut i = 0;
+    while i < n {
+        g = entered(g, i, map[i]);
+        i += 1;
+    }
+    g
+}
+
+fn boot_gathered(
+    g: Gathered,
+    state: State,
+    records: &mut [u8],
+    memory: &[u8],
+    queue: &[u64],
+) -> Outcome
+    ensures { λ r. ⌜ BootsBy g (worldOf state (now (records .entry)) (now (memory .entry)) (now (queue .entry))) (worldOf (r .state) (now (records .exit)) (now (memory .entry)) (now (queue .entry))) (r .answer) ⌝ }
+{
+    let map = g.map;
+    boot::boot(state, map, g.count, records, memory, queue)
+}
+
+// init, frame.rs 707, over a lent list of region entries of any length. The memory's bytes stay.
+pub fn boot_map(
+    state: State,
+    map: &[MemoryRegion],
+    records: &mut [u8],
+    memory: &[u8],
+    queue: &[u64],
+) -> Outcome
+    ensures { λ r. ⌜ Boots (now (map .entry)) (worldOf state (now (records .entry)) (now (memory .entry)) (now (queue .entry))) (worldOf (r .state) (now (records .exit)) (now (memory .entry)) (now (queue .entry))) (r .answer) ⌝ }
+{
+    boot_gathered(gather(map), state, records, memory, queue)
+}
