@@ -39,7 +39,7 @@ extern "C" {
 #define JILAKKOR_WORDS 101       /* of the state */
 #define JILAKKOR_KEPT_WORDS 92   /* of the state without its counters, the last nine */
 #define JILAKKOR_ROWS 8          /* kept regions at most, and entries of a map */
-#define JILAKKOR_LISTS 6         /* of a region */
+#define JILAKKOR_LEVELS 3        /* of frames */
 #define JILAKKOR_RECORD_BYTES 16 /* of a managed page's record */
 #define JILAKKOR_PAGE_BYTES 4096 /* of a page, the smallest frame */
 #define JILAKKOR_LARGE_BYTES 2097152
@@ -108,18 +108,23 @@ struct jilakkor_counters {
     size_t pager_outstanding; /* lent to the pager; wraps upwards */
 };
 
-/* A list of free frames: 0 for none, else a page number plus 1. */
-struct jilakkor_list {
+/* The ends of a list of free frames: 0 for none, else a page number plus 1. */
+struct jilakkor_ends {
     uint32_t front;
     uint32_t back;
-    uint32_t count;
+};
+
+/* The two lists of a level: the dirty frames', then the zeroed ones'. */
+struct jilakkor_lists {
+    struct jilakkor_ends ends[2];
+    uint32_t count[2];
 };
 
 /* A kept region. An unused row is all zeros. */
 struct jilakkor_row {
-    uint64_t start;                             /* rounded up to a page */
-    uint64_t pages;                             /* tables included */
-    struct jilakkor_list lists[JILAKKOR_LISTS]; /* dirty and zeroed, at each level */
+    uint64_t start; /* rounded up to a page */
+    uint64_t pages; /* tables included */
+    struct jilakkor_lists levels[JILAKKOR_LEVELS];
 };
 
 /*

@@ -1,6 +1,6 @@
 //! Grants and frees through the library that a kernel links, against the kernel's
-//! own, on a store of so many pages; and what a call costs besides its audit: the
-//! state taken out of the words and put back.
+//! own, on a store of so many pages; and what the exported call adds to a find: the
+//! test of the words, the counters read and written, the dispatch and the answer.
 
 use std::{alloc::Layout, hint::black_box};
 
@@ -42,22 +42,21 @@ pub fn run(managed: usize) {
         |it| (it.grants_and_frees)(times),
     );
     if managed == 16 {
-        lent_words(&mut store);
+        exported(&mut store);
     }
 }
 
-/// A find through the library and the same find with the state by value: what lies
-/// between is the state taken out of the words and put back.
-fn lent_words(store: &mut FrameStore) {
+/// A find through the library and the same find in a loop of Rattle's own, which has
+/// the counters by value: what lies between is the exported call's.
+fn exported(store: &mut FrameStore) {
     let mut lent = || {
         for _ in 0..TIMES {
             black_box(store.get_frame(black_box(PhysAddr::new(FIRST))).unwrap());
         }
     };
     let mut loans = loans(16);
-    let mut by_value = || drive(rattle::finds, &mut loans, FIRST, TIMES);
-    let [lent, by_value] =
-        best(TURNS, 1, [&mut lent, &mut by_value]).map(|time| time / TIMES as f64);
-    println!("\n{:<39}{:>12}{:>12}{:>8}", "16 pages, ns a call", "lent", "by value", "words");
-    println!("{:<39}{lent:>12.1}{by_value:>12.1}{:>8.1}", "a find", lent - by_value);
+    let mut inside = || drive(rattle::finds, &mut loans, FIRST, TIMES);
+    let [lent, inside] = best(TURNS, 1, [&mut lent, &mut inside]).map(|time| time / TIMES as f64);
+    println!("\n{:<39}{:>12}{:>12}{:>8}", "16 pages, ns a call", "exported", "inside", "more");
+    println!("{:<39}{lent:>12.1}{inside:>12.1}{:>8.1}", "a find", lent - inside);
 }

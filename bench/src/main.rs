@@ -2,8 +2,8 @@
 //! in plain Rust, a grant that splits a frame against the kernel's own, and a
 //! region's layout against a plain fill of its records; and the audit against
 //! the same audit in plain Rust; and whole calls against the kernel's own, and
-//! against memset and memmove; and contents and the state words by themselves, and
-//! the run of a script. README.md says what the figures mean.
+//! against memset and memmove; and contents by themselves, and the run of a script.
+//! README.md says what the figures mean.
 
 mod audit;
 mod calls;
@@ -19,7 +19,6 @@ mod regions;
 mod script;
 mod stack;
 mod whole;
-mod words;
 
 fn main() {
     // The name of one part runs it alone.
@@ -45,7 +44,6 @@ fn main() {
     if runs("calls") {
         calls::run();
         contents::run();
-        words::run();
         stack::run();
     }
 }

@@ -30,8 +30,8 @@ impl Row {
         let mut lists = [Links::default(); 6];
         for (pair, at) in lists.chunks_exact_mut(2).zip(words[2..].chunks_exact(3)) {
             let (low, high) = (|k: usize| at[k] as u32, |k: usize| (at[k] >> 32) as u32);
-            pair[0] = Links { front: low(0), back: high(0), count: low(1) };
-            pair[1] = Links { front: high(1), back: low(2), count: high(2) };
+            pair[0] = Links { front: low(0), back: high(0), count: low(2) };
+            pair[1] = Links { front: low(1), back: high(1), count: high(2) };
         }
         Row { start: words[0], pages: words[1], lists }
     }

@@ -104,21 +104,6 @@ extern "C" {
         size: u64,
         times: usize,
     ) -> usize;
-    fn drivers_words(
-        words: *const u64,
-        count: usize,
-        others: *mut u64,
-        others_count: usize,
-        times: usize,
-    ) -> usize;
-    fn drivers_words_moved(
-        words: *mut u64,
-        count: usize,
-        from: usize,
-        to: usize,
-        times: usize,
-    ) -> usize;
-    fn drivers_moved(words: *mut u64, count: usize, from: usize, to: usize, times: usize) -> usize;
 }
 
 pub type New = fn(&mut [u8], u64, usize) -> usize;
@@ -200,22 +185,6 @@ calls! {
     fill: drivers_fill(size);
     /// Copies one to another.
     copy: drivers_copy(size);
-}
-
-/// Reads the state out of some words and writes it into others, so many times.
-pub fn words(words: &[u64], others: &mut [u64], times: usize) -> usize {
-    let (count, others_count) = (words.len(), others.len());
-    unsafe { drivers_words(words.as_ptr(), count, others.as_mut_ptr(), others_count, times) }
-}
-
-/// Reads the state, puts one row in the place of another and writes it back, so many times.
-pub fn words_moved(words: &mut [u64], from: usize, to: usize, times: usize) -> usize {
-    unsafe { drivers_words_moved(words.as_mut_ptr(), words.len(), from, to, times) }
-}
-
-/// The same with the words read once and written once.
-pub fn moved(words: &mut [u64], from: usize, to: usize, times: usize) -> usize {
-    unsafe { drivers_moved(words.as_mut_ptr(), words.len(), from, to, times) }
 }
 
 /// The loans of the script program, and room for the answers to so many lines.

@@ -76,7 +76,7 @@ impl Store {
         let dirty = ROW + 2 + 3 * level;
         let back = number(order.len().checked_sub(1));
         store.words[dirty] = u64::from(number(Some(0))) | u64::from(back) << 32;
-        store.words[dirty + 1] = order.len() as u64;
+        store.words[dirty + 2] = order.len() as u64;
         store.words[COUNTERS + 2] =
             (tables(pages) + order.len() * 512usize.pow(level as u32)) as u64;
         store.words[COUNTERS + 3] = pages as u64;

@@ -24,8 +24,7 @@ use Rattle.world.specs.Tables.{Sane, Table}
 use Rattle.world.proofs.Allocators.{given, pass-found, pass-none}
 use Rattle.world.proofs.Carrying.{alike-allocate}
 use Rattle.world.proofs.Tables.{table-set, used-set}
-use Rattle.allocator.specs.declared.Picked.{Picked}
-use Rattle.allocator.specs.Spots.{HeldAt, InRows, PicksBy, passBy}
+use Rattle.allocator.specs.Spots.{Picked, HeldAt, InRows, PicksBy, passBy}
 use Rattle.allocator.proofs.Barren.{granted-held, nothing-granted, unchanged}
 use Rattle.allocator.proofs.Arrays.{base-first, base-row, region-stands, row-good, stand-length, used-more}
 use Rattle.allocator.proofs.InOrder.{base-set, row-tiled}

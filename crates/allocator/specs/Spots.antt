@@ -19,7 +19,6 @@ use Rattle.world.specs.Stands.{shift, rowAt}
 use Rattle.world.specs.Tables.{Sane, Table, Turned, Spotted}
 use Rattle.allocator.specs.declared.Spot.{Spot}
 use Rattle.allocator.specs.declared.Seen.{Seen}
-use Rattle.allocator.specs.declared.Picked.{Picked}
 
 -- a spot in the rows, and the page frame number of its page
 abbrev pub numberAt : List Row → Spot → ℕ
@@ -62,6 +61,12 @@ splitAt p a = withFramesOf a (splitAndKeep (a .frames) p)
 -- frame.rs 443, 430 and 470: the marks of a held frame
 abbrev pub markAt : (zeroed kernel : Bool) → ℕ → PhysicalFrameAllocator → PhysicalFrameAllocator
 markAt zeroed kernel p a = withFramesOf a (upd (a .frames) p (marked zeroed kernel (a .frames p)))
+
+-- the rows that a search over the regions leaves, and the spot that it found
+pub record Picked : Type 0 where
+  pub rows : List Row
+  pub found : Bool
+  pub spot : Spot
 
 -- what a search over the regions leaves, and the page that it found
 pub record Picks (f : ℕ → Record) (rows : List Row) (g : ℕ → Record) (n : ℕ) (r : Picked) (x : Allocated) : Type 0 where

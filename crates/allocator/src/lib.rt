@@ -1,14 +1,16 @@
 // The allocator over all regions, after frame.rs's PhysicalFrameAllocator: which region manages an address, and the free, the split and the grant that change one
-// of them. Where a function has a `requires`, that is what the audit establishes (`Sane`), or what an earlier look at an address did.
+// of them. The regions' rows stand in the lent words; a function reads the one that it wants, and writes it back there. Where a function has a `requires`, that is what the audit establishes (`Sane`), or what an earlier look at an address did.
 use address::PhysAddr;
 use definition::Row;
 use region::FoundPage;
 ghost use mathlib.Core.Path.{_≡_};
 ghost use mathlib.Core.Bool.{false};
-ghost use Prim.Native.Nat.{_/_, _<_};
+ghost use Prim.Native.Nat.{_/_, _≤_, _<_};
+ghost use lib.ListN.{length};
 ghost use Rattle.definition.specs.World.{recordAt};
 ghost use Rattle.definition.specs.Allocator.{doAlloc};
 ghost use Rattle.record.specs.Records.{pagesIn};
+ghost use Rattle.words.specs.Words.{rowsIn, RowsBeside};
 ghost use Rattle.world.specs.Tables.{Sane};
 ghost use Rattle.allocator.specs.Spots.{
   numberAt,
@@ -41,14 +43,14 @@ pub struct Seen {
 }
 
 // get_frame, frame.rs 742.
-pub fn see(records: &[u8], rows: [Row; 8], pa: PhysAddr) -> Seen
-    requires { ⌜ Sane (recordAt (now records)) (pagesIn (now records)) rows ⌝ }
-    ensures { λ r. ⌜ SeesAll (recordAt (now (records .entry))) (pagesIn (now (records .entry))) rows (pa .0 / 4096) r ⌝ }
+pub fn see(words: &[u64], records: &[u8], pa: PhysAddr) -> Seen
+    requires { ⌜ (92 ≤ length (now words)) × Sane (recordAt (now records)) (pagesIn (now records)) (rowsIn (now words)) ⌝ }
+    ensures { λ r. ⌜ SeesAll (recordAt (now (records .entry))) (pagesIn (now (records .entry))) (rowsIn (now (words .entry))) (pa .0 / 4096) r ⌝ }
 {
     let mut base: usize = 0;
     let mut i: usize = 0;
     while i < 8 {
-        let row = rows[i];
+        let row = words::row_at(words, i);
         if row.pages == 0 {
             return nothing_seen();
         }
@@ -90,14 +92,14 @@ pub fn nothing_seen() -> Seen
 }
 
 // Whether some list holds a frame of the level or above.
-pub fn is_listed(records: &[u8], rows: [Row; 8], level: usize) -> bool
-    requires { ⌜ Sane (recordAt (now records)) (pagesIn (now records)) rows ⌝ }
+pub fn is_listed(words: &[u64], records: &[u8], level: usize) -> bool
+    requires { ⌜ (92 ≤ length (now words)) × Sane (recordAt (now records)) (pagesIn (now records)) (rowsIn (now words)) ⌝ }
     requires { ⌜ level < 3 ⌝ }
-    ensures { λ r. ⌜ ListedAll (recordAt (now (records .entry))) (pagesIn (now (records .entry))) rows level r ⌝ }
+    ensures { λ r. ⌜ ListedAll (recordAt (now (records .entry))) (pagesIn (now (records .entry))) (rowsIn (now (words .entry))) level r ⌝ }
 {
     let mut i: usize = 0;
     while i < 8 {
-        let row = rows[i];
+        let row = words::row_at(words, i);
         if row.pages == 0 {
             return false;
         }
@@ -127,67 +129,69 @@ fn lists_some(row: Row, level: usize) -> bool
 }
 
 // free, frame.rs 611, of a held frame.
-pub fn free(records: &mut [u8], rows: [Row; 8], spot: Spot) -> [Row; 8]
-    requires { ⌜ Sane (recordAt (now records)) (pagesIn (now records)) rows ⌝ }
-    requires { ⌜ InRows rows spot × HeldAt (recordAt (now records)) rows spot ⌝ }
-    ensures { λ r. ⌜ TurnsBy (freeAt (numberAt rows spot)) (recordAt (now (records .entry))) rows (recordAt (now (records .exit))) (pagesIn (now (records .exit))) r ⌝ }
+pub fn free(words: &mut [u64], records: &mut [u8], spot: Spot)
+    requires { ⌜ (92 ≤ length (now words)) × Sane (recordAt (now records)) (pagesIn (now records)) (rowsIn (now words)) ⌝ }
+    requires { ⌜ InRows (rowsIn (now words)) spot × HeldAt (recordAt (now records)) (rowsIn (now words)) spot ⌝ }
+    ensures { λ _. ⌜ TurnsBy (freeAt (numberAt (rowsIn (now (words .entry))) spot)) (recordAt (now (records .entry))) (rowsIn (now (words .entry))) (recordAt (now (records .exit))) (pagesIn (now (records .exit))) (rowsIn (now (words .exit))) ⌝ }
+    ensures { λ _. ⌜ RowsBeside (now (words .entry)) (now (words .exit)) ⌝ }
 {
-    let i = spot.index;
-    let row = region::free(records, spot.base, rows[i], spot.page);
-    let mut next = rows;
-    next[i] = row;
-    next
+    let row = words::row_at(words, spot.index);
+    let next = region::free(records, spot.base, row, spot.page);
+    words::put_row(words, spot.index, next);
 }
 
 // split_frame, frame.rs 753, of a held frame.
-pub fn split_frame(records: &mut [u8], rows: [Row; 8], spot: Spot)
-    requires { ⌜ Sane (recordAt (now records)) (pagesIn (now records)) rows ⌝ }
-    requires { ⌜ InRows rows spot × HeldAt (recordAt (now records)) rows spot ⌝ }
-    ensures { λ _. ⌜ TurnsBy (splitAt (numberAt rows spot)) (recordAt (now (records .entry))) rows (recordAt (now (records .exit))) (pagesIn (now (records .exit))) rows ⌝ }
+pub fn split_frame(words: &[u64], records: &mut [u8], spot: Spot)
+    requires { ⌜ (92 ≤ length (now words)) × Sane (recordAt (now records)) (pagesIn (now records)) (rowsIn (now words)) ⌝ }
+    requires { ⌜ InRows (rowsIn (now words)) spot × HeldAt (recordAt (now records)) (rowsIn (now words)) spot ⌝ }
+    ensures { λ _. ⌜ TurnsBy (splitAt (numberAt (rowsIn (now (words .entry))) spot)) (recordAt (now (records .entry))) (rowsIn (now (words .entry))) (recordAt (now (records .exit))) (pagesIn (now (records .exit))) (rowsIn (now (words .entry))) ⌝ }
 {
-    let i = spot.index;
-    region::split_and_keep(records, spot.base, rows[i], spot.page);
+    let row = words::row_at(words, spot.index);
+    region::split_and_keep(records, spot.base, row, spot.page);
 }
 
 // set_not_zero, zero but for the bytes, and set_kernel (frame.rs 443, 430, 470): the marks of a held frame.
-pub fn set_marks(records: &mut [u8], rows: [Row; 8], spot: Spot, zeroed: bool, kernel: bool)
-    requires { ⌜ Sane (recordAt (now records)) (pagesIn (now records)) rows ⌝ }
-    requires { ⌜ InRows rows spot × HeldAt (recordAt (now records)) rows spot ⌝ }
-    ensures { λ _. ⌜ TurnsBy (markAt zeroed kernel (numberAt rows spot)) (recordAt (now (records .entry))) rows (recordAt (now (records .exit))) (pagesIn (now (records .exit))) rows ⌝ }
+pub fn set_marks(words: &[u64], records: &mut [u8], spot: Spot, zeroed: bool, kernel: bool)
+    requires { ⌜ (92 ≤ length (now words)) × Sane (recordAt (now records)) (pagesIn (now records)) (rowsIn (now words)) ⌝ }
+    requires { ⌜ InRows (rowsIn (now words)) spot × HeldAt (recordAt (now records)) (rowsIn (now words)) spot ⌝ }
+    ensures { λ _. ⌜ TurnsBy (markAt zeroed kernel (numberAt (rowsIn (now (words .entry))) spot)) (recordAt (now (records .entry))) (rowsIn (now (words .entry))) (recordAt (now (records .exit))) (pagesIn (now (records .exit))) (rowsIn (now (words .entry))) ⌝ }
 {
-    let i = spot.index;
-    region::set_marks(records, spot.base, rows[i], spot.page, zeroed, kernel);
+    let row = words::row_at(words, spot.index);
+    region::set_marks(records, spot.base, row, spot.page, zeroed, kernel);
 }
 
-// What a search over the regions leaves of the rows, and the frame that it found.
+// The frame that a search over the regions found.
 pub struct Picked {
-    pub rows: [Row; 8],
     pub found: bool,
     pub spot: Spot,
 }
 
 // frame.rs 596 and 602: the first region, in order, that has a frame.
-fn pass(records: &mut [u8], rows: [Row; 8], level: usize, try_zero: bool, only_zero: bool) -> Picked
-    requires { ⌜ Sane (recordAt (now records)) (pagesIn (now records)) rows ⌝ }
+fn pass(
+    words: &mut [u64],
+    records: &mut [u8],
+    level: usize,
+    try_zero: bool,
+    only_zero: bool,
+) -> Picked
+    requires { ⌜ (92 ≤ length (now words)) × Sane (recordAt (now records)) (pagesIn (now records)) (rowsIn (now words)) ⌝ }
     requires { ⌜ level < 3 ⌝ }
-    ensures { λ r. ⌜ PicksBy (passBy level «try_zero» «only_zero») (recordAt (now (records .entry))) rows (recordAt (now (records .exit))) (pagesIn (now (records .exit))) r ⌝ }
+    ensures { λ r. ⌜ PicksBy (passBy level «try_zero» «only_zero») (recordAt (now (records .entry))) (rowsIn (now (words .entry))) (recordAt (now (records .exit))) (pagesIn (now (records .exit))) (record { rows = rowsIn (now (words .exit)); found = r .found; spot = r .spot }) ⌝ }
+    ensures { λ _. ⌜ RowsBeside (now (words .entry)) (now (words .exit)) ⌝ }
 {
     let mut base: usize = 0;
     let mut i: usize = 0;
     while i < 8 {
-        let row = rows[i];
+        let row = words::row_at(words, i);
         if row.pages == 0 {
-            return nothing_picked(rows);
+            return nothing_picked();
         }
         let got = region::allocate(records, base, row, level, try_zero, only_zero);
         let found = got.found;
         match found {
             FoundPage::At(page) => {
-                let mut next = rows;
-                let changed = got.row;
-                next[i] = changed;
+                words::put_row(words, i, got.row);
                 return Picked {
-                    rows: next,
                     found: true,
                     spot: Spot {
                         index: i,
@@ -201,14 +205,13 @@ fn pass(records: &mut [u8], rows: [Row; 8], level: usize, try_zero: bool, only_z
         base += row.pages - region::table_pages(row.pages);
         i += 1;
     }
-    nothing_picked(rows)
+    nothing_picked()
 }
 
-fn nothing_picked(rows: [Row; 8]) -> Picked
-    ensures { λ r. ⌜ (r .rows ≡ rows) × (r .found ≡ false) ⌝ }
+fn nothing_picked() -> Picked
+    ensures { λ r. ⌜ r .found ≡ false ⌝ }
 {
     Picked {
-        rows,
         found: false,
         spot: Spot {
             index: 0,
@@ -219,15 +222,15 @@ fn nothing_picked(rows: [Row; 8]) -> Picked
 }
 
 // __do_alloc, frame.rs 594: zeroed only where that was asked, else dirty only; then either kind.
-pub fn do_alloc(records: &mut [u8], rows: [Row; 8], level: usize, needs_zero: bool) -> Picked
-    requires { ⌜ Sane (recordAt (now records)) (pagesIn (now records)) rows ⌝ }
+pub fn do_alloc(words: &mut [u64], records: &mut [u8], level: usize, needs_zero: bool) -> Picked
+    requires { ⌜ (92 ≤ length (now words)) × Sane (recordAt (now records)) (pagesIn (now records)) (rowsIn (now words)) ⌝ }
     requires { ⌜ level < 3 ⌝ }
-    ensures { λ r. ⌜ PicksBy (doAlloc level «needs_zero») (recordAt (now (records .entry))) rows (recordAt (now (records .exit))) (pagesIn (now (records .exit))) r ⌝ }
+    ensures { λ r. ⌜ PicksBy (doAlloc level «needs_zero») (recordAt (now (records .entry))) (rowsIn (now (words .entry))) (recordAt (now (records .exit))) (pagesIn (now (records .exit))) (record { rows = rowsIn (now (words .exit)); found = r .found; spot = r .spot }) ⌝ }
+    ensures { λ _. ⌜ RowsBeside (now (words .entry)) (now (words .exit)) ⌝ }
 {
-    let picked = pass(records, rows, level, false, needs_zero);
+    let picked = pass(words, records, level, false, needs_zero);
     if picked.found {
         return picked;
     }
-    let left = picked.rows;
-    pass(records, left, level, true, false)
+    pass(words, records, level, true, false)
 }

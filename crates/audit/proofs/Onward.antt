@@ -33,15 +33,9 @@ or-off b e = ap (λ (t : Bool). t || b) e
 -- ---- a test of each
 
 module _ {A : Type 0} (test : A → Bool) {xs ys : List A} {x : A} (e : xs ≡ x ∷ ys) where
-  pub all-next : all test xs ≡ (test x && all test ys)
-  unfolding all
-  all-next = ap (all test) e
-
   pub all-on : test x ≡ true → all test xs ≡ all test ys
-  all-on h = all-next ∙ and-on _ h
-
-  pub all-off : test x ≡ false → all test xs ≡ false
-  all-off h = all-next ∙ and-off _ h
+  unfolding all
+  all-on h = ap (all test) e ∙ and-on _ h
 
   pub any-on : test x ≡ false → any test xs ≡ any test ys
   unfolding any

@@ -7,7 +7,6 @@ use mathlib.Core.Path.{_≡_, refl, ap, _∙_}
 use native.Mathlib.Omega.{arith}
 use lib.Dec.{eqb}
 use lib.ListN.{length, getD, drop}
-use lib.Seq.{drop-length}
 use mir.Val.{Val}
 use denote.Laws.{Is}
 use denote.Array.{Array}
@@ -15,8 +14,8 @@ use borrow.Author.Tests.{eq-eqb, ne-eqb}
 use Rattle.definition.specs.declared.Row.{Row}
 use Rattle.definition.specs.World.{usedRows}
 use Rattle.definition.proofs.Row as R
+use Rattle.words.proofs.Owned.{rows-eight}
 use Rattle.audit.specs.Sheet.{rowAt}
-use Rattle.audit.proofs.Arrays.{rows-eight}
 use Rattle.audit.proofs.Onward.{drop-at}
 
 -- what a place past the end reads as
@@ -38,9 +37,6 @@ used-get (r ∷ rs) i h = go (eqb (r .pages) 0) i h (λ j k. used-get rs j k)
 pub used-at : (rows : List Row) (i : ℕ) → i < length (usedRows rows) → drop i (usedRows rows) ≡ rowAt rows i ∷ drop (i + 1) (usedRows rows)
 used-at rows i h =
     drop-at (usedRows rows) i noPlace h ∙ ap (λ (r : Row). r ∷ drop (i + 1) (usedRows rows)) (used-get rows i h)
-
-pub used-end : (rows : List Row) → drop (length (usedRows rows)) (usedRows rows) ≡ []
-used-end rows = drop-length (usedRows rows)
 
 used-most : (rows : List Row) → length (usedRows rows) ≤ length rows
 unfolding usedRows

@@ -2,13 +2,11 @@
 // rows, other functions those of all rows together, of the counters and of the rest. `audit` is true exactly where every sentence holds: on any rows,
 // numbers and bytes whatever, reading nothing outside the loans. Boot asks four of them of the rows that it keeps.
 use definition::Counters;
-use definition::Links;
 use definition::Pass;
 use definition::Row;
 ghost use mathlib.Core.Bool.{true, false, not, _&&_};
 ghost use mathlib.Core.Path.{_≡_};
 ghost use Prim.Native.Nat.{_+_, _≤_, _<_};
-ghost use lib.Dec.{eqb};
 ghost use lib.ListN.{length, drop};
 ghost use Rattle.definition.specs.Board.{standard};
 ghost use Rattle.definition.specs.Basics.{all, any};
@@ -20,8 +18,6 @@ ghost use Rattle.definition.specs.Boot.{
 };
 ghost use Rattle.definition.specs.World.{recordAt, bareRegion, usedRows};
 ghost use Rattle.definition.specs.Torn.{
-  isNoLinks,
-  isNoRow,
   bareRegions,
   regionsOf,
   rowAsBoot,
@@ -32,43 +28,10 @@ ghost use Rattle.definition.specs.Torn.{
   passWithin,
 };
 ghost use Rattle.record.specs.Records.{pagesIn};
+ghost use Rattle.words.specs.Words.{rowsIn, queuedIn, passIn};
 ghost use Rattle.audit.specs.Sheet.{rowAt, Few, Visited, Surveys, countsAs, Exact};
 
 // ---- "the rows' starts and pages are such as boot makes"
-
-// Both tests are made before either is looked at: without a branch at each number, the zeros of a row are read as vectors.
-fn both(a: bool, b: bool) -> bool
-    ensures { λ r. ⌜ r ≡ (a && b) ⌝ }
-{
-    if a { b } else { false }
-}
-
-fn is_no_links(l: Links) -> bool
-    ensures { λ r. ⌜ r ≡ isNoLinks l ⌝ }
-{
-    both(l.front == 0, both(l.back == 0, l.count == 0))
-}
-
-// An unused row is all zeros.
-fn is_no_row(row: Row) -> bool
-    ensures { λ r. ⌜ r ≡ isNoRow row ⌝ }
-{
-    let start = row.start;
-    let lists = row.lists;
-    let mut none = both(start.raw() == 0, row.pages == 0);
-    let mut k: usize = 0;
-    while k < 6 {
-        none = both(none, is_no_links(lists[k]));
-        k += 1;
-    }
-    none
-}
-
-fn is_unused(row: Row) -> bool
-    ensures { λ r. ⌜ r ≡ eqb (row .pages) 0 ⌝ }
-{
-    row.pages == 0
-}
 
 // A page edge, more than one page, an end by 2^40, which is the page 2^28. The sheet also asks for more pages than the tables take: so it is with
 // any number of pages past one.
@@ -152,15 +115,15 @@ pub fn total_pages(rows: [Row; 8], used: usize) -> usize
     pages
 }
 
-// No two rows in use share a page. A single row shares none, and then the rows are not copied to be looked at.
-fn apart(rows: [Row; 8], used: usize) -> bool
-    requires { ⌜ (used ≡ length (usedRows rows)) × (all (rowAsBoot standard) (usedRows rows) ≡ true) ⌝ }
-    ensures { λ r. ⌜ r ≡ not (overlap standard (regionsOf standard rows)) ⌝ }
+// No two rows in use share a page. A single row shares none, and then the rows are not read.
+fn apart(words: &[u64], used: usize) -> bool
+    requires { ⌜ (92 ≤ length (now words)) × (used ≡ length (usedRows (rowsIn (now words)))) × (all (rowAsBoot standard) (usedRows (rowsIn (now words))) ≡ true) ⌝ }
+    ensures { λ r. ⌜ r ≡ not (overlap standard (regionsOf standard (rowsIn (now (words .entry))))) ⌝ }
 {
     if used < 2 {
         return true;
     }
-    !overlaps(rows, used)
+    !overlaps(words::rows_in(words), used)
 }
 
 // ---- "and the loans long enough"
@@ -250,10 +213,10 @@ fn visit(records: &[u8], row: Row, seen: Surveyed) -> Surveyed
     }
 }
 
-// All rows, each looked at once: those in use, and behind them the unused ones. One function does all of it, since each that picks a row by its number
-// copies the eight; and it picks the row anew for each test, so that an unused one is read where it stands.
-fn survey(records: &[u8], rows: [Row; 8]) -> Surveyed
-    ensures { λ r. ⌜ Surveys (recordAt (now (records .entry))) (pagesIn (now (records .entry))) rows r ⌝ }
+// The rows in use, each looked at once, and behind them the unused ones, all zeros.
+fn survey(records: &[u8], words: &[u64]) -> Surveyed
+    requires { ⌜ 92 ≤ length (now words) ⌝ }
+    ensures { λ r. ⌜ Surveys (recordAt (now (records .entry))) (pagesIn (now (records .entry))) (rowsIn (now (words .entry))) r ⌝ }
 {
     let mut seen = Surveyed {
         ok: true,
@@ -263,22 +226,15 @@ fn survey(records: &[u8], rows: [Row; 8]) -> Surveyed
         page: 0,
         kernel: 0,
     };
-    let mut i: usize = 0;
-    while i < 8 {
-        if is_unused(rows[i]) {
-            if !is_no_row(rows[i]) {
-                return torn_rows();
-            }
-        } else {
-            if seen.used < i {
-                return torn_rows();
-            }
-            seen = visit(records, rows[i], seen);
-            if !seen.ok {
-                return torn_rows();
-            }
+    while seen.used < 8 {
+        if words::pages_at(words, seen.used) == 0 {
+            seen.ok = words::is_no_rows(words, seen.used);
+            return seen;
         }
-        i += 1;
+        seen = visit(records, words::row_at(words, seen.used), seen);
+        if !seen.ok {
+            return torn_rows();
+        }
     }
     seen
 }
@@ -330,24 +286,23 @@ fn within(counters: Counters, queued: usize, room: usize, pass: Pass) -> bool
 // Whether all that a later call is given is as the sheet says. The memory's bytes and the queue's places are not read: any loans of `memory_len` bytes
 // and `queue_len` places do.
 pub fn audit(
-    rows: [Row; 8],
     counters: Counters,
-    queued: usize,
-    pass: Pass,
+    words: &[u64],
     records: &[u8],
     memory_len: usize,
     queue_len: usize,
 ) -> bool
-    ensures { λ r. ⌜ Exact rows counters queued pass (now (records .entry)) «memory_len» «queue_len» r ⌝ }
+    requires { ⌜ 92 ≤ length (now words) ⌝ }
+    ensures { λ r. ⌜ Exact (rowsIn (now (words .entry))) counters (queuedIn (now (words .entry))) (passIn (now (words .entry))) (now (records .entry)) «memory_len» «queue_len» r ⌝ }
 {
-    let seen = survey(records, rows);
+    let seen = survey(records, words);
     if !seen.ok {
         return false;
     }
     if 1048576 < seen.total {
         return false;
     }
-    if !apart(rows, seen.used) {
+    if !apart(words, seen.used) {
         return false;
     }
     if memory_len < 4096 * seen.managed {
@@ -356,5 +311,10 @@ pub fn audit(
     if !counted(counters, seen) {
         return false;
     }
-    within(counters, queued, queue_len, pass)
+    within(
+        counters,
+        words::queued_in(words),
+        queue_len,
+        words::pass_in(words),
+    )
 }

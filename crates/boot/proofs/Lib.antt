@@ -5,3 +5,4 @@ pub mod Refusing
 pub mod Laying
 pub mod OneByOne
 pub mod Leaving
+pub mod Writing

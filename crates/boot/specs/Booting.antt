@@ -5,7 +5,7 @@ use mathlib.Core.Bool.{true, false, cond}
 use mathlib.Core.List.{List, [], _∷_, _++_}
 use mathlib.Core.Option.{none}
 use mathlib.Core.Path.{_≡_}
-use lib.Dec.{ltb}
+use lib.Dec.{eqb, ltb}
 use lib.ListN.{length, take, drop, replicate}
 use Rattle.definition.specs.declared.MemoryRegion.{MemoryRegion}
 use Rattle.definition.specs.declared.Record.{Record}
@@ -17,12 +17,13 @@ use Rattle.definition.specs.Boot.{bootSheet, countersAtBoot, endsFar, managedPa
 use Rattle.definition.specs.Refusal.{lowest}
 use Rattle.definition.specs.World.{World, bareRegion, noRow, usedRows}
 use Rattle.definition.specs.Torn.{bootCall, isNoRow, loansLong, regionsOf, rowAsBoot}
+use Rattle.record.specs.Records.{withBytes}
 use Rattle.region.specs.Rep.{emptyRow}
+use Rattle.words.specs.Words.{keptOf, passIn, queuedIn, rowsIn}
 use Rattle.world.specs.Refusals.{numberIf}
 use Rattle.world.specs.Stands.{StandRows}
 use Rattle.exam.specs.declared.Answer.{Answer}
-use Rattle.exam.specs.declared.State.{State}
-use Rattle.exam.specs.Promise.{told}
+use Rattle.exam.specs.Promise.{State, told}
 use Rattle.boot.specs.declared.Kept.{Kept}
 
 -- ---- the map
@@ -108,3 +109,8 @@ pub record Boots (ms : List MemoryRegion) (w v : World) (y : Answer) : Type 0 wh
 -- whatever stands past the eighth entry of the map
 abbrev pub BootsAll : List MemoryRegion → ℕ → World → World → Answer → Type 0
 BootsAll map count w v y = (ms : List MemoryRegion) → length ms ≡ count → take 8 ms ≡ take count map → Boots ms w v y
+
+-- and of the words: a boot that is refused leaves them as they are; else they are written whole, from the version to the pass
+pub record BootsOver (ws vs : List ℕ) (y : Answer) : Type 0 where
+  pub refused : eqb (y .number) 0 ≡ false → vs ≡ ws
+  pub written : eqb (y .number) 0 ≡ true → vs ≡ withBytes ws 0 (keptOf (rowsIn vs) (queuedIn vs) (passIn vs))

@@ -8,18 +8,17 @@ use definition::MemoryRegionKind;
 use definition::Pass;
 use definition::Row;
 use exam::Outcome;
-use exam::State;
 ghost use mathlib.Core.Bool.{false};
 ghost use mathlib.Core.Path.{_≡_};
 ghost use Prim.Native.Nat.{_≤_};
-ghost use lib.ListN.{take};
+ghost use lib.ListN.{length, take};
 ghost use Rattle.definition.specs.Allocator.{isUsable};
 ghost use Rattle.definition.specs.Basics.{any};
-ghost use Rattle.definition.specs.Boot.{endsFar};
+ghost use Rattle.definition.specs.Boot.{countersAtBoot, endsFar};
 ghost use Rattle.definition.specs.World.{recordAt};
 ghost use Rattle.record.specs.Records.{pagesIn};
 ghost use Rattle.region.specs.Rep.{emptyRow};
-ghost use Rattle.exam.specs.Promise.{worldOf};
+ghost use Rattle.exam.specs.Promise.{stateWith, worldOf};
 ghost use Rattle.boot.specs.Booting.{
   Keeps,
   RowsKept,
@@ -27,7 +26,7 @@ ghost use Rattle.boot.specs.Booting.{
   Ready,
   Lays,
   BootsAll,
-  stateAtBoot,
+  BootsOver,
   rowOf,
   rowsRefusal,
 };
@@ -196,10 +195,10 @@ fn lay_out(records: &mut [u8], rows: [Row; 8], used: usize) -> [Row; 8]
 }
 
 // tracker.rs 469, init: of so many pages all are idle.
-fn started(rows: [Row; 8], pages: usize) -> State
-    ensures { λ r. ⌜ r ≡ stateAtBoot rows pages ⌝ }
+fn started(pages: usize) -> Counters
+    ensures { λ r. ⌜ r ≡ countersAtBoot pages ⌝ }
 {
-    let counters = Counters {
+    Counters {
         kernel_used: 0,
         page_data: 0,
         idle: pages,
@@ -209,34 +208,27 @@ fn started(rows: [Row; 8], pages: usize) -> State
         reclaimed: 0,
         waiting: 0,
         pager_outstanding: 0,
-    };
-    let pass = Pass {
-        rounds: 0,
-        freed: 0,
-    };
-    State {
-        rows,
-        counters,
-        queued: 0,
-        pass,
     }
 }
 
-// init, frame.rs 707: the store that a map of `count` entries makes, of which `map` has the first eight. The memory's bytes stay.
+// init, frame.rs 707: the store that a map of `count` entries makes, of which `map` has the first eight. The memory's bytes stay. Nothing of the words is read.
 pub fn boot(
-    state: State,
+    counters: Counters,
+    words: &mut [u64],
     map: [MemoryRegion; 8],
     count: usize,
     records: &mut [u8],
     memory: &[u8],
     queue: &[u64],
 ) -> Outcome
-    ensures { λ r. ⌜ BootsAll map count (worldOf state (now (records .entry)) (now (memory .entry)) (now (queue .entry))) (worldOf (r .state) (now (records .exit)) (now (memory .entry)) (now (queue .entry))) (r .answer) ⌝ }
+    requires { ⌜ 92 ≤ length (now words) ⌝ }
+    ensures { λ r. ⌜ BootsAll map count (worldOf (stateWith counters (now (words .entry))) (now (records .entry)) (now (memory .entry)) (now (queue .entry))) (worldOf (stateWith (r .counters) (now (words .exit))) (now (records .exit)) (now (memory .entry)) (now (queue .entry))) (r .answer) ⌝ }
+    ensures { λ r. ⌜ BootsOver (now (words .entry)) (now (words .exit)) (r .answer) ⌝ }
 {
     let number = refusal_of_map(map, count, records.len(), memory.len());
     if number != 0 {
         return Outcome {
-            state,
+            counters,
             answer: exam::refused(number),
         };
     }
@@ -246,8 +238,13 @@ pub fn boot(
     let pages = audit::total_pages(rows, used);
     let managed = audit::managed_pages(rows, used);
     let laid = lay_out(records, rows, used);
+    let pass = Pass {
+        rounds: 0,
+        freed: 0,
+    };
+    words::put_kept(words, laid, 0, pass);
     Outcome {
-        state: started(laid, pages),
+        counters: started(pages),
         answer: exam::done(0, 4096 * (managed as u64)),
     }
 }

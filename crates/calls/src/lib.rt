@@ -1,17 +1,18 @@
 // Every call that answers by numbers, by its op and at most five numbers: one way in for all that read a call from elsewhere, a line of a script or words that a
 // kernel lends. It promises what the call promises.
 use address::PhysAddr;
+use definition::Counters;
 use definition::FrameAllocFlags;
 use definition::MemoryRegionKind;
 use exam::Answer;
 use exam::Outcome;
-use exam::State;
 use lines::Ask;
 ghost use mathlib.Core.Path.{_≡_};
-ghost use Prim.Native.Nat.{_%_};
-ghost use lib.ListN.{getD};
+ghost use Prim.Native.Nat.{_≤_, _%_};
+ghost use lib.ListN.{getD, length};
 ghost use Rattle.definition.specs.Script.{flagsOf, kindOf};
-ghost use Rattle.exam.specs.Promise.{worldOf, Leaves};
+ghost use Rattle.words.specs.Words.{Beside};
+ghost use Rattle.exam.specs.Promise.{stateWith, worldOf, Leaves};
 ghost use Rattle.lines.specs.Reading.{callOf};
 
 // "0 UsableRam, 1 Reserved, 2 BootloaderReserved"; a kind over 2 is no usable memory either.
@@ -50,19 +51,28 @@ fn byte_of(n: u64) -> u8
     (n % 256) as u8
 }
 
-// A call that leaves the state as it is.
-fn kept(state: State, answer: Answer) -> Outcome
-    ensures { λ r. ⌜ r ≡ record { state = state; answer = answer } ⌝ }
+// A call that leaves the words and the counters as they are.
+fn kept(counters: Counters, answer: Answer) -> Outcome
+    ensures { λ r. ⌜ r ≡ record { counters = counters; answer = answer } ⌝ }
 {
-    Outcome { state, answer }
+    Outcome { counters, answer }
 }
 
-fn fill(state: State, records: &mut [u8], memory: &mut [u8], queue: &[u64], n: [u64; 5]) -> Answer
-    ensures { λ r. ⌜ Leaves (worldOf state (now (records .entry)) (now (memory .entry)) (now (queue .entry))) (callOf (Ask.Fill) (λ i. getD n i 0)) (worldOf state (now (records .exit)) (now (memory .exit)) (now (queue .entry))) r ⌝ }
+fn fill(
+    counters: Counters,
+    words: &[u64],
+    records: &mut [u8],
+    memory: &mut [u8],
+    queue: &[u64],
+    n: [u64; 5],
+) -> Answer
+    requires { ⌜ 92 ≤ length (now words) ⌝ }
+    ensures { λ r. ⌜ Leaves (worldOf (stateWith counters (now (words .entry))) (now (records .entry)) (now (memory .entry)) (now (queue .entry))) (callOf (Ask.Fill) (λ i. getD n i 0)) (worldOf (stateWith counters (now (words .entry))) (now (records .exit)) (now (memory .exit)) (now (queue .entry))) r ⌝ }
 {
     let byte = byte_of(n[3]);
     ranges::fill(
-        state,
+        counters,
+        words,
         records,
         memory,
         queue,
@@ -73,49 +83,122 @@ fn fill(state: State, records: &mut [u8], memory: &mut [u8], queue: &[u64], n: [
     )
 }
 
-fn copy(state: State, records: &mut [u8], memory: &mut [u8], queue: &[u64], n: [u64; 5]) -> Answer
-    ensures { λ r. ⌜ Leaves (worldOf state (now (records .entry)) (now (memory .entry)) (now (queue .entry))) (callOf (Ask.Copy) (λ i. getD n i 0)) (worldOf state (now (records .exit)) (now (memory .exit)) (now (queue .entry))) r ⌝ }
+fn copy(
+    counters: Counters,
+    words: &[u64],
+    records: &mut [u8],
+    memory: &mut [u8],
+    queue: &[u64],
+    n: [u64; 5],
+) -> Answer
+    requires { ⌜ 92 ≤ length (now words) ⌝ }
+    ensures { λ r. ⌜ Leaves (worldOf (stateWith counters (now (words .entry))) (now (records .entry)) (now (memory .entry)) (now (queue .entry))) (callOf (Ask.Copy) (λ i. getD n i 0)) (worldOf (stateWith counters (now (words .entry))) (now (records .exit)) (now (memory .exit)) (now (queue .entry))) r ⌝ }
 {
     let to = PhysAddr(n[0]);
     let from = PhysAddr(n[2]);
-    copies::copy(state, records, memory, queue, to, n[1], from, n[3], n[4])
+    copies::copy(
+        counters,
+        words,
+        records,
+        memory,
+        queue,
+        to,
+        n[1],
+        from,
+        n[3],
+        n[4],
+    )
 }
 
-fn pcopy(state: State, records: &mut [u8], memory: &mut [u8], queue: &[u64], n: [u64; 5]) -> Answer
-    ensures { λ r. ⌜ Leaves (worldOf state (now (records .entry)) (now (memory .entry)) (now (queue .entry))) (callOf (Ask.Pcopy) (λ i. getD n i 0)) (worldOf state (now (records .exit)) (now (memory .exit)) (now (queue .entry))) r ⌝ }
+fn pcopy(
+    counters: Counters,
+    words: &[u64],
+    records: &mut [u8],
+    memory: &mut [u8],
+    queue: &[u64],
+    n: [u64; 5],
+) -> Answer
+    requires { ⌜ 92 ≤ length (now words) ⌝ }
+    ensures { λ r. ⌜ Leaves (worldOf (stateWith counters (now (words .entry))) (now (records .entry)) (now (memory .entry)) (now (queue .entry))) (callOf (Ask.Pcopy) (λ i. getD n i 0)) (worldOf (stateWith counters (now (words .entry))) (now (records .exit)) (now (memory .exit)) (now (queue .entry))) r ⌝ }
 {
     let to = PhysAddr(n[0]);
     let from = PhysAddr(n[2]);
-    copies::pcopy(state, records, memory, queue, to, n[1], from, n[3])
+    copies::pcopy(
+        counters,
+        words,
+        records,
+        memory,
+        queue,
+        to,
+        n[1],
+        from,
+        n[3],
+    )
 }
 
 // The calls that answer by numbers.
 pub fn ask(
-    state: State,
+    counters: Counters,
+    words: &mut [u64],
     records: &mut [u8],
     memory: &mut [u8],
     queue: &mut [u64],
     op: Ask,
     n: [u64; 5],
 ) -> Outcome
-    ensures { λ r. ⌜ Leaves (worldOf state (now (records .entry)) (now (memory .entry)) (now (queue .entry))) (callOf op (λ i. getD n i 0)) (worldOf (r .state) (now (records .exit)) (now (memory .exit)) (now (queue .exit))) (r .answer) ⌝ }
+    requires { ⌜ 92 ≤ length (now words) ⌝ }
+    ensures { λ r. ⌜ Leaves (worldOf (stateWith counters (now (words .entry))) (now (records .entry)) (now (memory .entry)) (now (queue .entry))) (callOf op (λ i. getD n i 0)) (worldOf (stateWith (r .counters) (now (words .exit))) (now (records .exit)) (now (memory .exit)) (now (queue .exit))) (r .answer) ⌝ }
+    ensures { λ _. ⌜ Beside (now (words .entry)) (now (words .exit)) ⌝ }
 {
     let pa = PhysAddr(n[0]);
     match op {
-        Ask::Alloc => grants::alloc(state, records, memory, queue, n[0], n[1], flags_of(n[2])),
-        Ask::Take => grants::take(state, records, memory, queue, n[0], n[1], flags_of(n[2])),
-        Ask::Split => kept(state, frames::split(state, records, memory, queue, pa)),
-        Ask::Free => frames::free(state, records, memory, queue, pa),
-        Ask::Zero => kept(state, ranges::zero(state, records, memory, queue, pa)),
-        Ask::Dirty => kept(state, ranges::dirty(state, records, memory, queue, pa)),
-        Ask::Find => kept(state, frames::find(state, records, memory, queue, pa)),
-        Ask::Queue => reclaim::queue(state, records, memory, queue, pa),
-        Ask::Fill => kept(state, fill(state, records, memory, queue, n)),
-        Ask::Copy => kept(state, copy(state, records, memory, queue, n)),
-        Ask::Pcopy => kept(state, pcopy(state, records, memory, queue, n)),
-        Ask::Round => reclaim::round(state, records, memory, queue),
-        Ask::Lend => counts::lend(state, records, memory, queue, size_of(n[0])),
-        Ask::Back => counts::back(state, records, memory, queue, size_of(n[0])),
-        Ask::Low => kept(state, counts::low(state, records, memory, queue)),
+        Ask::Alloc => grants::alloc(
+            counters,
+            words,
+            records,
+            memory,
+            queue,
+            n[0],
+            n[1],
+            flags_of(n[2]),
+        ),
+        Ask::Take => grants::take(
+            counters,
+            words,
+            records,
+            memory,
+            queue,
+            n[0],
+            n[1],
+            flags_of(n[2]),
+        ),
+        Ask::Split => kept(
+            counters,
+            frames::split(counters, words, records, memory, queue, pa),
+        ),
+        Ask::Free => frames::free(counters, words, records, memory, queue, pa),
+        Ask::Zero => kept(
+            counters,
+            ranges::zero(counters, words, records, memory, queue, pa),
+        ),
+        Ask::Dirty => kept(
+            counters,
+            ranges::dirty(counters, words, records, memory, queue, pa),
+        ),
+        Ask::Find => kept(
+            counters,
+            frames::find(counters, words, records, memory, queue, pa),
+        ),
+        Ask::Queue => reclaim::queue(counters, words, records, memory, queue, pa),
+        Ask::Fill => kept(counters, fill(counters, words, records, memory, queue, n)),
+        Ask::Copy => kept(counters, copy(counters, words, records, memory, queue, n)),
+        Ask::Pcopy => kept(counters, pcopy(counters, words, records, memory, queue, n)),
+        Ask::Round => reclaim::round(counters, words, records, memory, queue),
+        Ask::Lend => counts::lend(counters, words, records, memory, queue, size_of(n[0])),
+        Ask::Back => counts::back(counters, words, records, memory, queue, size_of(n[0])),
+        Ask::Low => kept(
+            counters,
+            counts::low(counters, words, records, memory, queue),
+        ),
     }
 }

@@ -1,5 +1,5 @@
 -- A copy between two held frames: which of its three ways it takes, by the marks that were read, and that what it leaves and answers is the definition's.
-use Prim.Native.Nat.{ℕ, _+_, _*_, _/_, _%_}
+use Prim.Native.Nat.{ℕ, _+_, _*_, _/_, _%_, _≤_}
 use mathlib.Core.Bool.{Bool, true, false, cond, false≢true}
 use mathlib.Core.Path.{_≡_, refl, sym, _∙_}
 use native.Mathlib.Decide.{ℕ-discrete}
@@ -16,7 +16,8 @@ use Rattle.definition.specs.Torn.{Sound, sound}
 use Rattle.record.specs.Records.{pagesIn}
 use Rattle.audit.proofs.Sheets.{sound-is}
 use Rattle.world.specs.Refusals.{lower}
-use Rattle.world.proofs.Leaving.{sound-table}
+use Rattle.world.specs.Tables.{Sane}
+use Rattle.world.proofs.Leaving.{sound-sane, sound-table}
 use Rattle.world.proofs.Refusing.{two-frames}
 use Rattle.allocator.specs.declared.Seen.{Seen}
 use Rattle.allocator.specs.Spots.{numberAt}
@@ -62,6 +63,10 @@ module _
     from-zeroed e d = rw (span-zeroed w S Q ∙ e, span-zeroed w S P ∙ d) refl
 
 -- ---- what the tests found
+
+-- what the functions that look at a frame require, where so many words are lent
+pub sane-with : (w : World) → sound standard w ≡ true → {n : ℕ} → 92 ≤ n → (92 ≤ n) × Sane (recordAt (w .records)) (pagesIn (w .records)) (w .rows)
+sane-with w t enough = (enough, sound-sane w (sound-is standard w t))
 
 module _ (w : World) (t : sound standard w ≡ true) {a off len : ℕ} {r : Exam} where
   pub looked : Looks (recordAt (w .records)) (pagesIn (w .records)) (w .rows) a off len r → Examined w a off len r

@@ -8,6 +8,7 @@ use lib.Dec.{ltb}
 use lib.ListN.{length, take, drop}
 use Rattle.definition.specs.declared.Record.{Record}
 use Rattle.definition.specs.declared.Row.{Row}
+use Rattle.definition.specs.declared.Counters.{Counters}
 use Rattle.definition.specs.Board.{standard}
 use Rattle.definition.specs.Frame.{size}
 use Rattle.definition.specs.Allocator.{end}
@@ -19,8 +20,7 @@ use Rattle.definition.specs.Torn.{Sound, call}
 use Rattle.world.specs.Stands.{rowAt}
 use Rattle.allocator.specs.declared.Seen.{Seen}
 use Rattle.allocator.specs.Spots.{numberAt}
-use Rattle.exam.specs.declared.State.{State}
-use Rattle.exam.specs.Promise.{HeldSeen, worldOf}
+use Rattle.exam.specs.Promise.{State, stateWith, HeldSeen, worldOf}
 use Rattle.copies.specs.declared.Place.{Place}
 
 -- ---- a read
@@ -62,6 +62,10 @@ Writes s records memory records2 memory2 op =
     (queue : List ℕ) → Sound standard (worldOf s records memory queue)
     → encode standard (op (decode standard (worldOf s records memory queue))) (worldOf s records memory queue) ≡ worldOf s records2 memory2 queue
 
+-- so it is with the words that are lent, whatever the counters
+abbrev pub WritesAny : List ℕ → (records memory records2 memory2 : List ℕ) → (Store → Store) → Type 0
+WritesAny words records memory records2 memory2 op = (k : Counters) → Writes (stateWith k words) records memory records2 memory2 op
+
 -- the same of a copy into the frame that was seen, from any address whose bytes are those of the loan from `from` on
 abbrev pub Moves : State → (records memory records2 memory2 : List ℕ) → Seen → (off from len : ℕ) → Type 0
 Moves s records memory records2 memory2 r off from len =
@@ -69,6 +73,9 @@ Moves s records memory records2 memory2 r off from len =
     → (a : ℕ) → bytesAt (decode standard (worldOf s records memory queue) .memory) a len ≡ take len (drop from memory)
     → encode standard (copyContentsFromPhysaddr standard (decode standard (worldOf s records memory queue)) (numberAt (s .rows) (r .spot)) off a len) (worldOf s records memory queue)
     ≡ worldOf s records2 memory2 queue
+
+abbrev pub MovesAny : List ℕ → (records memory records2 memory2 : List ℕ) → Seen → (off from len : ℕ) → Type 0
+MovesAny words records memory records2 memory2 r off from len = (k : Counters) → Moves (stateWith k words) records memory records2 memory2 r off from len
 
 -- ---- a physical source
 

@@ -1,10 +1,9 @@
 // The contents of held frames, read and copied, after frame.rs's copy_contents_from and copy_contents_from_physaddr and the added read. Each call promises
-// definition's `call`, with no condition on its caller; the rows and counters stay as they are.
+// definition's `call` of the words and loans that it is given; the words and counters stay as they are.
 use address::PhysAddr;
 use allocator::Seen;
-use definition::Row;
+use definition::Counters;
 use exam::Answer;
-use exam::State;
 ghost use mathlib.Core.Path.{_≡_};
 ghost use mathlib.Core.Bool.{_&&_};
 ghost use Prim.Native.Nat.{_+_, _≤_};
@@ -15,10 +14,11 @@ ghost use Rattle.definition.specs.Contents.{zeroRange, copyContentsFrom};
 ghost use Rattle.definition.specs.Calls.{Read, Copy, Pcopy};
 ghost use Rattle.definition.specs.World.{recordAt};
 ghost use Rattle.record.specs.Records.{pagesIn};
+ghost use Rattle.words.specs.Words.{rowsIn};
 ghost use Rattle.world.specs.Tables.{Sane};
 ghost use Rattle.allocator.specs.Spots.{numberAt};
-ghost use Rattle.exam.specs.Promise.{worldOf, Leaves, Fit, bytesIf};
-ghost use Rattle.copies.specs.Copies.{Numbers, Finds, Lends, Spans, Writes, Moves, Placed, placeSeen};
+ghost use Rattle.exam.specs.Promise.{stateWith, worldOf, Leaves, Fit, bytesIf};
+ghost use Rattle.copies.specs.Copies.{Numbers, Finds, Lends, Spans, WritesAny, MovesAny, Placed, placeSeen};
 
 // ---- read
 
@@ -29,7 +29,8 @@ pub struct Place {
 }
 
 pub fn read_place(
-    state: State,
+    counters: Counters,
+    words: &[u64],
     records: &[u8],
     memory: &[u8],
     queue: &[u64],
@@ -37,9 +38,19 @@ pub fn read_place(
     offset: u64,
     len: u64,
 ) -> Place
-    ensures { λ r. ⌜ Finds (worldOf state (now (records .entry)) (now (memory .entry)) (now (queue .entry))) (Read (pa .0) offset len) len r ⌝ }
+    requires { ⌜ 92 ≤ length (now words) ⌝ }
+    ensures { λ r. ⌜ Finds (worldOf (stateWith counters (now (words .entry))) (now (records .entry)) (now (memory .entry)) (now (queue .entry))) (Read (pa .0) offset len) len r ⌝ }
 {
-    let exam = exam::examine(state, records, memory.len(), queue.len(), pa, offset, len);
+    let exam = exam::examine(
+        counters,
+        words,
+        records,
+        memory.len(),
+        queue.len(),
+        pa,
+        offset,
+        len,
+    );
     let number = exam.number;
     if number != 0 {
         return Place { number, at: 0 };
@@ -54,7 +65,8 @@ pub fn read_place(
 
 // 0, or the number of the refusal that `read` meets.
 pub fn read_number(
-    state: State,
+    counters: Counters,
+    words: &[u64],
     records: &[u8],
     memory: &[u8],
     queue: &[u64],
@@ -62,14 +74,16 @@ pub fn read_number(
     offset: u64,
     len: u64,
 ) -> u32
-    ensures { λ r. ⌜ Numbers (worldOf state (now (records .entry)) (now (memory .entry)) (now (queue .entry))) (Read (pa .0) offset len) r ⌝ }
+    requires { ⌜ 92 ≤ length (now words) ⌝ }
+    ensures { λ r. ⌜ Numbers (worldOf (stateWith counters (now (words .entry))) (now (records .entry)) (now (memory .entry)) (now (queue .entry))) (Read (pa .0) offset len) r ⌝ }
 {
-    read_place(state, records, memory, queue, pa, offset, len).number
+    read_place(counters, words, records, memory, queue, pa, offset, len).number
 }
 
 // 01, "Added `read`": the part of the lent memory that starts at the frame's offset, the empty part where it is refused.
 pub fn read<'a>(
-    state: State,
+    counters: Counters,
+    words: &[u64],
     records: &[u8],
     memory: &'a [u8],
     queue: &[u64],
@@ -77,9 +91,10 @@ pub fn read<'a>(
     offset: u64,
     len: u64,
 ) -> &'a [u8]
-    ensures { λ r. ⌜ Lends (worldOf state (now (records .entry)) (now (memory .entry)) (now (queue .entry))) (Read (pa .0) offset len) (now r) ⌝ }
+    requires { ⌜ 92 ≤ length (now words) ⌝ }
+    ensures { λ r. ⌜ Lends (worldOf (stateWith counters (now (words .entry))) (now (records .entry)) (now (memory .entry)) (now (queue .entry))) (Read (pa .0) offset len) (now r) ⌝ }
 {
-    let place = read_place(state, records, memory, queue, pa, offset, len);
+    let place = read_place(counters, words, records, memory, queue, pa, offset, len);
     if place.number != 0 {
         return contents::part(memory, 0, 0);
     }
@@ -100,23 +115,22 @@ fn is_whole(seen: Seen, offset: u64, len: u64) -> bool
 }
 
 // Bytes of a held frame become 0; 01: "sets the mark if that is the whole frame".
-fn zero_range(state: State, records: &mut [u8], memory: &mut [u8], to: Seen, offset: u64, len: u64)
-    requires { ⌜ Sane (recordAt (now records)) (pagesIn (now records)) (state .rows) ⌝ }
-    requires { ⌜ Spans (recordAt (now records)) (state .rows) (length (now memory)) to offset len ⌝ }
-    ensures { λ _. ⌜ Writes state (now (records .entry)) (now (memory .entry)) (now (records .exit)) (now (memory .exit)) (λ s. zeroRange standard s (numberAt (state .rows) (to .spot)) offset len) ⌝ }
+fn zero_range(words: &[u64], records: &mut [u8], memory: &mut [u8], to: Seen, offset: u64, len: u64)
+    requires { ⌜ (92 ≤ length (now words)) × Sane (recordAt (now records)) (pagesIn (now records)) (rowsIn (now words)) ⌝ }
+    requires { ⌜ Spans (recordAt (now records)) (rowsIn (now words)) (length (now memory)) to offset len ⌝ }
+    ensures { λ _. ⌜ WritesAny (now (words .entry)) (now (records .entry)) (now (memory .entry)) (now (records .exit)) (now (memory .exit)) (λ s. zeroRange standard s (numberAt (rowsIn (now (words .entry))) (to .spot)) offset len) ⌝ }
 {
     let spot = to.spot;
     contents::fill(memory, 4096 * spot.page + offset as usize, len as usize, 0);
     if !is_whole(to, offset, len) {
         return;
     }
-    let rows = state.rows;
-    allocator::set_marks(records, rows, spot, true, record::is_kernel(to.marks));
+    allocator::set_marks(words, records, spot, true, record::is_kernel(to.marks));
 }
 
 // Bytes of the loan, from `from` on, go to a held frame, which is not zeroed then.
 fn move_into(
-    state: State,
+    words: &[u64],
     records: &mut [u8],
     memory: &mut [u8],
     to: Seen,
@@ -124,9 +138,9 @@ fn move_into(
     from: usize,
     len: u64,
 )
-    requires { ⌜ Sane (recordAt (now records)) (pagesIn (now records)) (state .rows) ⌝ }
-    requires { ⌜ Spans (recordAt (now records)) (state .rows) (length (now memory)) to offset len × (from + len ≤ length (now memory)) ⌝ }
-    ensures { λ _. ⌜ Moves state (now (records .entry)) (now (memory .entry)) (now (records .exit)) (now (memory .exit)) to offset from len ⌝ }
+    requires { ⌜ (92 ≤ length (now words)) × Sane (recordAt (now records)) (pagesIn (now records)) (rowsIn (now words)) ⌝ }
+    requires { ⌜ Spans (recordAt (now records)) (rowsIn (now words)) (length (now memory)) to offset len × (from + len ≤ length (now memory)) ⌝ }
+    ensures { λ _. ⌜ MovesAny (now (words .entry)) (now (records .entry)) (now (memory .entry)) (now (records .exit)) (now (memory .exit)) to offset from len ⌝ }
 {
     let spot = to.spot;
     contents::copy(
@@ -135,13 +149,12 @@ fn move_into(
         from,
         len as usize,
     );
-    let rows = state.rows;
-    allocator::set_marks(records, rows, spot, false, record::is_kernel(to.marks));
+    allocator::set_marks(words, records, spot, false, record::is_kernel(to.marks));
 }
 
 // Frame::copy_contents_from, frame.rs 491, of two held frames.
 fn copy_contents_from(
-    state: State,
+    words: &[u64],
     records: &mut [u8],
     memory: &mut [u8],
     to: Seen,
@@ -150,25 +163,26 @@ fn copy_contents_from(
     from_offset: u64,
     len: u64,
 )
-    requires { ⌜ Sane (recordAt (now records)) (pagesIn (now records)) (state .rows) ⌝ }
-    requires { ⌜ Spans (recordAt (now records)) (state .rows) (length (now memory)) to offset len × Spans (recordAt (now records)) (state .rows) (length (now memory)) from «from_offset» len ⌝ }
-    ensures { λ _. ⌜ Writes state (now (records .entry)) (now (memory .entry)) (now (records .exit)) (now (memory .exit)) (λ s. copyContentsFrom standard s (numberAt (state .rows) (to .spot)) offset (numberAt (state .rows) (from .spot)) «from_offset» len) ⌝ }
+    requires { ⌜ (92 ≤ length (now words)) × Sane (recordAt (now records)) (pagesIn (now records)) (rowsIn (now words)) ⌝ }
+    requires { ⌜ Spans (recordAt (now records)) (rowsIn (now words)) (length (now memory)) to offset len × Spans (recordAt (now records)) (rowsIn (now words)) (length (now memory)) from «from_offset» len ⌝ }
+    ensures { λ _. ⌜ WritesAny (now (words .entry)) (now (records .entry)) (now (memory .entry)) (now (records .exit)) (now (memory .exit)) (λ s. copyContentsFrom standard s (numberAt (rowsIn (now (words .entry))) (to .spot)) offset (numberAt (rowsIn (now (words .entry))) (from .spot)) «from_offset» len) ⌝ }
 {
     if !record::is_zeroed(from.marks) {
         let spot = from.spot;
         let at = 4096 * spot.page + from_offset as usize;
-        move_into(state, records, memory, to, offset, at, len);
+        move_into(words, records, memory, to, offset, at, len);
         return;
     }
     if record::is_zeroed(to.marks) {
         return;
     }
-    zero_range(state, records, memory, to, offset, len);
+    zero_range(words, records, memory, to, offset, len);
 }
 
 // `len` bytes of one held frame go to another, as if all were read first.
 pub fn copy(
-    state: State,
+    counters: Counters,
+    words: &[u64],
     records: &mut [u8],
     memory: &mut [u8],
     queue: &[u64],
@@ -178,20 +192,20 @@ pub fn copy(
     source_offset: u64,
     len: u64,
 ) -> Answer
-    ensures { λ r. ⌜ Leaves (worldOf state (now (records .entry)) (now (memory .entry)) (now (queue .entry))) (Copy (target .0) «target_offset» (source .0) «source_offset» len) (worldOf state (now (records .exit)) (now (memory .exit)) (now (queue .entry))) r ⌝ }
+    requires { ⌜ 92 ≤ length (now words) ⌝ }
+    ensures { λ r. ⌜ Leaves (worldOf (stateWith counters (now (words .entry))) (now (records .entry)) (now (memory .entry)) (now (queue .entry))) (Copy (target .0) «target_offset» (source .0) «source_offset» len) (worldOf (stateWith counters (now (words .entry))) (now (records .exit)) (now (memory .exit)) (now (queue .entry))) r ⌝ }
 {
-    if !exam::is_sound(state, records, memory.len(), queue.len()) {
+    if !exam::is_sound(counters, words, records, memory.len(), queue.len()) {
         return exam::refused(6);
     }
-    let rows = state.rows;
-    let to = exam::look(records, rows, target, target_offset, len);
-    let from = exam::look(records, rows, source, source_offset, len);
+    let to = exam::look(words, records, target, target_offset, len);
+    let from = exam::look(words, records, source, source_offset, len);
     let number = exam::lower(to.number, from.number);
     if number != 0 {
         return exam::refused(number);
     }
     copy_contents_from(
-        state,
+        words,
         records,
         memory,
         to.seen,
@@ -206,16 +220,15 @@ pub fn copy(
 // ---- pcopy
 
 // Refusals 11 and 14 of a physical source, which need only be managed, up to the end of its region.
-fn place_refusal(rows: [Row; 8], seen: Seen, pa: PhysAddr, len: u64) -> u32
-    requires { ⌜ Placed rows seen (pa .0) ⌝ }
-    ensures { λ r. ⌜ r ≡ placeSeen rows seen (pa .0) len ⌝ }
+fn place_refusal(words: &[u64], seen: Seen, pa: PhysAddr, len: u64) -> u32
+    requires { ⌜ (92 ≤ length (now words)) × Placed (rowsIn (now words)) seen (pa .0) ⌝ }
+    ensures { λ r. ⌜ r ≡ placeSeen (rowsIn (now (words .entry))) seen (pa .0) len ⌝ }
 {
     if !seen.managed {
         return 11;
     }
     let spot = seen.spot;
-    let i = spot.index;
-    let row = rows[i];
+    let row = words::row_at(words, spot.index);
     let start = row.start;
     let end = 4096 * (start.page_number() + row.pages);
     if (end as u64) - pa.raw() < len {
@@ -226,7 +239,8 @@ fn place_refusal(rows: [Row; 8], seen: Seen, pa: PhysAddr, len: u64) -> u32
 
 // Frame::copy_contents_from_physaddr, frame.rs 527.
 pub fn pcopy(
-    state: State,
+    counters: Counters,
+    words: &[u64],
     records: &mut [u8],
     memory: &mut [u8],
     queue: &[u64],
@@ -235,20 +249,20 @@ pub fn pcopy(
     source: PhysAddr,
     len: u64,
 ) -> Answer
-    ensures { λ r. ⌜ Leaves (worldOf state (now (records .entry)) (now (memory .entry)) (now (queue .entry))) (Pcopy (target .0) «target_offset» (source .0) len) (worldOf state (now (records .exit)) (now (memory .exit)) (now (queue .entry))) r ⌝ }
+    requires { ⌜ 92 ≤ length (now words) ⌝ }
+    ensures { λ r. ⌜ Leaves (worldOf (stateWith counters (now (words .entry))) (now (records .entry)) (now (memory .entry)) (now (queue .entry))) (Pcopy (target .0) «target_offset» (source .0) len) (worldOf (stateWith counters (now (words .entry))) (now (records .exit)) (now (memory .exit)) (now (queue .entry))) r ⌝ }
 {
-    if !exam::is_sound(state, records, memory.len(), queue.len()) {
+    if !exam::is_sound(counters, words, records, memory.len(), queue.len()) {
         return exam::refused(6);
     }
-    let rows = state.rows;
-    let to = exam::look(records, rows, target, target_offset, len);
-    let seen = allocator::see(records, rows, source);
-    let number = exam::lower(to.number, place_refusal(rows, seen, source, len));
+    let to = exam::look(words, records, target, target_offset, len);
+    let seen = allocator::see(words, records, source);
+    let number = exam::lower(to.number, place_refusal(words, seen, source, len));
     if number != 0 {
         return exam::refused(number);
     }
     let spot = seen.spot;
     let from = 4096 * spot.page + (source.raw() % 4096) as usize;
-    move_into(state, records, memory, to.seen, target_offset, from, len);
+    move_into(words, records, memory, to.seen, target_offset, from, len);
     exam::done(target.raw(), len)
 }

@@ -15,7 +15,7 @@ use Rattle.definition.specs.declared.Row.{Row}
 use Rattle.definition.specs.Allocator.{PhysicalFrameAllocator}
 use Rattle.definition.specs.Basics.{bit}
 use Rattle.definition.specs.Board.{standard}
-use Rattle.definition.specs.Calls.{Back, Call, Lend, Low, Stats, Text, done, perform, tells}
+use Rattle.definition.specs.Calls.{Back, Lend, Low, Stats, Text, done, perform, tells}
 use Rattle.definition.specs.Store.{withCounters}
 use Rattle.definition.specs.Torn.{Left, call, sound}
 use Rattle.definition.specs.Tracker.{shouldReclaim, trackFramePager, trackerStats, untrackFramePager}
@@ -29,11 +29,9 @@ use Rattle.world.proofs.Leaving.{left-by, sound-table, unwritten}
 use Rattle.world.proofs.Refusing.{back-refused, nothing-refused}
 use Rattle.world.proofs.RoundTrip.{decode-stands, round-trip}
 use Rattle.exam.specs.declared.Answer.{Answer}
-use Rattle.exam.specs.declared.Outcome.{Outcome}
-use Rattle.exam.specs.declared.State.{State}
-use Rattle.exam.specs.Promise.{Leaves, told, worldOf}
+use Rattle.exam.specs.Promise.{Leaves, told}
 use Rattle.exam.proofs.Promises.{Small, leaves-done, leaves-refused, refusedBy}
-use Rattle.counts.specs.Counting.{Counts, Reports, textOf}
+use Rattle.counts.specs.Counting.{Reports, textOf}
 
 -- a table that nothing turned
 pub unturned
@@ -63,13 +61,6 @@ long x = omega (arith, x .after)
 text-written : {out text out′ : List ℕ} {n : ℕ} → Wrote out 0 text out′ n → take n out′ ≡ text
 unfolding withBytes
 text-written {out} {text} x = rw (x .bytes, long x) (take-append-seam text (drop (0 + length text) out))
-
--- what `counted` hands back, as a world
-pub counts-leaves
-    : (st : State) (records memory queue : List ℕ) (k : Call) {c : Counters} {r : Outcome} → Counts st c r
-    → Leaves (worldOf st records memory queue) k (recounted (worldOf st records memory queue) c) (told-bytes (c .«pager_outstanding»))
-    → Leaves (worldOf st records memory queue) k (worldOf (r .state) records memory queue) (r .answer)
-counts-leaves st records memory queue k C L = rw (C .rows, C .counters, C .queued, C .pass, C .answer) L
 
 module _ (w : World) (t : sound standard w ≡ true) (small : Small w) where
   -- what is written where the counters alone change

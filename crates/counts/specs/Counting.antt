@@ -9,16 +9,12 @@ use Rattle.definition.specs.Calls.{Answer, Refused, Done, Text, Bytes, Stats}
 use Rattle.definition.specs.World.{World}
 use Rattle.definition.specs.Torn.{call}
 use Rattle.exam.specs.declared.Outcome.{Outcome}
-use Rattle.exam.specs.declared.State.{State}
 use Rattle.exam.specs.Promise.{told}
 use Rattle.counts.specs.declared.Report.{Report}
 
-pub record Counts (st : State) (c : Counters) (r : Outcome) : Type 0 where
-  pub rows : r .state .rows ≡ st .rows
-  pub counters : r .state .counters ≡ c
-  pub queued : r .state .queued ≡ st .queued
-  pub pass : r .state .pass ≡ st .pass
-  pub answer : r .answer ≡ record { number = 0; address = 0; bytes = c .«pager_outstanding» }
+-- other counters, and what is outstanding by them
+abbrev pub outstanding : Counters → Outcome
+outstanding c = record { counters = c; answer = record { number = 0; address = 0; bytes = c .«pager_outstanding» } }
 
 -- the text that an answer has
 abbrev pub textOf : Answer → List ℕ

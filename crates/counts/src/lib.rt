@@ -1,67 +1,89 @@
-// The pager's loan, low memory and the statistics. Each call promises definition's `call`, with no condition on its caller.
+// The pager's loan, low memory and the statistics. Each call promises definition's `call` of the words and loans that it is given.
 use definition::Counters;
 use exam::Answer;
 use exam::Outcome;
-use exam::State;
+ghost use mathlib.Core.Path.{_≡_};
+ghost use Prim.Native.Nat.{_≤_};
+ghost use lib.ListN.{length};
 ghost use Rattle.definition.specs.Calls.{Lend, Back, Low};
-ghost use Rattle.exam.specs.Promise.{worldOf, Leaves};
-ghost use Rattle.counts.specs.Counting.{Counts, Reports};
+ghost use Rattle.exam.specs.Promise.{stateWith, worldOf, Leaves};
+ghost use Rattle.counts.specs.Counting.{outstanding, Reports};
 
 // ---- the pager's loan, low memory, statistics
 
 // track_frame_pager, tracker.rs 216.
-pub fn lend(state: State, records: &[u8], memory: &[u8], queue: &[u64], count: usize) -> Outcome
-    ensures { λ r. ⌜ Leaves (worldOf state (now (records .entry)) (now (memory .entry)) (now (queue .entry))) (Lend count) (worldOf (r .state) (now (records .entry)) (now (memory .entry)) (now (queue .entry))) (r .answer) ⌝ }
+pub fn lend(
+    counters: Counters,
+    words: &[u64],
+    records: &[u8],
+    memory: &[u8],
+    queue: &[u64],
+    count: usize,
+) -> Outcome
+    requires { ⌜ 92 ≤ length (now words) ⌝ }
+    ensures { λ r. ⌜ Leaves (worldOf (stateWith counters (now (words .entry))) (now (records .entry)) (now (memory .entry)) (now (queue .entry))) (Lend count) (worldOf (stateWith (r .counters) (now (words .entry))) (now (records .entry)) (now (memory .entry)) (now (queue .entry))) (r .answer) ⌝ }
 {
-    if !exam::is_sound(state, records, memory.len(), queue.len()) {
+    if !exam::is_sound(counters, words, records, memory.len(), queue.len()) {
         return Outcome {
-            state,
+            counters,
             answer: exam::refused(6),
         };
     }
-    counted(state, tracker::track_frame_pager(state.counters, count))
+    counted(tracker::track_frame_pager(counters, count))
 }
 
 // untrack_frame_pager, tracker.rs 220.
-pub fn back(state: State, records: &[u8], memory: &[u8], queue: &[u64], count: usize) -> Outcome
-    ensures { λ r. ⌜ Leaves (worldOf state (now (records .entry)) (now (memory .entry)) (now (queue .entry))) (Back count) (worldOf (r .state) (now (records .entry)) (now (memory .entry)) (now (queue .entry))) (r .answer) ⌝ }
+pub fn back(
+    counters: Counters,
+    words: &[u64],
+    records: &[u8],
+    memory: &[u8],
+    queue: &[u64],
+    count: usize,
+) -> Outcome
+    requires { ⌜ 92 ≤ length (now words) ⌝ }
+    ensures { λ r. ⌜ Leaves (worldOf (stateWith counters (now (words .entry))) (now (records .entry)) (now (memory .entry)) (now (queue .entry))) (Back count) (worldOf (stateWith (r .counters) (now (words .entry))) (now (records .entry)) (now (memory .entry)) (now (queue .entry))) (r .answer) ⌝ }
 {
-    if !exam::is_sound(state, records, memory.len(), queue.len()) {
+    if !exam::is_sound(counters, words, records, memory.len(), queue.len()) {
         return Outcome {
-            state,
+            counters,
             answer: exam::refused(6),
         };
     }
-    let counters = state.counters;
     if counters.pager_outstanding < count {
         return Outcome {
-            state,
+            counters,
             answer: exam::refused(15),
         };
     }
-    counted(state, tracker::untrack_frame_pager(counters, count))
+    counted(tracker::untrack_frame_pager(counters, count))
 }
 
 // Other counters, and what is outstanding by them.
-fn counted(state: State, counters: Counters) -> Outcome
-    ensures { λ r. ⌜ Counts state counters r ⌝ }
+fn counted(counters: Counters) -> Outcome
+    ensures { λ r. ⌜ r ≡ outstanding counters ⌝ }
 {
-    let mut next = state;
-    next.counters = counters;
     Outcome {
-        state: next,
+        counters,
         answer: exam::done(0, counters.pager_outstanding as u64),
     }
 }
 
 // should_reclaim, tracker.rs 180: 1 where memory is low.
-pub fn low(state: State, records: &[u8], memory: &[u8], queue: &[u64]) -> Answer
-    ensures { λ r. ⌜ Leaves (worldOf state (now (records .entry)) (now (memory .entry)) (now (queue .entry))) (Low) (worldOf state (now (records .entry)) (now (memory .entry)) (now (queue .entry))) r ⌝ }
+pub fn low(
+    counters: Counters,
+    words: &[u64],
+    records: &[u8],
+    memory: &[u8],
+    queue: &[u64],
+) -> Answer
+    requires { ⌜ 92 ≤ length (now words) ⌝ }
+    ensures { λ r. ⌜ Leaves (worldOf (stateWith counters (now (words .entry))) (now (records .entry)) (now (memory .entry)) (now (queue .entry))) (Low) (worldOf (stateWith counters (now (words .entry))) (now (records .entry)) (now (memory .entry)) (now (queue .entry))) r ⌝ }
 {
-    if !exam::is_sound(state, records, memory.len(), queue.len()) {
+    if !exam::is_sound(counters, words, records, memory.len(), queue.len()) {
         return exam::refused(6);
     }
-    if tracker::should_reclaim(state.counters) {
+    if tracker::should_reclaim(counters) {
         return exam::done(0, 1);
     }
     exam::done(0, 0)
@@ -75,18 +97,25 @@ pub struct Report {
 }
 
 // print_tracker_stats, tracker.rs 235.
-pub fn stats(state: State, records: &[u8], memory: &[u8], queue: &[u64]) -> Report
-    ensures { λ r. ⌜ Reports (worldOf state (now (records .entry)) (now (memory .entry)) (now (queue .entry))) r ⌝ }
+pub fn stats(
+    counters: Counters,
+    words: &[u64],
+    records: &[u8],
+    memory: &[u8],
+    queue: &[u64],
+) -> Report
+    requires { ⌜ 92 ≤ length (now words) ⌝ }
+    ensures { λ r. ⌜ Reports (worldOf (stateWith counters (now (words .entry))) (now (records .entry)) (now (memory .entry)) (now (queue .entry))) r ⌝ }
 {
     let mut text = [0u8; 368];
-    if !exam::is_sound(state, records, memory.len(), queue.len()) {
+    if !exam::is_sound(counters, words, records, memory.len(), queue.len()) {
         return Report {
             number: 6,
             len: 0,
             text,
         };
     }
-    let len = tracker::print_tracker_stats(&mut text, 0, state.counters);
+    let len = tracker::print_tracker_stats(&mut text, 0, counters);
     Report {
         number: 0,
         len,

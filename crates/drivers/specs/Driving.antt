@@ -1,25 +1,19 @@
 -- What a driver leaves in the loans and answers: the same turn again and again, each on the world as the last left it, until one is refused. A reader takes
--- from here what the number of a driver counts (`turns`, `Drives`), and from which world it starts (`bootedWorld`, `held`). A driver of the state words makes the
--- same change again and again (`again`), where the words are enough for a state.
+-- from here what the number of a driver counts (`turns`, `Drives`), and from which world it starts (`bootedWorld`, `held`).
 use Prim.Native.Nat.{ℕ, zero, suc, _+_}
 use mathlib.Core.Bool.{false, cond}
 use mathlib.Core.List.{List, [], _∷_}
 use mathlib.Core.Path.{_≡_}
-use lib.Dec.{eqb, leb}
-use lib.ListN.{length, set, replicate}
+use lib.Dec.{eqb}
 use Rattle.definition.specs.declared.MemoryRegion.{MemoryRegion}
 use Rattle.definition.specs.declared.MemoryRegionKind.the-variants.{UsableRam}
 use Rattle.definition.specs.Board.{standard}
+use Rattle.definition.specs.Boot.{countersAtBoot}
 use Rattle.definition.specs.Calls.{Alloc, Call, Copy, Free, Layout}
 use Rattle.definition.specs.Torn.{bootCall, call}
-use Rattle.definition.specs.World.{World, noRow}
-use Rattle.world.specs.Stands.{rowAt}
+use Rattle.definition.specs.World.{World}
 use Rattle.exam.specs.declared.Answer.{Answer}
-use Rattle.exam.specs.declared.State.{State}
-use Rattle.exam.specs.Promise.{told, worldOf}
-use Rattle.boot.specs.Booting.{stateAtBoot}
-use Rattle.words.specs.Words.{rowsIn, queuedIn, passIn, countersIn, stateWords}
-use Rattle.service.specs.Serving.{stateOver}
+use Rattle.exam.specs.Promise.{stateWith, told, worldOf}
 
 -- ---- a turn
 
@@ -62,20 +56,18 @@ pub record Drives (d : Driven) (rs ms : List ℕ) (r : ℕ) : Type 0 where
 
 -- ---- the worlds that they start from
 
--- no region, as there is before a boot
-abbrev pub noState : State
-noState = stateAtBoot (replicate 8 noRow) 0
-
 -- a map with one usable entry
 abbrev pub usable : (start length : ℕ) → List MemoryRegion
 usable start length = record { start = record { 0 = start }; length = length; kind = UsableRam } ∷ []
 
-unfoldable pub bootedWorld : (records memory queue : List ℕ) (start length : ℕ) → World
-bootedWorld records memory queue start length = bootCall standard (usable start length) (worldOf noState records memory queue) .world
+-- its boot over some words, with all counters 0
+unfoldable pub bootedWorld : (words records memory queue : List ℕ) (start length : ℕ) → World
+bootedWorld words records memory queue start length =
+    bootCall standard (usable start length) (worldOf (stateWith (countersAtBoot 0) words) records memory queue) .world
 
 -- a frame of so many bytes is held there
-abbrev pub held : (records memory queue : List ℕ) (start length size : ℕ) → Turn
-held records memory queue start length size = turn (Alloc (plain size)) (bootedWorld records memory queue start length)
+abbrev pub held : (words records memory queue : List ℕ) (start length size : ℕ) → Turn
+held words records memory queue start length size = turn (Alloc (plain size)) (bootedWorld words records memory queue start length)
 
 -- calls on the frame that a turn gave
 abbrev pub onFrame : (ℕ → Call) → (times : ℕ) → Turn → Driven
@@ -84,34 +76,3 @@ onFrame c times t = turns (turn (c (t .answer .address))) times 0 (t .world)
 -- the same to a second frame, from the frame that a turn gave
 abbrev pub toSecond : (size times : ℕ) → Turn → Driven
 toSecond size times t = onFrame (λ a. Copy a 0 (t .answer .address) 0 size) times (turn (Alloc (plain size)) (t .world))
-
--- ---- the state words by themselves
-
--- so many times over
-unfoldable pub again : {A : Type 0} → (A → A) → ℕ → A → A
-again f zero x = x
-again f (suc n) x = f (again f n x)
-
--- the turns where the words are enough for a state, else none
-abbrev pub enough : List ℕ → ℕ → ℕ
-enough ws times = cond (leb stateWords (length ws)) times 0
-
-abbrev pub stateIn : List ℕ → State
-stateIn ws = record { rows = rowsIn ws; counters = countersIn ws; queued = queuedIn ws; pass = passIn ws }
-
--- the state of some words, written over others
-abbrev pub carriedFrom : (words others : List ℕ) → List ℕ
-carriedFrom ws vs = stateOver (worldOf (stateIn ws) [] [] []) vs
-
--- one row in the place of another
-abbrev pub moved : (from to : ℕ) → State → State
-moved from to s =
-    record { rows = set (s .rows) to (rowAt (s .rows) from); counters = s .counters; queued = s .queued; pass = s .pass }
-
-abbrev pub movedOver : (from to : ℕ) → List ℕ → List ℕ
-movedOver from to ws = stateOver (worldOf (moved from to (stateIn ws)) [] [] []) ws
-
--- rows moved between one reading and one writing, where the words are enough
-abbrev pub movedBetween : (from to times : ℕ) → List ℕ → List ℕ
-movedBetween from to times ws =
-    cond (leb stateWords (length ws)) (stateOver (worldOf (again (moved from to) times (stateIn ws)) [] [] []) ws) ws

@@ -8,6 +8,8 @@ use lib.Dec.{eqb, ltb}
 use lib.ListN.{length}
 use Rattle.definition.specs.declared.Record.{Record}
 use Rattle.definition.specs.declared.Row.{Row}
+use Rattle.definition.specs.declared.Counters.{Counters}
+use Rattle.definition.specs.declared.Pass.{Pass}
 use Rattle.definition.specs.Board.{standard}
 use Rattle.definition.specs.Frame.{size}
 use Rattle.definition.specs.Allocator.{PhysicalFrameAllocator}
@@ -15,15 +17,26 @@ use Rattle.definition.specs.Refusal.{numberOf}
 use Rattle.definition.specs.Calls.{Call, Answer as AnswerOf, Refused, Done, Text, Bytes}
 use Rattle.definition.specs.World.{World, recordAt, decode}
 use Rattle.definition.specs.Torn.{call, sound}
+use Rattle.words.specs.Words.{rowsIn, queuedIn, passIn}
 use Rattle.world.specs.Refusals.{frameRefusal, rangeOf}
 use Rattle.world.specs.Tables.{Table}
 use Rattle.allocator.specs.declared.Seen.{Seen}
 use Rattle.allocator.specs.Spots.{HeldAt, InRows, Sees}
-use Rattle.exam.specs.declared.State.{State}
 use Rattle.exam.specs.declared.Answer.{Answer}
 use Rattle.exam.specs.declared.Exam.{Exam}
 
 -- ---- the world that a call is given
+
+-- what the caller keeps between calls, beside the loans
+pub record State : Type 0 where
+  pub rows : List Row
+  pub counters : Counters
+  pub queued : ℕ
+  pub pass : Pass
+
+-- the state of the counters that it gives and the words that it lends
+abbrev pub stateWith : Counters → List ℕ → State
+stateWith counters words = record { rows = rowsIn words; counters = counters; queued = queuedIn words; pass = passIn words }
 
 abbrev pub worldOf : State → (records memory queue : List ℕ) → World
 worldOf s records memory queue =
@@ -45,6 +58,11 @@ told (Refused r) = record { number = numberOf r; address = 0; bytes = 0 }
 told (Done a n) = record { number = 0; address = a; bytes = n }
 told (Text t) = record { number = 0; address = 0; bytes = length t }
 told (Bytes t) = record { number = 0; address = 0; bytes = length t }
+
+-- a state that is left, and the answer with it
+pub record Outcome : Type 0 where
+  pub state : State
+  pub answer : Answer
 
 pub record Leaves (w : World) (c : Call) (v : World) (y : Answer) : Type 0 where
   pub world : call standard w c .world ≡ v

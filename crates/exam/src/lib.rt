@@ -1,18 +1,18 @@
-// What every call shares: the state that its caller keeps, its answer, and its tests, the audit (refusal 6) and the refusals of a frame that must be held (11 to
-// 14). Each call promises `Leaves`: what it leaves and answers is definition's `call` of what it was given, with no condition on its caller.
+// What every call shares: its answer, and its tests, the audit (refusal 6) and the refusals of a frame that must be held (11 to 14). A call is lent the state's words
+// and is given the counters. It promises `Leaves`: what it leaves and answers is definition's `call` of what it was given, where there are 92 words or more.
 use address::PhysAddr;
 use allocator::Seen;
 use definition::Counters;
-use definition::Pass;
-use definition::Row;
 ghost use mathlib.Core.Path.{_≡_};
 ghost use Prim.Native.Nat.{ℕ, _+_, _/_, _%_, _<_, _≤_, _^_};
 ghost use lib.ListN.{length};
 ghost use Rattle.definition.specs.World.{recordAt};
 ghost use Rattle.record.specs.Records.{pagesIn};
+ghost use Rattle.words.specs.Words.{rowsIn};
 ghost use Rattle.world.specs.Refusals.{lower as «lower_def»};
 ghost use Rattle.world.specs.Tables.{Sane};
 ghost use Rattle.exam.specs.Promise.{
+  stateWith,
   Tests,
   Fit,
   Leveled,
@@ -22,14 +22,6 @@ ghost use Rattle.exam.specs.Promise.{
   Exams,
 };
 
-// What the caller keeps between calls, beside the loans.
-pub struct State {
-    pub rows: [Row; 8],
-    pub counters: Counters,
-    pub queued: usize,
-    pub pass: Pass,
-}
-
 // The refusal's number, or 0 with an address and a count of bytes, as 01's script prints them.
 pub struct Answer {
     pub number: u32,
@@ -37,8 +29,9 @@ pub struct Answer {
     pub bytes: u64,
 }
 
+// The counters that a call leaves, and its answer.
 pub struct Outcome {
-    pub state: State,
+    pub counters: Counters,
     pub answer: Answer,
 }
 
@@ -64,19 +57,17 @@ pub fn done(address: u64, bytes: u64) -> Answer
 
 // ---- the tests of a call
 
-pub fn is_sound(state: State, records: &[u8], memory_len: usize, queue_len: usize) -> bool
-    ensures { λ r. ⌜ Tests state (now (records .entry)) «memory_len» «queue_len» r ⌝ }
+pub fn is_sound(
+    counters: Counters,
+    words: &[u64],
+    records: &[u8],
+    memory_len: usize,
+    queue_len: usize,
+) -> bool
+    requires { ⌜ 92 ≤ length (now words) ⌝ }
+    ensures { λ r. ⌜ Tests (stateWith counters (now (words .entry))) (now (records .entry)) «memory_len» «queue_len» r ⌝ }
 {
-    let rows = state.rows;
-    audit::audit(
-        rows,
-        state.counters,
-        state.queued,
-        state.pass,
-        records,
-        memory_len,
-        queue_len,
-    )
+    audit::audit(counters, words, records, memory_len, queue_len)
 }
 
 // The bytes of the frame that starts at a page that was seen, 0 where none does.
@@ -124,11 +115,11 @@ pub struct Exam {
     pub seen: Seen,
 }
 
-pub fn look(records: &[u8], rows: [Row; 8], pa: PhysAddr, offset: u64, len: u64) -> Exam
-    requires { ⌜ Sane (recordAt (now records)) (pagesIn (now records)) rows ⌝ }
-    ensures { λ r. ⌜ Looks (recordAt (now (records .entry))) (pagesIn (now (records .entry))) rows (pa .0) offset len r ⌝ }
+pub fn look(words: &[u64], records: &[u8], pa: PhysAddr, offset: u64, len: u64) -> Exam
+    requires { ⌜ (92 ≤ length (now words)) × Sane (recordAt (now records)) (pagesIn (now records)) (rowsIn (now words)) ⌝ }
+    ensures { λ r. ⌜ Looks (recordAt (now (records .entry))) (pagesIn (now (records .entry))) (rowsIn (now (words .entry))) (pa .0) offset len r ⌝ }
 {
-    let seen = allocator::see(records, rows, pa);
+    let seen = allocator::see(words, records, pa);
     Exam {
         number: refusal(seen, pa, offset, len),
         seen,
@@ -137,7 +128,8 @@ pub fn look(records: &[u8], rows: [Row; 8], pa: PhysAddr, offset: u64, len: u64)
 
 // The audit, and then the refusals of one held frame.
 pub fn examine(
-    state: State,
+    counters: Counters,
+    words: &[u64],
     records: &[u8],
     memory_len: usize,
     queue_len: usize,
@@ -145,16 +137,16 @@ pub fn examine(
     offset: u64,
     len: u64,
 ) -> Exam
-    ensures { λ r. ⌜ Exams state (now (records .entry)) «memory_len» «queue_len» (pa .0) offset len r ⌝ }
+    requires { ⌜ 92 ≤ length (now words) ⌝ }
+    ensures { λ r. ⌜ Exams (stateWith counters (now (words .entry))) (now (records .entry)) «memory_len» «queue_len» (pa .0) offset len r ⌝ }
 {
-    if !is_sound(state, records, memory_len, queue_len) {
+    if !is_sound(counters, words, records, memory_len, queue_len) {
         return Exam {
             number: 6,
             seen: allocator::nothing_seen(),
         };
     }
-    let rows = state.rows;
-    look(records, rows, pa, offset, len)
+    look(words, records, pa, offset, len)
 }
 
 // Of two refusals the lower number, where 0 is none.

@@ -1,28 +1,37 @@
-// Calls on one frame: lookup, split and free. Each promises definition's `call`, with no condition on its caller.
+// Calls on one frame: lookup, split and free. Each promises definition's `call` of the words and loans that it is given.
 use address::PhysAddr;
 use allocator::Seen;
+use definition::Counters;
 use exam::Answer;
 use exam::Outcome;
-use exam::State;
-ghost use Prim.Native.Nat.{_<_, _^_};
+ghost use Prim.Native.Nat.{_≤_, _<_, _^_};
+ghost use lib.ListN.{length};
 ghost use Rattle.definition.specs.Calls.{Find, Split, Free};
 ghost use Rattle.definition.specs.World.{recordAt};
 ghost use Rattle.record.specs.Records.{pagesIn};
+ghost use Rattle.words.specs.Words.{rowsIn, Beside};
 ghost use Rattle.world.specs.Tables.{Sane};
-ghost use Rattle.exam.specs.Promise.{worldOf, Leaves, HeldSeen};
+ghost use Rattle.exam.specs.Promise.{stateWith, worldOf, Leaves, HeldSeen};
 ghost use Rattle.frames.specs.Freeing.{Released};
 
 // ---- lookup
 
 // get_frame: the page of an address, and the bytes of the frame that starts there.
-pub fn find(state: State, records: &[u8], memory: &[u8], queue: &[u64], pa: PhysAddr) -> Answer
-    ensures { λ r. ⌜ Leaves (worldOf state (now (records .entry)) (now (memory .entry)) (now (queue .entry))) (Find (pa .0)) (worldOf state (now (records .entry)) (now (memory .entry)) (now (queue .entry))) r ⌝ }
+pub fn find(
+    counters: Counters,
+    words: &[u64],
+    records: &[u8],
+    memory: &[u8],
+    queue: &[u64],
+    pa: PhysAddr,
+) -> Answer
+    requires { ⌜ 92 ≤ length (now words) ⌝ }
+    ensures { λ r. ⌜ Leaves (worldOf (stateWith counters (now (words .entry))) (now (records .entry)) (now (memory .entry)) (now (queue .entry))) (Find (pa .0)) (worldOf (stateWith counters (now (words .entry))) (now (records .entry)) (now (memory .entry)) (now (queue .entry))) r ⌝ }
 {
-    if !exam::is_sound(state, records, memory.len(), queue.len()) {
+    if !exam::is_sound(counters, words, records, memory.len(), queue.len()) {
         return exam::refused(6);
     }
-    let rows = state.rows;
-    let seen = allocator::see(records, rows, pa);
+    let seen = allocator::see(words, records, pa);
     if !seen.managed {
         return exam::refused(11);
     }
@@ -33,55 +42,85 @@ pub fn find(state: State, records: &[u8], memory: &[u8], queue: &[u64], pa: Phys
 // ---- split
 
 // split_frame: a held frame becomes 512 held ones.
-pub fn split(state: State, records: &mut [u8], memory: &[u8], queue: &[u64], pa: PhysAddr) -> Answer
-    ensures { λ r. ⌜ Leaves (worldOf state (now (records .entry)) (now (memory .entry)) (now (queue .entry))) (Split (pa .0)) (worldOf state (now (records .exit)) (now (memory .entry)) (now (queue .entry))) r ⌝ }
+pub fn split(
+    counters: Counters,
+    words: &[u64],
+    records: &mut [u8],
+    memory: &[u8],
+    queue: &[u64],
+    pa: PhysAddr,
+) -> Answer
+    requires { ⌜ 92 ≤ length (now words) ⌝ }
+    ensures { λ r. ⌜ Leaves (worldOf (stateWith counters (now (words .entry))) (now (records .entry)) (now (memory .entry)) (now (queue .entry))) (Split (pa .0)) (worldOf (stateWith counters (now (words .entry))) (now (records .exit)) (now (memory .entry)) (now (queue .entry))) r ⌝ }
 {
-    let exam = exam::examine(state, records, memory.len(), queue.len(), pa, 0, 0);
+    let exam = exam::examine(
+        counters,
+        words,
+        records,
+        memory.len(),
+        queue.len(),
+        pa,
+        0,
+        0,
+    );
     let number = exam.number;
     if number != 0 {
         return exam::refused(number);
     }
     let seen = exam.seen;
-    let rows = state.rows;
-    allocator::split_frame(records, rows, seen.spot);
+    allocator::split_frame(words, records, seen.spot);
     exam::done(pa.raw(), exam::frame_bytes(seen))
 }
 
 // ---- free
 
 // free_frame, but for its tests: the held frame that was seen goes back on its list, and its pages are idle.
-pub fn release(state: State, records: &mut [u8], seen: Seen) -> State
-    requires { ⌜ Sane (recordAt (now records)) (pagesIn (now records)) (state .rows) ⌝ }
-    requires { ⌜ HeldSeen (recordAt (now records)) (state .rows) seen × (state .counters .idle < 2 ^ 63) ⌝ }
-    ensures { λ r. ⌜ Released (recordAt (now (records .entry))) state seen (recordAt (now (records .exit))) (pagesIn (now (records .exit))) r ⌝ }
+pub fn release(counters: Counters, words: &mut [u64], records: &mut [u8], seen: Seen) -> Counters
+    requires { ⌜ (92 ≤ length (now words)) × Sane (recordAt (now records)) (pagesIn (now records)) (rowsIn (now words)) ⌝ }
+    requires { ⌜ HeldSeen (recordAt (now records)) (rowsIn (now words)) seen × (counters .idle < 2 ^ 63) ⌝ }
+    ensures { λ r. ⌜ Released (recordAt (now (records .entry))) (stateWith counters (now (words .entry))) seen (recordAt (now (records .exit))) (pagesIn (now (records .exit))) (stateWith r (now (words .exit))) ⌝ }
+    ensures { λ _. ⌜ Beside (now (words .entry)) (now (words .exit)) ⌝ }
 {
     let pages = level::pages_at(seen.level as usize);
     let kernel = record::is_kernel(seen.marks);
-    let rows = state.rows;
-    let freed = allocator::free(records, rows, seen.spot);
-    let mut next = state;
-    next.rows = freed;
-    let counters = tracker::count_free(state.counters, pages, kernel);
-    next.counters = counters;
-    next
+    allocator::free(words, records, seen.spot);
+    tracker::count_free(counters, pages, kernel)
 }
 
 // free_frame, tracker.rs 41.
-pub fn free(state: State, records: &mut [u8], memory: &[u8], queue: &[u64], pa: PhysAddr) -> Outcome
-    ensures { λ r. ⌜ Leaves (worldOf state (now (records .entry)) (now (memory .entry)) (now (queue .entry))) (Free (pa .0)) (worldOf (r .state) (now (records .exit)) (now (memory .entry)) (now (queue .entry))) (r .answer) ⌝ }
+pub fn free(
+    counters: Counters,
+    words: &mut [u64],
+    records: &mut [u8],
+    memory: &[u8],
+    queue: &[u64],
+    pa: PhysAddr,
+) -> Outcome
+    requires { ⌜ 92 ≤ length (now words) ⌝ }
+    ensures { λ r. ⌜ Leaves (worldOf (stateWith counters (now (words .entry))) (now (records .entry)) (now (memory .entry)) (now (queue .entry))) (Free (pa .0)) (worldOf (stateWith (r .counters) (now (words .exit))) (now (records .exit)) (now (memory .entry)) (now (queue .entry))) (r .answer) ⌝ }
+    ensures { λ _. ⌜ Beside (now (words .entry)) (now (words .exit)) ⌝ }
 {
-    let exam = exam::examine(state, records, memory.len(), queue.len(), pa, 0, 0);
+    let exam = exam::examine(
+        counters,
+        words,
+        records,
+        memory.len(),
+        queue.len(),
+        pa,
+        0,
+        0,
+    );
     let number = exam.number;
     if number != 0 {
         return Outcome {
-            state,
+            counters,
             answer: exam::refused(number),
         };
     }
     let seen = exam.seen;
-    let next = release(state, records, seen);
+    let next = release(counters, words, records, seen);
     Outcome {
-        state: next,
+        counters: next,
         answer: exam::done(pa.raw(), exam::frame_bytes(seen)),
     }
 }

@@ -8,6 +8,7 @@ use mathlib.Core.Path.{_≡_, refl, sym, _∙_}
 use native.Mathlib.Omega.{arith}
 use lib.Dec.{eqb}
 use lib.ListN.{length, replicate}
+use Rattle.definition.specs.declared.Counters.{Counters}
 use Rattle.definition.specs.declared.FrameAllocFlags.{FrameAllocFlags}
 use Rattle.definition.specs.declared.Record.{Record}
 use Rattle.definition.specs.declared.Row.{Row}
@@ -17,27 +18,26 @@ use Rattle.definition.specs.Contents.{filled, sizeOf}
 use Rattle.definition.specs.Frame.{Frame, isAllocated, isZeroed, size}
 use Rattle.definition.specs.Allocator.{AllocationRegion, PhysicalFrameAllocator, doAlloc}
 use Rattle.definition.specs.Store.{Memory}
-use Rattle.definition.specs.Tracker.{tryAllocFrame, tryAllocSplitFrames}
+use Rattle.definition.specs.Tracker.{countAlloc, tryAllocFrame, tryAllocSplitFrames}
 use Rattle.definition.specs.Torn.{regionsOf}
 use Rattle.definition.specs.World.{frameOf}
 use Rattle.definition.proofs.Basics.{upd-same}
 use Rattle.record.specs.Records.{withBytes}
 use Rattle.region.specs.Rep.{fromOf, managed, marked, stateOf}
+use Rattle.words.specs.Words.{RowsBeside, rowsIn}
 use Rattle.world.specs.Stands.{StandsRow, regionAt, rowAt}
 use Rattle.world.specs.Tables.{Sane, Table, Turned}
 use Rattle.world.proofs.Places.{Lies, Runs, frame-runs, managedBytes, runs-end, runs-lies}
 use Rattle.world.proofs.Spans.{runs-bare}
 use Rattle.world.proofs.Tables.{used-row}
 use Rattle.world.proofs.Writing.{Fronts, Rewritten, memory-filled}
-use Rattle.allocator.specs.declared.Picked.{Picked}
 use Rattle.allocator.specs.declared.Spot.{Spot}
 use Rattle.allocator.specs.Spots.{HeldAt, InRows, PicksBy, TurnsBy, markAt, numberAt, splitAt}
 use Rattle.allocator.proofs.Standing.{sane-table, standing}
 use Rattle.allocator.proofs.TwoPasses.{turned-then}
 use Rattle.allocator.proofs.Turning.{spot-good, spot-index, stands-at, table-held}
-use Rattle.exam.specs.declared.State.{State}
-use Rattle.grants.specs.declared.Granted.{Granted}
-use Rattle.grants.specs.Granting.{Finds, GivesBy, Holds, Near, Ready, counted, zeroedBytes}
+use Rattle.exam.specs.Promise.{State, stateWith}
+use Rattle.grants.specs.Granting.{Finds, GivesBy, Granted, Holds, Near, Ready, zeroedBytes}
 use Rattle.grants.proofs.Marking.{none-left, split-none, split-some, try-none, try-some}
 
 -- ---- the frame at a spot
@@ -115,19 +115,21 @@ module _ {rs : List AllocationRegion} (m : Memory) (bs : List ℕ) (fits : manag
 
 -- ---- a grant
 
-abbrev pub withRows : State → List Row → State
-withRows st rows = record { rows = rows; counters = st .counters; queued = st .queued; pass = st .pass }
-
+-- the search turns the words ws into vs: it changes their rows, and nothing else of the state
 module _
-    {f g : ℕ → Record} {n : ℕ} {r : Picked} (st : State) (l : ℕ) (flags : FrameAllocFlags) (P : PicksBy (doAlloc l (flags .zeroed)) f (st .rows) g n r)
+    {f g : ℕ → Record} {n : ℕ} {found : Bool} {spot : Spot} (counters : Counters) (ws vs : List ℕ) (l : ℕ) (flags : FrameAllocFlags)
+    (P : PicksBy (doAlloc l (flags .zeroed)) f (rowsIn ws) g n (record { rows = rowsIn vs; found = found; spot = spot }))
   where
-    picked-turned : (S : Sane f n (st .rows)) → Turned f (st .rows) g n (r .rows) (doAlloc l (flags .zeroed) (standing f (st .rows)) .allocator)
-    picked-turned S = P (standing f (st .rows)) (sane-table S) .turned
+    abbrev st : State
+    st = stateWith counters ws
 
-    pub picked-sane : Sane f n (st .rows) → Sane g n (r .rows)
+    picked-turned : (S : Sane f n (rowsIn ws)) → Turned f (rowsIn ws) g n (rowsIn vs) (doAlloc l (flags .zeroed) (standing f (rowsIn ws)) .allocator)
+    picked-turned S = P (standing f (rowsIn ws)) (sane-table S) .turned
+
+    pub picked-sane : Sane f n (rowsIn ws) → Sane g n (rowsIn vs)
     picked-sane S = picked-turned S .table .sane
 
-    pub picked-ready : {long : ℕ} → Ready f n st long → Ready g n (withRows st (r .rows)) long
+    pub picked-ready : {long : ℕ} → Ready f n st long → Ready g n (stateWith counters vs) long
     picked-ready R =
         record {
           sane = picked-sane (R .sane);
@@ -137,15 +139,16 @@ module _
         }
 
     -- nothing is found
-    pub finds-none : Finds st (record { state = withRows st (r .rows); found = false; spot = r .spot; address = 0 })
-    finds-none = record { queued = refl; pass = refl; address = λ z. absurd (false≢true z) }
+    abbrev nothing : Granted
+    nothing = record { state = stateWith counters vs; found = false; spot = spot; address = 0 }
 
-    pub holds-none : Sane f n (st .rows) → Holds g n (record { state = withRows st (r .rows); found = false; spot = r .spot; address = 0 })
+    pub finds-none : RowsBeside ws vs → Finds st nothing
+    finds-none B = record { queued = B .queued; pass = B .pass; address = λ z. absurd (false≢true z) }
+
+    pub holds-none : Sane f n (rowsIn ws) → Holds g n nothing
     holds-none S = record { sane = picked-sane S; spot = λ z. absurd (false≢true z); held = λ z. absurd (false≢true z) }
 
-    pub gives-none
-        : (bytes : List ℕ) → r .found ≡ false
-        → GivesBy (tryAllocFrame standard l flags) f st bytes g n bytes (record { state = withRows st (r .rows); found = false; spot = r .spot; address = 0 })
+    pub gives-none : (bytes : List ℕ) → found ≡ false → GivesBy (tryAllocFrame standard l flags) f st bytes g n bytes nothing
     gives-none bytes e s L =
         let p = P (s .allocator) (L .table) in
         let d = p .none-found e in
@@ -161,53 +164,55 @@ module _
         })
 
     -- a frame is found
-    module _ (e : r .found ≡ true) where
-      pub picked-spot : Sane f n (st .rows) → InRows (r .rows) (r .spot)
-      picked-spot S = P (standing f (st .rows)) (sane-table S) .spot e
+    module _ (e : found ≡ true) where
+      pub picked-spot : Sane f n (rowsIn ws) → InRows (rowsIn vs) spot
+      picked-spot S = P (standing f (rowsIn ws)) (sane-table S) .spot e
 
-      pub picked-held : Sane f n (st .rows) → HeldAt g (r .rows) (r .spot)
-      picked-held S = P (standing f (st .rows)) (sane-table S) .held e
+      pub picked-held : Sane f n (rowsIn ws) → HeldAt g (rowsIn vs) spot
+      picked-held S = P (standing f (rowsIn ws)) (sane-table S) .held e
 
       module _
-          {h : ℕ → Record} {next : State} (c : next ≡ counted (withRows st (r .rows)) (size l) (flags .kernel))
-          (T : TurnsBy (markAt false (flags .kernel) (numberAt (r .rows) (r .spot))) g (r .rows) h n (r .rows)) (address : ℕ)
+          {h : ℕ → Record} {after : Counters} (c : after ≡ countAlloc (size l) (flags .kernel) counters)
+          (T : TurnsBy (markAt false (flags .kernel) (numberAt (rowsIn vs) spot)) g (rowsIn vs) h n (rowsIn vs)) (address : ℕ)
         where
-          pub finds-some : address ≡ 4096 * numberAt (r .rows) (r .spot) → Finds st (record { state = next; found = true; spot = r .spot; address = address })
-          finds-some d = rw c (record { queued = refl; pass = refl; address = λ z. d })
+          abbrev frame : Granted
+          frame = record { state = stateWith after vs; found = true; spot = spot; address = address }
 
-          pub holds-some : Sane f n (st .rows) → Holds h n (record { state = next; found = true; spot = r .spot; address = address })
+          pub finds-some : RowsBeside ws vs → address ≡ 4096 * numberAt (rowsIn vs) spot → Finds st frame
+          finds-some B d = record { queued = B .queued; pass = B .pass; address = λ z. d }
+
+          pub holds-some : Sane f n (rowsIn ws) → Holds h n frame
           holds-some S =
               let U = picked-turned S .table in
-              let a = doAlloc l (flags .zeroed) (standing f (st .rows)) .allocator in
+              let a = doAlloc l (flags .zeroed) (standing f (rowsIn ws)) .allocator in
               let N = T a U .table in
-              let p = numberAt (r .rows) (r .spot) in
+              let p = numberAt (rowsIn vs) spot in
               let I = picked-spot S in
-              let held : isAllocated (a .frames p) ≡ true = rw (table-frame I U) (is-held g (r .rows) (r .spot) (picked-held S)) in
-              rw c
-              (record {
+              let held : isAllocated (a .frames p) ≡ true = rw (table-frame I U) (is-held g (rowsIn vs) spot (picked-held S)) in
+              record {
                 sane = N .sane;
                 spot = λ z. I;
-                held = λ z. table-held N (r .spot) I (rw (upd-same (a .frames) p (marked false (flags .kernel) (a .frames p))) (held-still false (flags .kernel) (a .frames p) held));
-              })
+                held = λ z. table-held N spot I (rw (upd-same (a .frames) p (marked false (flags .kernel) (a .frames p))) (held-still false (flags .kernel) (a .frames p) held));
+              }
 
           pub gives-some
-              : (bytes bytes2 : List ℕ) → bytes2 ≡ zeroedBytes (flags .zeroed) (g (r .spot .page)) (r .spot .page) bytes
-              → GivesBy (tryAllocFrame standard l flags) f st bytes h n bytes2 (record { state = next; found = true; spot = r .spot; address = address })
+              : (bytes bytes2 : List ℕ) → bytes2 ≡ zeroedBytes (flags .zeroed) (g (spot .page)) (spot .page) bytes
+              → GivesBy (tryAllocFrame standard l flags) f st bytes h n bytes2 frame
           gives-some bytes bytes2 b s L =
               let S = L .table .sane in
               let p = P (s .allocator) (L .table) in
               let a = doAlloc l (flags .zeroed) (s .allocator) .allocator in
-              let q = r .spot .page in
+              let q = spot .page in
               let I = p .spot e in
               let H = p .held e in
               let N = p .turned .table .sane in
               let R = runs-bare (L .table .stands) (rw (p .turned .spans) at (held-runs I N H)) in
-              let lies = runs-lies R 0 (4096 * size (g q .level)) (omega arith) {a = 4096 * numberAt (r .rows) (r .spot)} {b = 4096 * q} (omega arith) (omega arith) in
+              let lies = runs-lies R 0 (4096 * size (g q .level)) (omega arith) {a = 4096 * numberAt (rowsIn vs) spot} {b = 4096 * q} (omega arith) (omega arith) in
               let W
-              = zeros-written (s .memory) bytes (L .fits) (L .apart) (L .memory) (flags .zeroed) (g q) (a .frames (numberAt (r .rows) (r .spot)))
-              (numberAt (r .rows) (r .spot)) q (table-frame I (p .turned .table) ∙ held-frame I N H) lies
+              = zeros-written (s .memory) bytes (L .fits) (L .apart) (L .memory) (flags .zeroed) (g q) (a .frames (numberAt (rowsIn vs) spot))
+              (numberAt (rowsIn vs) spot) q (table-frame I (p .turned .table) ∙ held-frame I N H) lies
               in
-              rw (try-some l flags s (numberAt (r .rows) (r .spot)) (p .page e), c, b)
+              rw (try-some l flags s (numberAt (rowsIn vs) spot) (p .page e), c, b)
               (record {
                 turned = turned-then (p .turned) (T a (p .turned .table));
                 memory = W .memory;

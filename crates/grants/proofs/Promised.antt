@@ -24,13 +24,11 @@ use Rattle.world.proofs.RoundTrip.{decode-stands}
 use Rattle.world.proofs.Sheets.{as-boot}
 use Rattle.world.proofs.Spans.{managed-spans, overlap-spans, spans-bare}
 use Rattle.allocator.specs.Spots.{numberAt}
-use Rattle.exam.specs.declared.State.{State}
-use Rattle.exam.specs.Promise.{Leaves, worldOf}
+use Rattle.exam.specs.Promise.{Leaves, State, worldOf}
 use Rattle.exam.proofs.Bounds.{kernel-small, page-small}
 use Rattle.exam.proofs.Promises.{Small, leaves-done, leaves-refused, leaves-torn, refusedBy}
 use Rattle.grants.specs.declared.Asked.{Asked}
-use Rattle.grants.specs.declared.Granted.{Granted}
-use Rattle.grants.specs.Granting.{Finds, Gives, Lends, Ready, Wants, handed}
+use Rattle.grants.specs.Granting.{Finds, Gives, Granted, Lends, Ready, Wants, handed}
 use Rattle.grants.proofs.Marking.{split-none, split-some, try-none, try-some}
 
 -- ---- what a grant keeps of a store

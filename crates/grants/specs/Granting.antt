@@ -13,7 +13,7 @@ use Rattle.definition.specs.Board.{standard}
 use Rattle.definition.specs.Boot.{managedPages, overlap}
 use Rattle.definition.specs.Frame.{size}
 use Rattle.definition.specs.Store.{Store}
-use Rattle.definition.specs.Tracker.{Granted as GrantedOf, countAlloc}
+use Rattle.definition.specs.Tracker.{Granted as GrantedOf}
 use Rattle.definition.specs.Calls.{Alloc, Layout, findLevel}
 use Rattle.definition.specs.World.{World, decode, memoryBytes}
 use Rattle.definition.specs.Torn.{regionsOf, sound}
@@ -25,10 +25,8 @@ use Rattle.world.specs.Tables.{Sane, Table, Turned}
 use Rattle.allocator.specs.declared.Spot.{Spot}
 use Rattle.allocator.specs.Spots.{HeldAt, InRows, numberAt}
 use Rattle.exam.specs.declared.Answer.{Answer}
-use Rattle.exam.specs.declared.State.{State}
-use Rattle.exam.specs.Promise.{worldOf}
+use Rattle.exam.specs.Promise.{State, worldOf}
 use Rattle.grants.specs.declared.Asked.{Asked}
-use Rattle.grants.specs.declared.Granted.{Granted}
 
 -- ---- which refusal a layout meets
 
@@ -69,11 +67,6 @@ zeroes zeroed r = zeroed && not (eqb (r .marks / 4 % 2) 1)
 abbrev pub zeroedBytes : Bool → Record → ℕ → List ℕ → List ℕ
 zeroedBytes zeroed r q bytes = cond (zeroes zeroed r) (withBytes bytes (4096 * q) (replicate (4096 * size (r .level)) 0)) bytes
 
--- what a frame that is found is handed over with
-abbrev pub counted : State → (pages : ℕ) → (kernel : Bool) → State
-counted st pages kernel =
-    record { rows = st .rows; counters = countAlloc pages kernel (st .counters); queued = st .queued; pass = st .pass }
-
 -- the addresses of a row's pages fit
 pub record Near (rows : List Row) (s : Spot) : Type 0 where
   pub index : s .index < 8
@@ -87,6 +80,13 @@ handed found address level =
     cond found (record { number = 0; address = address; bytes = 4096 * size level }) (record { number = 0; address = 0; bytes = 0 })
 
 -- ---- what a grant leaves
+
+-- the state, and the frame that was found, with its address
+pub record Granted : Type 0 where
+  pub state : State
+  pub found : Bool
+  pub spot : Spot
+  pub address : ℕ
 
 -- of the store s, by what the definition's grant makes of it
 pub record Gives (f : ℕ → Record) (st : State) (bytes : List ℕ) (s : Store) (x : GrantedOf) (g : ℕ → Record) (n : ℕ) (bytes2 : List ℕ) (r : Granted) : Type 0 where

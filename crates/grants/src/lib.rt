@@ -1,11 +1,10 @@
-// Grants: try_alloc_frame and try_alloc_split_frames. Each promises definition's `call`, with no condition on its caller.
+// Grants: try_alloc_frame and try_alloc_split_frames. Each promises definition's `call` of the words and loans that it is given.
 use allocator::Spot;
+use definition::Counters;
 use definition::FrameAllocFlags;
 use definition::Refusal;
-use definition::Row;
 use exam::Answer;
 use exam::Outcome;
-use exam::State;
 use level::FoundLevel;
 ghost use mathlib.Core.Bool.{false};
 ghost use mathlib.Core.Path.{_≡_};
@@ -13,18 +12,18 @@ ghost use Prim.Native.Nat.{_+_, _*_, _<_, _≤_};
 ghost use lib.ListN.{length};
 ghost use Rattle.definition.specs.Board.{standard};
 ghost use Rattle.definition.specs.Frame.{size as pagesOf};
-ghost use Rattle.definition.specs.Tracker.{tryAllocFrame, tryAllocSplitFrames};
+ghost use Rattle.definition.specs.Tracker.{countAlloc, tryAllocFrame, tryAllocSplitFrames};
 ghost use Rattle.definition.specs.Calls.{Alloc, Take};
 ghost use Rattle.definition.specs.Refusal.{numberOf};
 ghost use Rattle.definition.specs.World.{recordAt};
 ghost use Rattle.record.specs.Records.{pagesIn};
+ghost use Rattle.words.specs.Words.{rowsIn, Beside};
 ghost use Rattle.allocator.specs.Spots.{InRows, HeldAt, TurnsBy, markAt, numberAt};
-ghost use Rattle.exam.specs.Promise.{worldOf, Leaves};
+ghost use Rattle.exam.specs.Promise.{stateWith, worldOf, Leaves};
 ghost use Rattle.grants.specs.Granting.{
   WantsAll,
   Ready,
   zeroedBytes,
-  counted,
   Near,
   handed as «handed_def»,
   GivesBy,
@@ -67,7 +66,8 @@ pub struct Asked {
 
 // 6 to 10: the audit, the layout, and whether anything is listed at its level or above.
 fn wanted(
-    state: State,
+    counters: Counters,
+    words: &[u64],
     records: &[u8],
     memory_len: usize,
     queue_len: usize,
@@ -75,9 +75,10 @@ fn wanted(
     align: u64,
     flags: FrameAllocFlags,
 ) -> Asked
-    ensures { λ r. ⌜ WantsAll state (now (records .entry)) «memory_len» «queue_len» (record { size = size; align = align; flags = flags }) r ⌝ }
+    requires { ⌜ 92 ≤ length (now words) ⌝ }
+    ensures { λ r. ⌜ WantsAll (stateWith counters (now (words .entry))) (now (records .entry)) «memory_len» «queue_len» (record { size = size; align = align; flags = flags }) r ⌝ }
 {
-    if !exam::is_sound(state, records, memory_len, queue_len) {
+    if !exam::is_sound(counters, words, records, memory_len, queue_len) {
         return Asked {
             number: 6,
             level: 0,
@@ -86,8 +87,7 @@ fn wanted(
     match level::find_level(size, align) {
         FoundLevel::At(level) => {
             let index = level.index();
-            let rows = state.rows;
-            if allocator::is_listed(records, rows, index) {
+            if allocator::is_listed(words, records, index) {
                 return Asked {
                     number: 0,
                     level: index,
@@ -125,45 +125,41 @@ fn zero_if_asked(records: &[u8], memory: &mut [u8], page: usize, zeroed: bool)
 
 // frame.rs 715 clears the ZEROED mark; tracker.rs 73 to 80 set KERNEL as asked, and count the pages of the level that was asked for.
 fn hand_over(
-    state: State,
+    counters: Counters,
+    words: &[u64],
     records: &mut [u8],
     memory: &mut [u8],
     spot: Spot,
     level: usize,
     flags: FrameAllocFlags,
-) -> State
-    requires { ⌜ Ready (recordAt (now records)) (pagesIn (now records)) state (length (now memory)) × (level < 3) ⌝ }
-    requires { ⌜ InRows (state .rows) spot × HeldAt (recordAt (now records)) (state .rows) spot ⌝ }
-    ensures { λ r. ⌜ r ≡ counted state (pagesOf level) (flags .kernel) ⌝ }
+) -> Counters
+    requires { ⌜ (92 ≤ length (now words)) × Ready (recordAt (now records)) (pagesIn (now records)) (stateWith counters (now words)) (length (now memory)) × (level < 3) ⌝ }
+    requires { ⌜ InRows (rowsIn (now words)) spot × HeldAt (recordAt (now records)) (rowsIn (now words)) spot ⌝ }
+    ensures { λ r. ⌜ r ≡ countAlloc (pagesOf level) (flags .kernel) counters ⌝ }
     ensures { λ _. ⌜ now (memory .exit) ≡ zeroedBytes (flags .zeroed) (recordAt (now (records .entry)) (spot .page)) (spot .page) (now (memory .entry)) ⌝ }
-    ensures { λ _. ⌜ TurnsBy (markAt false (flags .kernel) (numberAt (state .rows) spot)) (recordAt (now (records .entry))) (state .rows) (recordAt (now (records .exit))) (pagesIn (now (records .exit))) (state .rows) ⌝ }
+    ensures { λ _. ⌜ TurnsBy (markAt false (flags .kernel) (numberAt (rowsIn (now (words .entry))) spot)) (recordAt (now (records .entry))) (rowsIn (now (words .entry))) (recordAt (now (records .exit))) (pagesIn (now (records .exit))) (rowsIn (now (words .entry))) ⌝ }
 {
     let page = spot.page;
     zero_if_asked(records, memory, page, flags.zeroed);
-    let rows = state.rows;
-    allocator::set_marks(records, rows, spot, false, flags.kernel);
+    allocator::set_marks(words, records, spot, false, flags.kernel);
     let pages = level::pages_at(level);
-    let counters = tracker::count_alloc(state.counters, pages, flags.kernel);
-    let mut next = state;
-    next.counters = counters;
-    next
+    tracker::count_alloc(counters, pages, flags.kernel)
 }
 
 // The first address of a page of a row.
-fn address_of(rows: [Row; 8], spot: Spot) -> u64
-    requires { ⌜ Near rows spot ⌝ }
-    ensures { λ r. ⌜ r ≡ 4096 * numberAt rows spot ⌝ }
+fn address_of(words: &[u64], spot: Spot) -> u64
+    requires { ⌜ (92 ≤ length (now words)) × Near (rowsIn (now words)) spot ⌝ }
+    ensures { λ r. ⌜ r ≡ 4096 * numberAt (rowsIn (now (words .entry))) spot ⌝ }
 {
-    let i = spot.index;
-    let row = rows[i];
+    let row = words::row_at(words, spot.index);
     region::start_address(row, spot.base, spot.page).raw()
 }
 
 // ---- a grant
 
-// What a grant leaves, and the frame that it found, with its address.
+// The counters that a grant leaves, and the frame that it found, with its address.
 pub struct Granted {
-    pub state: State,
+    pub counters: Counters,
     pub found: bool,
     pub spot: Spot,
     pub address: u64,
@@ -171,34 +167,32 @@ pub struct Granted {
 
 // A frame of the level, its contents and marks as asked, and its pages counted.
 fn grant(
-    state: State,
+    counters: Counters,
+    words: &mut [u64],
     records: &mut [u8],
     memory: &mut [u8],
     level: usize,
     flags: FrameAllocFlags,
 ) -> Granted
-    requires { ⌜ Ready (recordAt (now records)) (pagesIn (now records)) state (length (now memory)) × (level < 3) ⌝ }
-    ensures { λ r. ⌜ Finds state r × Holds (recordAt (now (records .exit))) (pagesIn (now (records .exit))) r ⌝ }
-    ensures { λ r. ⌜ GivesBy (tryAllocFrame standard level flags) (recordAt (now (records .entry))) state (now (memory .entry)) (recordAt (now (records .exit))) (pagesIn (now (records .exit))) (now (memory .exit)) r ⌝ }
+    requires { ⌜ (92 ≤ length (now words)) × Ready (recordAt (now records)) (pagesIn (now records)) (stateWith counters (now words)) (length (now memory)) × (level < 3) ⌝ }
+    ensures { λ r. ⌜ Finds (stateWith counters (now (words .entry))) (record { state = stateWith (r .counters) (now (words .exit)); found = r .found; spot = r .spot; address = r .address }) × Holds (recordAt (now (records .exit))) (pagesIn (now (records .exit))) (record { state = stateWith (r .counters) (now (words .exit)); found = r .found; spot = r .spot; address = r .address }) ⌝ }
+    ensures { λ r. ⌜ GivesBy (tryAllocFrame standard level flags) (recordAt (now (records .entry))) (stateWith counters (now (words .entry))) (now (memory .entry)) (recordAt (now (records .exit))) (pagesIn (now (records .exit))) (now (memory .exit)) (record { state = stateWith (r .counters) (now (words .exit)); found = r .found; spot = r .spot; address = r .address }) ⌝ }
+    ensures { λ _. ⌜ Beside (now (words .entry)) (now (words .exit)) ⌝ }
 {
-    let rows = state.rows;
-    let picked = allocator::do_alloc(records, rows, level, flags.zeroed);
+    let picked = allocator::do_alloc(words, records, level, flags.zeroed);
     let spot = picked.spot;
-    let turned = picked.rows;
-    let mut next = state;
-    next.rows = turned;
     if !picked.found {
         return Granted {
-            state: next,
+            counters,
             found: false,
             spot,
             address: 0,
         };
     }
-    let address = address_of(turned, spot);
-    let counted = hand_over(next, records, memory, spot, level, flags);
+    let address = address_of(words, spot);
+    let counted = hand_over(counters, words, records, memory, spot, level, flags);
     Granted {
-        state: counted,
+        counters: counted,
         found: true,
         spot,
         address,
@@ -207,23 +201,23 @@ fn grant(
 
 // The same, and a frame above the first level becomes 512 held ones.
 fn grant_split(
-    state: State,
+    counters: Counters,
+    words: &mut [u64],
     records: &mut [u8],
     memory: &mut [u8],
     level: usize,
     flags: FrameAllocFlags,
 ) -> Granted
-    requires { ⌜ Ready (recordAt (now records)) (pagesIn (now records)) state (length (now memory)) × (level < 3) ⌝ }
-    ensures { λ r. ⌜ Finds state r ⌝ }
-    ensures { λ r. ⌜ GivesBy (tryAllocSplitFrames standard level flags) (recordAt (now (records .entry))) state (now (memory .entry)) (recordAt (now (records .exit))) (pagesIn (now (records .exit))) (now (memory .exit)) r ⌝ }
+    requires { ⌜ (92 ≤ length (now words)) × Ready (recordAt (now records)) (pagesIn (now records)) (stateWith counters (now words)) (length (now memory)) × (level < 3) ⌝ }
+    ensures { λ r. ⌜ Finds (stateWith counters (now (words .entry))) (record { state = stateWith (r .counters) (now (words .exit)); found = r .found; spot = r .spot; address = r .address }) ⌝ }
+    ensures { λ r. ⌜ GivesBy (tryAllocSplitFrames standard level flags) (recordAt (now (records .entry))) (stateWith counters (now (words .entry))) (now (memory .entry)) (recordAt (now (records .exit))) (pagesIn (now (records .exit))) (now (memory .exit)) (record { state = stateWith (r .counters) (now (words .exit)); found = r .found; spot = r .spot; address = r .address }) ⌝ }
+    ensures { λ _. ⌜ Beside (now (words .entry)) (now (words .exit)) ⌝ }
 {
-    let granted = grant(state, records, memory, level, flags);
+    let granted = grant(counters, words, records, memory, level, flags);
     if !granted.found {
         return granted;
     }
-    let next = granted.state;
-    let rows = next.rows;
-    allocator::split_frame(records, rows, granted.spot);
+    allocator::split_frame(words, records, granted.spot);
     granted
 }
 
@@ -243,7 +237,8 @@ fn handed(found: bool, address: u64, level: usize) -> Answer
 
 // try_alloc_frame, tracker.rs 55.
 pub fn alloc(
-    state: State,
+    counters: Counters,
+    words: &mut [u64],
     records: &mut [u8],
     memory: &mut [u8],
     queue: &[u64],
@@ -251,10 +246,13 @@ pub fn alloc(
     align: u64,
     flags: FrameAllocFlags,
 ) -> Outcome
-    ensures { λ r. ⌜ Leaves (worldOf state (now (records .entry)) (now (memory .entry)) (now (queue .entry))) (Alloc (record { size = size; align = align; flags = flags })) (worldOf (r .state) (now (records .exit)) (now (memory .exit)) (now (queue .entry))) (r .answer) ⌝ }
+    requires { ⌜ 92 ≤ length (now words) ⌝ }
+    ensures { λ r. ⌜ Leaves (worldOf (stateWith counters (now (words .entry))) (now (records .entry)) (now (memory .entry)) (now (queue .entry))) (Alloc (record { size = size; align = align; flags = flags })) (worldOf (stateWith (r .counters) (now (words .exit))) (now (records .exit)) (now (memory .exit)) (now (queue .entry))) (r .answer) ⌝ }
+    ensures { λ _. ⌜ Beside (now (words .entry)) (now (words .exit)) ⌝ }
 {
     let asked = wanted(
-        state,
+        counters,
+        words,
         records,
         memory.len(),
         queue.len(),
@@ -265,22 +263,23 @@ pub fn alloc(
     let number = asked.number;
     if number != 0 {
         return Outcome {
-            state,
+            counters,
             answer: exam::refused(number),
         };
     }
     let level = asked.level;
-    let granted = grant(state, records, memory, level, flags);
-    let next = granted.state;
+    let granted = grant(counters, words, records, memory, level, flags);
+    let next = granted.counters;
     Outcome {
-        state: next,
+        counters: next,
         answer: handed(granted.found, granted.address, level),
     }
 }
 
 // try_alloc_split_frames, tracker.rs 98.
 pub fn take(
-    state: State,
+    counters: Counters,
+    words: &mut [u64],
     records: &mut [u8],
     memory: &mut [u8],
     queue: &[u64],
@@ -288,10 +287,13 @@ pub fn take(
     align: u64,
     flags: FrameAllocFlags,
 ) -> Outcome
-    ensures { λ r. ⌜ Leaves (worldOf state (now (records .entry)) (now (memory .entry)) (now (queue .entry))) (Take (record { size = size; align = align; flags = flags })) (worldOf (r .state) (now (records .exit)) (now (memory .exit)) (now (queue .entry))) (r .answer) ⌝ }
+    requires { ⌜ 92 ≤ length (now words) ⌝ }
+    ensures { λ r. ⌜ Leaves (worldOf (stateWith counters (now (words .entry))) (now (records .entry)) (now (memory .entry)) (now (queue .entry))) (Take (record { size = size; align = align; flags = flags })) (worldOf (stateWith (r .counters) (now (words .exit))) (now (records .exit)) (now (memory .exit)) (now (queue .entry))) (r .answer) ⌝ }
+    ensures { λ _. ⌜ Beside (now (words .entry)) (now (words .exit)) ⌝ }
 {
     let asked = wanted(
-        state,
+        counters,
+        words,
         records,
         memory.len(),
         queue.len(),
@@ -302,15 +304,15 @@ pub fn take(
     let number = asked.number;
     if number != 0 {
         return Outcome {
-            state,
+            counters,
             answer: exam::refused(number),
         };
     }
     let level = asked.level;
-    let granted = grant_split(state, records, memory, level, flags);
-    let next = granted.state;
+    let granted = grant_split(counters, words, records, memory, level, flags);
+    let next = granted.counters;
     Outcome {
-        state: next,
+        counters: next,
         answer: handed(granted.found, granted.address, level),
     }
 }

@@ -1,14 +1,15 @@
 // The boot over a lent list of region structs (frame.rs's init): any length, of which no more than eight are read. A thin function reads each struct out of the
 // slice and hands it by value to covered code; the whole boot promises what `boot` does, over the list of entries.
 use address::PhysAddr;
+use definition::Counters;
 use definition::MemoryRegion;
 use definition::MemoryRegionKind;
 use exam::Outcome;
-use exam::State;
 ghost use mathlib.Core.Path.{_≡_};
 ghost use Prim.Native.Nat.{_≤_, _<_};
-ghost use Rattle.exam.specs.Promise.{worldOf};
-ghost use Rattle.boot.specs.Booting.{Boots};
+ghost use lib.ListN.{length};
+ghost use Rattle.exam.specs.Promise.{stateWith, worldOf};
+ghost use Rattle.boot.specs.Booting.{Boots, BootsOver};
 ghost use Rattle.map.specs.Lending.{nothing as «nothing_def», entered as «entered_def», gathered, BootsBy};
 
 // The first eight entries of a map, and how many it has.
@@ -64,26 +65,30 @@ fn gather(map: &[MemoryRegion]) -> Gathered
 
 fn boot_gathered(
     g: Gathered,
-    state: State,
+    counters: Counters,
+    words: &mut [u64],
     records: &mut [u8],
     memory: &[u8],
     queue: &[u64],
 ) -> Outcome
-    ensures { λ r. ⌜ BootsBy g (worldOf state (now (records .entry)) (now (memory .entry)) (now (queue .entry))) (worldOf (r .state) (now (records .exit)) (now (memory .entry)) (now (queue .entry))) (r .answer) ⌝ }
+    requires { ⌜ 92 ≤ length (now words) ⌝ }
+    ensures { λ r. ⌜ BootsBy g (worldOf (stateWith counters (now (words .entry))) (now (records .entry)) (now (memory .entry)) (now (queue .entry))) (worldOf (stateWith (r .counters) (now (words .exit))) (now (records .exit)) (now (memory .entry)) (now (queue .entry))) (r .answer) × BootsOver (now (words .entry)) (now (words .exit)) (r .answer) ⌝ }
 {
     let map = g.map;
-    boot::boot(state, map, g.count, records, memory, queue)
+    boot::boot(counters, words, map, g.count, records, memory, queue)
 }
 
-// init, frame.rs 707, over a lent list of region entries of any length. The memory's bytes stay.
+// init, frame.rs 707, over a lent list of region entries of any length. The memory's bytes stay. Nothing of the words is read.
 pub fn boot_map(
-    state: State,
+    counters: Counters,
+    words: &mut [u64],
     map: &[MemoryRegion],
     records: &mut [u8],
     memory: &[u8],
     queue: &[u64],
 ) -> Outcome
-    ensures { λ r. ⌜ Boots (now (map .entry)) (worldOf state (now (records .entry)) (now (memory .entry)) (now (queue .entry))) (worldOf (r .state) (now (records .exit)) (now (memory .entry)) (now (queue .entry))) (r .answer) ⌝ }
+    requires { ⌜ 92 ≤ length (now words) ⌝ }
+    ensures { λ r. ⌜ Boots (now (map .entry)) (worldOf (stateWith counters (now (words .entry))) (now (records .entry)) (now (memory .entry)) (now (queue .entry))) (worldOf (stateWith (r .counters) (now (words .exit))) (now (records .exit)) (now (memory .entry)) (now (queue .entry))) (r .answer) × BootsOver (now (words .entry)) (now (words .exit)) (r .answer) ⌝ }
 {
-    boot_gathered(gather(map), state, records, memory, queue)
+    boot_gathered(gather(map), counters, words, records, memory, queue)
 }

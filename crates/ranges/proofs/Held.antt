@@ -118,11 +118,12 @@ module _ {w : World} {a off len : ℕ} {x : Exam} (E : Examined w a off len x) (
   abbrev pub examined-whole : Sound standard w
   examined-whole = sound-is standard w (examined-sound E z)
 
-  -- what the functions that change a held frame require
+  -- what the functions that change a held frame require, where so many words are lent
   pub examined-spot
-      : Sane (recordAt (w .records)) (pagesIn (w .records)) (w .rows)
+      : {n : ℕ} → 92 ≤ n
+      → ((92 ≤ n) × Sane (recordAt (w .records)) (pagesIn (w .records)) (w .rows))
       × (InRows (w .rows) (x .seen .spot) × HeldAt (recordAt (w .records)) (w .rows) (x .seen .spot))
-  examined-spot = (sound-sane w examined-whole, (examined-held E z .inside, examined-held E z .held))
+  examined-spot enough = ((enough, sound-sane w examined-whole), (examined-held E z .inside, examined-held E z .held))
 
   pub examined-fit : Fit (x .seen)
   examined-fit d = examined-held E z .leveled

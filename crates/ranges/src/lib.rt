@@ -1,26 +1,38 @@
-// The contents of held frames, after frame.rs's Frame::zero, set_not_zero and the added fill and write. Each call promises definition's `call`, with no condition on
-// its caller; the rows and counters stay as they are.
+// The contents of held frames, after frame.rs's Frame::zero, set_not_zero and the added fill and write. Each call promises definition's `call`
+// of the words and loans that it is given; the words and counters stay as they are.
 use address::PhysAddr;
+use definition::Counters;
 use exam::Answer;
-use exam::State;
 ghost use mathlib.Core.Path.{_≡_};
 ghost use Prim.Native.Nat.{ℕ, _+_, _/_, _%_, _<_, _≤_, _^_};
+ghost use lib.ListN.{length};
 ghost use Rattle.definition.specs.Calls.{Zero, Dirty, Fill, Write};
-ghost use Rattle.exam.specs.Promise.{worldOf, Leaves};
+ghost use Rattle.exam.specs.Promise.{stateWith, worldOf, Leaves};
 
 // ---- contents
 
 // Frame::zero, frame.rs 430.
 pub fn zero(
-    state: State,
+    counters: Counters,
+    words: &[u64],
     records: &mut [u8],
     memory: &mut [u8],
     queue: &[u64],
     pa: PhysAddr,
 ) -> Answer
-    ensures { λ r. ⌜ Leaves (worldOf state (now (records .entry)) (now (memory .entry)) (now (queue .entry))) (Zero (pa .0)) (worldOf state (now (records .exit)) (now (memory .exit)) (now (queue .entry))) r ⌝ }
+    requires { ⌜ 92 ≤ length (now words) ⌝ }
+    ensures { λ r. ⌜ Leaves (worldOf (stateWith counters (now (words .entry))) (now (records .entry)) (now (memory .entry)) (now (queue .entry))) (Zero (pa .0)) (worldOf (stateWith counters (now (words .entry))) (now (records .exit)) (now (memory .exit)) (now (queue .entry))) r ⌝ }
 {
-    let exam = exam::examine(state, records, memory.len(), queue.len(), pa, 0, 0);
+    let exam = exam::examine(
+        counters,
+        words,
+        records,
+        memory.len(),
+        queue.len(),
+        pa,
+        0,
+        0,
+    );
     let number = exam.number;
     if number != 0 {
         return exam::refused(number);
@@ -29,25 +41,40 @@ pub fn zero(
     let spot = seen.spot;
     let bytes = exam::frame_bytes(seen);
     contents::fill(memory, 4096 * spot.page, bytes as usize, 0);
-    let rows = state.rows;
-    allocator::set_marks(records, rows, spot, true, record::is_kernel(seen.marks));
+    allocator::set_marks(words, records, spot, true, record::is_kernel(seen.marks));
     exam::done(pa.raw(), bytes)
 }
 
 // Frame::set_not_zero, frame.rs 443.
-pub fn dirty(state: State, records: &mut [u8], memory: &[u8], queue: &[u64], pa: PhysAddr) -> Answer
-    ensures { λ r. ⌜ Leaves (worldOf state (now (records .entry)) (now (memory .entry)) (now (queue .entry))) (Dirty (pa .0)) (worldOf state (now (records .exit)) (now (memory .entry)) (now (queue .entry))) r ⌝ }
+pub fn dirty(
+    counters: Counters,
+    words: &[u64],
+    records: &mut [u8],
+    memory: &[u8],
+    queue: &[u64],
+    pa: PhysAddr,
+) -> Answer
+    requires { ⌜ 92 ≤ length (now words) ⌝ }
+    ensures { λ r. ⌜ Leaves (worldOf (stateWith counters (now (words .entry))) (now (records .entry)) (now (memory .entry)) (now (queue .entry))) (Dirty (pa .0)) (worldOf (stateWith counters (now (words .entry))) (now (records .exit)) (now (memory .entry)) (now (queue .entry))) r ⌝ }
 {
-    let exam = exam::examine(state, records, memory.len(), queue.len(), pa, 0, 0);
+    let exam = exam::examine(
+        counters,
+        words,
+        records,
+        memory.len(),
+        queue.len(),
+        pa,
+        0,
+        0,
+    );
     let number = exam.number;
     if number != 0 {
         return exam::refused(number);
     }
     let seen = exam.seen;
-    let rows = state.rows;
     allocator::set_marks(
+        words,
         records,
-        rows,
         seen.spot,
         false,
         record::is_kernel(seen.marks),
@@ -57,7 +84,8 @@ pub fn dirty(state: State, records: &mut [u8], memory: &[u8], queue: &[u64], pa:
 
 // 01: `len` bytes of a frame, from `offset` on, become `byte`.
 pub fn fill(
-    state: State,
+    counters: Counters,
+    words: &[u64],
     records: &mut [u8],
     memory: &mut [u8],
     queue: &[u64],
@@ -66,9 +94,19 @@ pub fn fill(
     len: u64,
     byte: u8,
 ) -> Answer
-    ensures { λ r. ⌜ Leaves (worldOf state (now (records .entry)) (now (memory .entry)) (now (queue .entry))) (Fill (pa .0) offset len byte) (worldOf state (now (records .exit)) (now (memory .exit)) (now (queue .entry))) r ⌝ }
+    requires { ⌜ 92 ≤ length (now words) ⌝ }
+    ensures { λ r. ⌜ Leaves (worldOf (stateWith counters (now (words .entry))) (now (records .entry)) (now (memory .entry)) (now (queue .entry))) (Fill (pa .0) offset len byte) (worldOf (stateWith counters (now (words .entry))) (now (records .exit)) (now (memory .exit)) (now (queue .entry))) r ⌝ }
 {
-    let exam = exam::examine(state, records, memory.len(), queue.len(), pa, offset, len);
+    let exam = exam::examine(
+        counters,
+        words,
+        records,
+        memory.len(),
+        queue.len(),
+        pa,
+        offset,
+        len,
+    );
     let number = exam.number;
     if number != 0 {
         return exam::refused(number);
@@ -81,14 +119,14 @@ pub fn fill(
         len as usize,
         byte,
     );
-    let rows = state.rows;
-    allocator::set_marks(records, rows, spot, false, record::is_kernel(seen.marks));
+    allocator::set_marks(words, records, spot, false, record::is_kernel(seen.marks));
     exam::done(pa.raw(), len)
 }
 
 // 01: the bytes of a frame, from `offset` on, become `bytes`.
 pub fn write(
-    state: State,
+    counters: Counters,
+    words: &[u64],
     records: &mut [u8],
     memory: &mut [u8],
     queue: &[u64],
@@ -96,10 +134,20 @@ pub fn write(
     offset: u64,
     bytes: &[u8],
 ) -> Answer
-    ensures { λ r. ⌜ Leaves (worldOf state (now (records .entry)) (now (memory .entry)) (now (queue .entry))) (Write (pa .0) offset (now (bytes .entry))) (worldOf state (now (records .exit)) (now (memory .exit)) (now (queue .entry))) r ⌝ }
+    requires { ⌜ 92 ≤ length (now words) ⌝ }
+    ensures { λ r. ⌜ Leaves (worldOf (stateWith counters (now (words .entry))) (now (records .entry)) (now (memory .entry)) (now (queue .entry))) (Write (pa .0) offset (now (bytes .entry))) (worldOf (stateWith counters (now (words .entry))) (now (records .exit)) (now (memory .exit)) (now (queue .entry))) r ⌝ }
 {
     let len = bytes.len() as u64;
-    let exam = exam::examine(state, records, memory.len(), queue.len(), pa, offset, len);
+    let exam = exam::examine(
+        counters,
+        words,
+        records,
+        memory.len(),
+        queue.len(),
+        pa,
+        offset,
+        len,
+    );
     let number = exam.number;
     if number != 0 {
         return exam::refused(number);
@@ -107,7 +155,6 @@ pub fn write(
     let seen = exam.seen;
     let spot = seen.spot;
     contents::write(memory, 4096 * spot.page + offset as usize, bytes);
-    let rows = state.rows;
-    allocator::set_marks(records, rows, spot, false, record::is_kernel(seen.marks));
+    allocator::set_marks(words, records, spot, false, record::is_kernel(seen.marks));
     exam::done(pa.raw(), len)
 }

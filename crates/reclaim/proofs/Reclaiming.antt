@@ -42,9 +42,8 @@ use Rattle.allocator.specs.declared.Seen.{Seen}
 use Rattle.allocator.specs.Spots.{Sees, TurnsBy, freeAt}
 use Rattle.allocator.proofs.Standing.{sane-table, standing}
 use Rattle.allocator.proofs.Turning.{sees-number}
-use Rattle.exam.specs.declared.State.{State}
 use Rattle.exam.specs.declared.Exam.{Exam}
-use Rattle.exam.specs.Promise.{HeldSeen, Looks}
+use Rattle.exam.specs.Promise.{State, HeldSeen, Looks}
 use Rattle.exam.proofs.Tests.{frame-seen, seen-admitted, seen-held, seen-managed}
 use Rattle.frames.specs.Freeing.{Released}
 use Rattle.reclaim.specs.Rounds.{IsOf, Reclaims}

@@ -33,13 +33,10 @@ use Rattle.world.specs.Tables.{Sane, Turned}
 use Rattle.world.proofs.Leaving.{left-by, sound-sane, sound-table, unwritten}
 use Rattle.world.proofs.Refusing.{nothing-refused}
 use Rattle.world.proofs.RoundTrip.{decode-stands}
-use Rattle.exam.specs.declared.Outcome.{Outcome}
-use Rattle.exam.specs.declared.State.{State}
-use Rattle.exam.specs.Promise.{Leaves, worldOf}
+use Rattle.exam.specs.Promise.{State, Outcome, Leaves, worldOf}
 use Rattle.exam.proofs.Bounds.{idle-small}
 use Rattle.exam.proofs.Promises.{leaves-done}
-use Rattle.reclaim.specs.declared.Reclaimed.{Reclaimed}
-use Rattle.reclaim.specs.Rounds.{EndsPass, IsOf, Reclaims, ReclaimsTo}
+use Rattle.reclaim.specs.Rounds.{Reclaimed, EndsPass, IsOf, Reclaims, ReclaimsTo}
 
 -- ---- the definition's round by its tests
 

@@ -9,9 +9,7 @@ use Rattle.definition.specs.Board.{standard}
 use Rattle.definition.specs.Store.{Store}
 use Rattle.definition.specs.Tracker.{Reclaimed as ReclaimedOf, reclaimUpTo, trackReclaimed}
 use Rattle.world.specs.Tables.{Table, Turned}
-use Rattle.exam.specs.declared.Outcome.{Outcome}
-use Rattle.exam.specs.declared.State.{State}
-use Rattle.reclaim.specs.declared.Reclaimed.{Reclaimed}
+use Rattle.exam.specs.Promise.{Outcome, State}
 
 -- ---- a round
 
@@ -21,6 +19,11 @@ pub record IsOf (f : ℕ → Record) (n : ℕ) (st : State) (places : List ℕ) 
   pub counters : s .counters ≡ st .counters
   pub queue : s .queue ≡ take (st .queued) places
   pub queued : st .queued ≤ length places
+
+-- the state that a round's frees leave, and how many they were
+pub record Reclaimed : Type 0 where
+  pub state : State
+  pub freed : ℕ
 
 -- what a round's frees leave of every store that the state is of
 pub record ReclaimsTo (f : ℕ → Record) (st : State) (places : List ℕ) (g : ℕ → Record) (n : ℕ) (r : Reclaimed) (s : Store) (x : ReclaimedOf) : Type 0 where

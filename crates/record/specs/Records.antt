@@ -1,6 +1,6 @@
 -- What a call leaves of the records. `withBytes` fixes every byte of the loan; the others speak of the records as a function of the page, `recordAt`
 -- of the definition, which is all that callers see of the bytes.
-use Prim.Native.Nat.{ℕ, _+_, _/_}
+use Prim.Native.Nat.{ℕ, _+_, _*_, _/_}
 use mathlib.Core.Bool.{cond}
 use mathlib.Core.List.{List, _++_}
 use lib.ListN.{length, take, drop}
@@ -19,6 +19,10 @@ withBytes bs at xs = take at bs ++ xs ++ drop (at + length xs) bs
 
 abbrev pub noRecord : Record
 noRecord = record { marks = 0; level = 0; earlier = 0; later = 0 }
+
+-- the marks and the level of a record as one number
+abbrev pub kindOf : Record → ℕ
+kindOf r = r .marks + 4294967296 * r .level
 
 -- one field of the record of a page is another
 abbrev pub withMarks : (ℕ → Record) → ℕ → ℕ → ℕ → Record

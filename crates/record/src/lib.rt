@@ -10,7 +10,7 @@ ghost use lib.ListN.{length, replicate};
 ghost use Rattle.definition.specs.Basics.{upd, bit, all, range};
 ghost use Rattle.definition.specs.Torn.{isBlank};
 ghost use Rattle.definition.specs.World.{wordAt, recordAt, wordBytes, recordBytes};
-ghost use Rattle.record.specs.Records.{pagesIn, withBytes, withMarks, withEarlier, withLater, withLinks, cleared};
+ghost use Rattle.record.specs.Records.{pagesIn, kindOf, withBytes, withMarks, withEarlier, withLater, withLinks, cleared};
 
 fn wide(x: u8) -> u32
     ensures { λ r. ⌜ (r ≡ x) × (r < 256) ⌝ }
@@ -64,6 +64,15 @@ pub fn store(records: &mut [u8], page: usize, r: Record)
     put(records, w + 1, r.level);
     put(records, w + 2, r.earlier);
     put(records, w + 3, r.later);
+}
+
+// The marks and the level of a page as one number.
+pub fn kind(records: &[u8], page: usize) -> u64
+    requires { ⌜ page < pagesIn (now records) ⌝ }
+    ensures { λ r. ⌜ r ≡ kindOf (recordAt (now (records .entry)) page) ⌝ }
+{
+    let w = page * 4;
+    (get(records, w) as u64) + 4294967296 * (get(records, w + 1) as u64)
 }
 
 // The marks of a page.

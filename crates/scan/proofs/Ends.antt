@@ -18,7 +18,7 @@ and-swap true b c = refl
 and-swap false true c = refl
 and-swap false false c = refl
 
-eqb-swap : (a b : ℕ) → eqb a b ≡ eqb b a
+pub eqb-swap : (a b : ℕ) → eqb a b ≡ eqb b a
 eqb-swap a b = same-test (λ t. eq-eqb b a (sym (eqb-true a b t))) (λ t. eq-eqb a b (sym (eqb-true b a t)))
 
 -- beside the test that two numbers are one, other tests may be of either

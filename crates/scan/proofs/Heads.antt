@@ -1,8 +1,9 @@
--- The heads of a region: what the test of one says, how stepping from one leads to the next, and that an ADMITTED page of a tiled region is a head.
+-- The heads of a region: what the test of one says, how stepping from one leads to the next, and that each page of a tiled region is a head or inside of
+-- one.
 use Prim.Native.Nat.{ℕ, zero, suc, _+_, _-_, _%_, _≤_, _<_}
 use mathlib.Core.Bool.{Bool, true, false, cond}
 use mathlib.Core.List.{List, [], _∷_}
-use mathlib.Core.Logic.{inl, inr}
+use mathlib.Core.Logic.{_⊎_, inl, inr, ⊎-elim}
 use mathlib.Core.Path.{_≡_, refl, sym, ap, _∙_, subst}
 use native.Mathlib.Nat.{mod-one}
 use native.Mathlib.Omega.{arith}
@@ -16,8 +17,9 @@ use Rattle.definition.specs.World.{isAdmitted}
 use Rattle.definition.specs.Torn.{Records, isBlank, pagesOfRecord, headsFrom}
 use Rattle.definition.proofs.Tests.{and-left, and-right, range-in}
 use Rattle.level.proofs.Sizes.{size-positive}
-use Rattle.scan.specs.Sheet.{headAt, headPages}
+use Rattle.scan.specs.Sheet.{headAt, headPages, headsOf, tiledAt, Marked}
 use Rattle.scan.proofs.Pigeon.{Mem, Distinct}
+use Rattle.scan.proofs.Members.{all-in}
 
 -- ---- one head
 
@@ -176,20 +178,34 @@ blank-marks : (r : Record) → isBlank r ≡ true → r .marks ≡ 0
 blank-marks r t = eqb-true (r .marks) 0 (and-left _ _ t)
 
 module _ (f : Records) (from base past : ℕ) where
-  pub admitted-head : (at x : ℕ) (hs : List ℕ) → Steps f past at hs → all (headAt f from base past) hs ≡ true
-      → at ≤ x → x < past → f x .marks % 2 ≡ 1 → Mem x hs
+  -- each page is a head, or inside of one
+  head-or-blank : (at x : ℕ) (hs : List ℕ) → Steps f past at hs → all (headAt f from base past) hs ≡ true
+      → at ≤ x → x < past → Mem x hs ⊎ (isBlank (f x) ≡ true)
   unfolding all
-  admitted-head at x [] s t l u a = absurd (omega arith)
-  admitted-head at x (h ∷ hs) s t l u a =
+  head-or-blank at x [] s t l u = absurd (omega arith)
+  head-or-blank at x (h ∷ hs) s t l u =
       go (ℕ-discrete x at) (decLt x (at + pagesOfRecord (f at)))
-      (λ k. admitted-head (at + pagesOfRecord (f at)) x hs (s .2) (and-right (headAt f from base past h) _ t) k u a)
+      (λ k. head-or-blank (at + pagesOfRecord (f at)) x hs (s .2) (and-right (headAt f from base past h) _ t) k u)
     where
       first : Head f from base past at
       first = head-facts f from base past at (subst (λ (y : ℕ). headAt f from base past y ≡ true) (s .0) (and-left _ _ t))
 
-      go : Dec (x ≡ at) → Dec (x < at + pagesOfRecord (f at)) → (at + pagesOfRecord (f at) ≤ x → Mem x hs) → Mem x (h ∷ hs)
-      go (yes e) d more = inl (omega (arith, s .0))
-      go (no n) (yes k) more =
-          let p = pages-small (f at) (first .level) in
-          absurd (omega (arith, blank-marks (f x) (first .inside x (omega arith) (omega arith))))
-      go (no n) (no k) more = inr (more (omega arith))
+      go : Dec (x ≡ at) → Dec (x < at + pagesOfRecord (f at)) → (at + pagesOfRecord (f at) ≤ x → Mem x hs ⊎ (isBlank (f x) ≡ true))
+          → Mem x (h ∷ hs) ⊎ (isBlank (f x) ≡ true)
+      go (yes e) d more = inl (inl (omega (arith, s .0)))
+      go (no n) (yes k) more = let p = pages-small (f at) (first .level) in inr (first .inside x (omega arith) (omega arith))
+      go (no n) (no k) more = ⊎-elim (λ m. inl (inr m)) (λ b. inr b) (more (omega arith))
+
+  pub admitted-head : (at x : ℕ) (hs : List ℕ) → Steps f past at hs → all (headAt f from base past) hs ≡ true
+      → at ≤ x → x < past → f x .marks % 2 ≡ 1 → Mem x hs
+  admitted-head at x hs s t l u a =
+      ⊎-elim (λ m. m) (λ b. absurd (omega (arith, blank-marks (f x) b))) (head-or-blank at x hs s t l u)
+
+  pub tiled-marked : tiledAt f from base past ≡ true → Marked f base past
+  unfolding tiledAt
+  tiled-marked t x l u =
+      let hs = headsOf f base past in
+      ⊎-elim
+      (λ m. head-facts f from base past x (all-in (headAt f from base past) hs t x m) .known)
+      (λ b. omega (arith, blank-marks (f x) b))
+      (head-or-blank base x hs (steps-of f past (past - base) base (omega arith)) t l u)

@@ -4,6 +4,7 @@ pub mod Heads
 pub mod Nodes
 pub mod Ends
 pub mod Tallies
+pub mod Marks
 pub mod Scanning
 pub mod Pages
 pub mod Listings

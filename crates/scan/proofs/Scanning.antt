@@ -1,16 +1,21 @@
 -- The scan's invariant and its turns: what is left from a page on decides as the whole does, and the pages held so far with those of what is left are the
 -- whole's.
-use Prim.Native.Nat.{ℕ, _+_, _-_, _≤_, _<_}
+use Prim.Native.Nat.{ℕ, _+_, _-_, _/_, _%_, _≤_, _<_}
 use mathlib.Core.Bool.{Bool, true, false, _&&_, false≢true}
 use mathlib.Core.List.{List}
 use mathlib.Core.Path.{_≡_, refl, sym, ap, _∙_}
 use native.Mathlib.Omega.{arith}
+use borrow.Author.Tests.{ne-eqb}
 use Rattle.definition.specs.Basics.{all, sum}
+use Rattle.definition.specs.Frame.{size}
 use Rattle.definition.specs.Torn.{Records, pagesOfRecord, headsFrom, aloneIfHeld, heldAs}
+use Rattle.definition.proofs.Tests.{and-true}
 use Rattle.scan.specs.declared.Scanned.{Scanned}
-use Rattle.scan.specs.Sheet.{headAt, tiledAt, aloneAt, heldAt, Tallied}
+use Rattle.scan.specs.Sheet.{headAt, tiledAt, aloneAt, heldAt, freePage, Tallied}
 use Rattle.scan.proofs.Members.{all-both}
-use Rattle.scan.proofs.Heads.{heads-end, heads-step}
+use Rattle.scan.proofs.Heads.{head-small, pages-small, heads-end, heads-step}
+use Rattle.scan.proofs.Tallies.{alone-free, held-free}
+use Rattle.scan.proofs.Marks.{free-facts}
 
 module _ (f : Records) (from base past : ℕ) where
   abbrev good : ℕ → Bool
@@ -54,6 +59,18 @@ module _ (f : Records) (from base past : ℕ) where
         pages = omega (arith, i .pages, held-step false at s l e);
         kernels = omega (arith, i .kernels, held-step true at s l e);
       }
+
+  -- an unheld frame of one page
+  pub scan-free : (page kernel at : ℕ) → Scanning page kernel at → at < past → freePage (f at) ≡ true → Scanning page kernel (at + 1)
+  scan-free page kernel at i l t =
+      let d = free-facts (f at) t in
+      let u = ne-eqb (f at .marks / 2 % 2) 1 (omega (arith, d .0)) in
+      let one : 1 ≡ pagesOfRecord (f at) = sym (pages-small (f at) (omega (arith, d .2)) ∙ ap size (d .2)) in
+      let p = held-free (f at) (f at .marks) refl u false in
+      let k = held-free (f at) (f at .marks) refl u true in
+      let h = head-small f from base past at (omega (arith, d .0)) (d .1) (d .2) l in
+      scan-turn page kernel at 1 page kernel i l (and-true h (alone-free (f at) (f at .marks) refl u)) one
+      (omega arith) (omega arith) (omega arith) (omega arith)
 
   apart : all good (left base) ≡ (tiledAt f from base past && aloneAt f base past)
   unfolding tiledAt aloneAt

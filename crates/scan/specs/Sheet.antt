@@ -1,6 +1,6 @@
 -- The torn sheet of one placed row: each clause of `Torn` over the rows is `all` over the clause here. The code gets the region by numbers: `from` is
 -- the page frame number of its first managed page, `base` that page's number in the records, `past` the number behind its last.
-use Prim.Native.Nat.{ℕ, zero, suc, _+_, _-_, _%_, _≤_}
+use Prim.Native.Nat.{ℕ, zero, suc, _+_, _-_, _*_, _/_, _%_, _≤_, _<_}
 use mathlib.Core.Bool.{Bool, true, false, not, cond, _&&_, _||_}
 use mathlib.Core.List.{List}
 use mathlib.Core.Path.{_≡_}
@@ -29,6 +29,7 @@ use Rattle.definition.specs.Torn.{
   listedPages,
   heldAs,
 }
+use Rattle.record.specs.Records.{kindOf}
 use Rattle.scan.specs.declared.Scanned.{Scanned}
 use Rattle.scan.specs.declared.Whole.{Whole}
 
@@ -85,6 +86,23 @@ aloneAt f base past = all (λ h. aloneIfHeld (f h)) (headsOf f base past)
 
 unfoldable pub heldAt : Bool → Records → (base past : ℕ) → ℕ
 heldAt kernel f base past = sum (λ h. heldAs kernel (f h)) (headsOf f base past)
+
+-- an unheld frame of one page
+abbrev pub freePage : Record → Bool
+freePage r = eqb (r .marks % 4) 1 && (ltb (r .marks) 16 && eqb (r .level) 0)
+
+-- no page of the region has a mark bit but those named
+abbrev pub Marked : Records → (base past : ℕ) → Type 0
+Marked f base past = (q : ℕ) → base ≤ q → q < past → f q .marks < 16
+
+-- the marks and the level, as one number, of the frames on the list k, but for KERNEL
+abbrev pub kindOn : ℕ → ℕ
+kindOn k = 1 + 4 * (k % 2) + 4294967296 * (k / 2)
+
+-- the number `at` names a page of the region with such a record, with KERNEL or without: of kindOn k it says what `onAt` says of k, where no page has
+-- other mark bits
+unfoldable pub onKind : Records → (base past kind at : ℕ) → Bool
+onKind f base past kind at = ltb base at && (leb at past && (eqb (kindOf (f (at - 1))) kind || eqb (kindOf (f (at - 1))) (kind + 8)))
 
 -- the number `at` names an unheld frame of the region and the list k
 unfoldable pub onAt : Records → (base past k at : ℕ) → Bool

@@ -3,9 +3,10 @@
 // first managed page, `base` that page's number in the records, `past` the number behind its last.
 use definition::Links;
 use definition::Row;
-ghost use mathlib.Core.Bool.{false};
+ghost use mathlib.Core.Bool.{false, _&&_};
 ghost use mathlib.Core.Path.{_≡_};
 ghost use Prim.Native.Nat.{_+_, _-_, _≤_, _<_, _^_};
+ghost use lib.Dec.{eqb};
 ghost use Rattle.definition.specs.Board.{standard};
 ghost use Rattle.definition.specs.Basics.{all, range};
 ghost use Rattle.definition.specs.Allocator.{first};
@@ -16,9 +17,10 @@ ghost use Rattle.scan.specs.Sheet.{
   placedAt,
   headPages,
   alone,
-  onAt,
-  nodeAt,
-  backNodeAt,
+  freePage,
+  Marked,
+  kindOn,
+  onKind,
   walksAt,
   listAt,
   Tallied,
@@ -61,6 +63,24 @@ fn head_pages(records: &[u8], from: usize, base: usize, past: usize, h: usize) -
     }
 }
 
+// An unheld frame of one page, with ZEROED and KERNEL or without: most heads are such, and one load tells.
+fn is_free_page(records: &[u8], h: usize) -> bool
+    requires { ⌜ h < pagesIn (now records) ⌝ }
+    ensures { λ r. ⌜ r ≡ freePage (recordAt (now (records .entry)) h) ⌝ }
+{
+    let kind = record::kind(records, h);
+    if kind == 1 {
+        return true;
+    }
+    if kind == 5 {
+        return true;
+    }
+    if kind == 9 {
+        return true;
+    }
+    kind == 13
+}
+
 // "held heads have neighbours 0".
 fn is_alone(records: &[u8], h: usize) -> bool
     requires { ⌜ h < pagesIn (now records) ⌝ }
@@ -100,22 +120,26 @@ fn scan(records: &[u8], from: usize, base: usize, past: usize) -> Scanned
     let mut kernel: usize = 0;
     let mut at = base;
     while at < past {
-        let pages = head_pages(records, from, base, past, at);
-        if pages == 0 {
-            return torn_scan();
-        }
-        let marks = record::marks(records, at);
-        if record::is_allocated(marks) {
-            if !is_alone(records, at) {
+        if is_free_page(records, at) {
+            at += 1;
+        } else {
+            let pages = head_pages(records, from, base, past, at);
+            if pages == 0 {
                 return torn_scan();
             }
-            if record::is_kernel(marks) {
-                kernel += pages;
-            } else {
-                page += pages;
+            let marks = record::marks(records, at);
+            if record::is_allocated(marks) {
+                if !is_alone(records, at) {
+                    return torn_scan();
+                }
+                if record::is_kernel(marks) {
+                    kernel += pages;
+                } else {
+                    page += pages;
+                }
             }
+            at += pages;
         }
-        at += pages;
     }
     Scanned {
         ok: true,
@@ -126,10 +150,20 @@ fn scan(records: &[u8], from: usize, base: usize, past: usize) -> Scanned
 
 // ---- the lists
 
-// Whether the number `at` names an unheld frame of the region and the list `k`.
-fn is_on(records: &[u8], base: usize, past: usize, k: usize, at: u32) -> bool
-    requires { ⌜ past ≤ pagesIn (now records) ⌝ }
-    ensures { λ r. ⌜ r ≡ onAt (recordAt (now (records .entry))) base past k at ⌝ }
+// The marks and the level, as one number, of the unheld frames on the list `k`, but for KERNEL.
+fn list_kind(k: usize) -> u64
+    requires { ⌜ k < 6 ⌝ }
+    ensures { λ r. ⌜ r ≡ kindOn k ⌝ }
+{
+    let level = (k / 2) as u64;
+    let zeroed = (k % 2) as u64;
+    1 + 4 * zeroed + 4294967296 * level
+}
+
+// Whether the number `at` names an unheld frame of the region, whose marks and level are `kind`, with KERNEL or without.
+fn is_on(records: &[u8], base: usize, past: usize, kind: u64, at: u32) -> bool
+    requires { ⌜ (past ≤ pagesIn (now records)) × (kind < 2 ^ 63) ⌝ }
+    ensures { λ r. ⌜ r ≡ onKind (recordAt (now (records .entry))) base past kind at ⌝ }
 {
     let number = at as usize;
     if number <= base {
@@ -138,53 +172,54 @@ fn is_on(records: &[u8], base: usize, past: usize, k: usize, at: u32) -> bool
     if past < number {
         return false;
     }
-    let page = number - 1;
-    let marks = record::marks(records, page);
-    if marks % 8 != record::free_marks(k % 2 == 1, false) {
-        return false;
+    let found = record::kind(records, number - 1);
+    if found == kind {
+        return true;
     }
-    let level = record::level(records, page);
-    (level as usize) == k / 2
+    found == kind + 8
 }
 
 // Whether it names such a frame, whose earlier neighbour is `prev`.
-fn is_node(records: &[u8], base: usize, past: usize, k: usize, prev: u32, at: u32) -> bool
-    requires { ⌜ past ≤ pagesIn (now records) ⌝ }
-    ensures { λ r. ⌜ r ≡ nodeAt (recordAt (now (records .entry))) base past k prev at ⌝ }
+fn is_node(records: &[u8], base: usize, past: usize, kind: u64, prev: u32, at: u32) -> bool
+    requires { ⌜ (past ≤ pagesIn (now records)) × (kind < 2 ^ 63) ⌝ }
+    ensures { λ r. ⌜ r ≡ (onKind (recordAt (now (records .entry))) base past kind at && eqb (recordAt (now (records .entry)) (at - 1) .earlier) prev) ⌝ }
 {
-    if is_on(records, base, past, k, at) {
+    if is_on(records, base, past, kind, at) {
         return record::earlier(records, at as usize - 1) == prev;
     }
     false
 }
 
 // Whether it names such a frame, whose later neighbour is `next`.
-fn is_back_node(records: &[u8], base: usize, past: usize, k: usize, at: u32, next: u32) -> bool
-    requires { ⌜ past ≤ pagesIn (now records) ⌝ }
-    ensures { λ r. ⌜ r ≡ backNodeAt (recordAt (now (records .entry))) base past k at next ⌝ }
+fn is_back_node(records: &[u8], base: usize, past: usize, kind: u64, at: u32, next: u32) -> bool
+    requires { ⌜ (past ≤ pagesIn (now records)) × (kind < 2 ^ 63) ⌝ }
+    ensures { λ r. ⌜ r ≡ (onKind (recordAt (now (records .entry))) base past kind at && eqb (recordAt (now (records .entry)) (at - 1) .later) next) ⌝ }
 {
-    if is_on(records, base, past, k, at) {
+    if is_on(records, base, past, kind, at) {
         return record::later(records, at as usize - 1) == next;
     }
     false
 }
 
 // "each list walks front to back in its count, both ways, over unheld frames of its region, level and mark". From both ends at once: where the nodes are
-// scattered, each step waits for memory, and the two chains of steps wait side by side.
+// scattered, each step waits for memory, and the two chains of steps wait side by side. It comes after the scan: as no page then has a mark bit but those
+// named, marks and level are compared as one number.
 fn walk(records: &[u8], base: usize, past: usize, k: usize, links: Links) -> bool
-    requires { ⌜ past ≤ pagesIn (now records) ⌝ }
+    requires { ⌜ (past ≤ pagesIn (now records)) × (k < 6) ⌝ }
+    requires { ⌜ Marked (recordAt (now records)) base past ⌝ }
     ensures { λ r. ⌜ r ≡ walksAt (recordAt (now (records .entry))) base past k (links .count) 0 (links .front) (links .back) ⌝ }
 {
+    let kind = list_kind(k);
     let mut prev: u32 = 0;
     let mut at = links.front;
     let mut next: u32 = 0;
     let mut last = links.back;
     let mut left = links.count;
     while 2 <= left {
-        if !is_node(records, base, past, k, prev, at) {
+        if !is_node(records, base, past, kind, prev, at) {
             return false;
         }
-        if !is_back_node(records, base, past, k, last, next) {
+        if !is_back_node(records, base, past, kind, last, next) {
             return false;
         }
         prev = at;
@@ -194,7 +229,7 @@ fn walk(records: &[u8], base: usize, past: usize, k: usize, links: Links) -> boo
         left -= 2;
     }
     if left == 1 {
-        if !is_node(records, base, past, k, prev, at) {
+        if !is_node(records, base, past, kind, prev, at) {
             return false;
         }
         prev = at;
@@ -206,15 +241,31 @@ fn walk(records: &[u8], base: usize, past: usize, k: usize, links: Links) -> boo
     prev == last
 }
 
+// The same, where an empty list, as most are, is told by its numbers alone.
+fn is_list(records: &[u8], base: usize, past: usize, k: usize, links: Links) -> bool
+    requires { ⌜ (past ≤ pagesIn (now records)) × (k < 6) ⌝ }
+    requires { ⌜ Marked (recordAt (now records)) base past ⌝ }
+    ensures { λ r. ⌜ r ≡ walksAt (recordAt (now (records .entry))) base past k (links .count) 0 (links .front) (links .back) ⌝ }
+{
+    if links.count != 0 {
+        return walk(records, base, past, k, links);
+    }
+    if links.front != 0 {
+        return false;
+    }
+    links.back == 0
+}
+
 // Whether all six lists walk.
 fn all_walk(records: &[u8], base: usize, past: usize, row: Row) -> bool
     requires { ⌜ past ≤ pagesIn (now records) ⌝ }
+    requires { ⌜ Marked (recordAt (now records)) base past ⌝ }
     ensures { λ r. ⌜ r ≡ all (listAt (recordAt (now (records .entry))) base past (row .lists)) (range 0 6) ⌝ }
 {
     let lists = row.lists;
     let mut k: usize = 0;
     while k < 6 {
-        if walk(records, base, past, k, lists[k]) {
+        if is_list(records, base, past, k, lists[k]) {
             k += 1;
         } else {
             return false;

@@ -4,18 +4,33 @@ use Prim.Native.Nat.{ℕ, suc, _+_, _-_, _*_, _≤_, _<_}
 use mathlib.Core.List.{List, [], _++_, append-assoc, append-nil}
 use mathlib.Core.Path.{_≡_, refl, sym, ap, _∙_}
 use native.Mathlib.Omega.{arith}
-use lib.ListN.{length, take, drop, take-append-drop, drop-of-length-le}
+use lib.ListN.{length, take, drop, replicate, take-append-drop, drop-of-length-le}
 use lib.Seq.{length-take-le}
 use Rattle.definition.specs.Board.{standard}
 use Rattle.definition.specs.Script.{RunningOn, TurnOn, header, lineOn, lines, linesOn, partsBy, readLine, room, runOn, startedOn, worldAfter}
 use Rattle.definition.specs.Text.{bytesOf}
 use Rattle.definition.specs.World.{World}
+use Rattle.exam.specs.Promise.{stateWith}
 use Rattle.lines.specs.Reading.{NextLine}
 use Rattle.text.specs.Writing.{Wrote}
 use Rattle.theorems.proofs.Scripts.{script-printed}
 use Rattle.script.specs.declared.Running.{Running}
 use Rattle.script.specs.declared.Turn.{Turn}
-use Rattle.script.specs.Running.{Bounded, Fresh, Loans, Ran, RanAll, Stands, Turns, leftBy, printed, unbooted, worldBy}
+use Rattle.script.specs.Running.{
+  Bounded,
+  Fresh,
+  Loans,
+  Ran,
+  RanAll,
+  Stands,
+  Turns,
+  leftBy,
+  printed,
+  runningWith,
+  turnWith,
+  unbooted,
+  worldBy,
+}
 use Rattle.script.proofs.Writing.{wrote-drop, wrote-long, wrote-take}
 
 -- ---- lines
@@ -43,8 +58,9 @@ pub record Same (l l′ : Loans) : Type 0 where
   pub queue : length (l′ .queue) ≡ length (l .queue)
 
 pub record Going
-    (script : List ℕ) (l₀ : Loans) (out₀ : List ℕ) (w₀ : ℕ) (l : Loans) (out : List ℕ) (w : ℕ) (r : Running) (at : ℕ)
+    (script : List ℕ) (l₀ : Loans) (out₀ : List ℕ) (w₀ : ℕ) (ws : List ℕ) (l : Loans) (out : List ℕ) (w : ℕ) (r : Running) (at : ℕ)
     : Type 0 where
+  pub words : length ws ≡ 92
   pub loans : Same l₀ l
   pub within : at ≤ length script
   pub few : r .count ≤ at
@@ -52,19 +68,21 @@ pub record Going
   pub up : w₀ ≤ w
   pub space : w + 512 * length (lines (drop at script)) ≤ length out
   pub run : RunningOn
-  pub stands : Stands r l run
+  pub stands : Stands (runningWith r ws) l run
   pub text : take w out ++ onwards run script at .text ≡ header ++ runOn standard (worldBy unbooted l₀) script .text
   pub ends : onwards run script at .running ≡ runOn standard (worldBy unbooted l₀) script .running
   pub rest : (n : ℕ) → w ≤ n → n ≤ length out → drop n out ≡ drop n out₀
 
 -- behind the header
-pub going : {script : List ℕ} {l : Loans} {out out₀ : List ℕ} {w : ℕ} {r : Running} → Wrote out 0 header out₀ w → room script ≤ length out → Fresh r
-    → Going script l out₀ w l out₀ w r 0
+pub going : {script ws : List ℕ} {l : Loans} {out out₀ : List ℕ} {w : ℕ} {r : Running} → ws ≡ replicate 92 0 → Wrote out 0 header out₀ w
+    → room script ≤ length out → Fresh (runningWith r (replicate 92 0))
+    → Going script l out₀ w ws l out₀ w r 0
 unfolding bytesOf
-going {script} {l} {out} {out₀} {w} {r} f h F =
+going {script} {ws} {l} {out} {out₀} {w} {r} z f h F =
     let a : w ≡ 25 = f .after in
     let n : length out₀ ≡ length out = wrote-long f (omega arith) in
     record {
+      words = ap length z;
       loans = record { records = refl; memory = refl; queue = refl };
       within = omega arith;
       few = omega (arith, F .count);
@@ -73,7 +91,7 @@ going {script} {l} {out} {out₀} {w} {r} f h F =
       space = omega arith;
       run = startedOn (worldBy unbooted l);
       stands = record {
-        world = ap (λ s. worldBy s l) (sym (F .state));
+        world = ap (λ s. worldBy s l) (sym (F .state)) ∙ ap (λ (vs : List ℕ). worldBy (stateWith (r .counters) vs) l) (sym z);
         booted = sym (F .booted);
         long = sym (F .count);
         front = rw (F .count) refl;
@@ -84,12 +102,12 @@ going {script} {l} {out} {out₀} {w} {r} f h F =
     }
 
 -- over one line
-pub going-on : {script : List ℕ} {l₀ l l′ : Loans} {out₀ out out′ : List ℕ} {w₀ w at end next : ℕ} {r : Running} {t : Turn}
-    → Going script l₀ out₀ w₀ l out w r at → NextLine script at end next → Turns r l (take (end - at) (drop at script)) out w l′ out′ t → Bounded r w t
-    → Same l l′
-    → Going script l₀ out₀ w₀ l′ out′ (t .at) (t .running) next
+pub going-on : {script ws vs : List ℕ} {l₀ l l′ : Loans} {out₀ out out′ : List ℕ} {w₀ w at end next : ℕ} {r : Running} (t : Turn)
+    → Going script l₀ out₀ w₀ ws l out w r at → NextLine script at end next
+    → Turns (runningWith r ws) l (take (end - at) (drop at script)) out w l′ out′ (turnWith t vs) → Bounded r w t → length vs ≡ length ws → Same l l′
+    → Going script l₀ out₀ w₀ vs l′ out′ (t .at) (t .running) next
 unfolding linesOn
-going-on {script} {l₀} {l} {l′} {out₀} {out} {out′} {w₀} {w} {at} {end} {next} {r} {t} g n f b z =
+going-on {script} {ws} {vs} {l₀} {l} {l′} {out₀} {out} {out′} {w₀} {w} {at} {end} {next} {r} t g n f b k z =
     let q : length (lines (drop at script)) ≡ length (lines (drop next script)) + 1 = one-less n in
     let x = g .run in
     let T = f x (g .stands) in
@@ -99,6 +117,7 @@ going-on {script} {l₀} {l} {l′} {out₀} {out} {out′} {w₀} {w} {at} {end
     let e : onwards x script at ≡ record { running = onwards (o .running) script next .running; text = o .text ++ onwards (o .running) script next .text }
     = ap (λ (ls : List (List ℕ)). linesOn standard x ls) (n .first) in
     record {
+      words = k ∙ g .words;
       loans = record {
         records = z .records ∙ g .loans .records;
         memory = z .memory ∙ g .loans .memory;
@@ -117,21 +136,21 @@ going-on {script} {l₀} {l} {l′} {out₀} {out} {out′} {w₀} {w} {at} {end
           ∙ ap (λ (y : TurnOn). take w out ++ y .text) (sym e)
           ∙ g .text;
       ends = ap (λ (y : TurnOn). y .running) (sym e) ∙ g .ends;
-      rest = λ k u v. wrote-drop (T .wrote) inside k u (omega arith) ∙ g .rest k (omega (arith, T .wrote .after)) (omega arith);
+      rest = λ i u v. wrote-drop (T .wrote) inside i u (omega arith) ∙ g .rest i (omega (arith, T .wrote .after)) (omega arith);
     }
 
 -- behind the last line, over a slice that the header was written to first
-pub gone : {script : List ℕ} {l₀ l : Loans} {first out₀ out : List ℕ} {w₀ w at : ℕ} {r : Running} → Wrote first 0 header out₀ w₀
-    → room script ≤ length first → length script ≤ at → Going script l₀ out₀ w₀ l out w r at → RanAll script l₀ first l out w
+pub gone : {script ws : List ℕ} {l₀ l : Loans} {first out₀ out : List ℕ} {w₀ w at : ℕ} {r : Running} → Wrote first 0 header out₀ w₀
+    → room script ≤ length first → length script ≤ at → Going script l₀ out₀ w₀ ws l out w r at → RanAll script l₀ first l out w
 unfolding bytesOf linesOn worldAfter
-gone {script} {l₀} {l} {first} {out₀} {out} {w₀} {w} {at} {r} f h e g =
+gone {script} {ws} {l₀} {l} {first} {out₀} {out} {w₀} {w} {at} {r} f h e g =
     let a : w₀ ≡ 25 = f .after in
     let n : length out₀ ≡ length first = wrote-long f (omega arith) in
     let o : onwards (g .run) script at ≡ record { running = g .run; text = [] }
     = ap (λ (ls : List (List ℕ)). linesOn standard (g .run) ls) (lines-none script at e) in
     let t : take w out ≡ printed l₀ script
     = sym (append-nil (take w out)) ∙ ap (λ (y : TurnOn). take w out ++ y .text) (sym o) ∙ g .text ∙ script-printed (worldBy unbooted l₀) script in
-    let v : worldBy (r .state) l ≡ leftBy l₀ script
+    let v : worldBy (stateWith (r .counters) ws) l ≡ leftBy l₀ script
     = sym (g .stands .world) ∙ ap (λ (y : TurnOn). y .running .world) (sym o) ∙ ap (λ (y : RunningOn). y .world) (g .ends) in
     let d : drop w out ≡ drop w first
     = g .rest w (omega arith) (omega (arith, g .space)) ∙ wrote-drop f (omega arith) w (g .up) (omega (arith, g .space, g .long)) in

@@ -20,17 +20,14 @@ use Rattle.boot.specs.Booting.{Boots, BootsAll}
 use Rattle.counts.specs.declared.Report.{Report}
 use Rattle.counts.specs.Counting.{Reports}
 use Rattle.exam.specs.declared.Answer.{Answer}
-use Rattle.exam.specs.declared.State.{State}
-use Rattle.exam.specs.Promise.{Leaves}
+use Rattle.exam.specs.Promise.{State, Leaves}
 use Rattle.lines.specs.declared.Ask.{Ask as Op}
 use Rattle.lines.specs.declared.Line.{Line}
 use Rattle.lines.specs.declared.Op.{Op as OpOf}
 use Rattle.lines.specs.Reading.{Reads, asksIf, callOf, commandOf, nameOf, numbersOf}
 use Rattle.text.specs.Writing.{Wrote}
 use Rattle.text.proofs.Writing.{wrote-as}
-use Rattle.script.specs.declared.Running.{Running}
-use Rattle.script.specs.declared.Turn.{Turn}
-use Rattle.script.specs.Running.{Bad, Does, Enters, Loans, Stands, Turned, Turns, worldBy}
+use Rattle.script.specs.Running.{Running, Turn, Bad, Does, Enters, Loans, Stands, Turned, Turns, worldBy}
 use Rattle.script.proofs.Answers.{accepted, boot-line, call-line, stats-tells}
 use Rattle.script.proofs.Writing.{wrote-nothing}
 

@@ -1,7 +1,7 @@
 -- What the run of a script keeps between lines, and what it promises: `Stands`, that this is definition's `RunningOn`; `Turns`, of one line; `Ran`, of a whole
 -- script: the bytes that it writes and all that it leaves in the loans.
 use Prim.Native.Nat.{ℕ, _+_, _≤_, _<_}
-use mathlib.Core.Bool.{false}
+use mathlib.Core.Bool.{Bool, false}
 use mathlib.Core.List.{List, [], _∷_, _++_}
 use mathlib.Core.Path.{_≡_}
 use lib.ListN.{length, take, drop, replicate}
@@ -24,12 +24,11 @@ use Rattle.definition.specs.Script.{
 }
 use Rattle.definition.specs.Text.{bytesOf}
 use Rattle.definition.specs.World.{World, noRow}
-use Rattle.exam.specs.declared.State.{State}
-use Rattle.exam.specs.Promise.{worldOf}
+use Rattle.exam.specs.Promise.{State, stateWith, worldOf}
 use Rattle.text.specs.Writing.{Wrote}
 use Rattle.script.specs.declared.Name.{Name}
-use Rattle.script.specs.declared.Running.{Running}
-use Rattle.script.specs.declared.Turn.{Turn}
+use Rattle.script.specs.declared.Running.{Running as RunningOf}
+use Rattle.script.specs.declared.Turn.{Turn as TurnOf}
 
 -- the bytes of a name stand in front
 pub record Names (name : List ℕ) (r : Name) : Type 0 where
@@ -47,6 +46,25 @@ abbrev pub worldBy : State → Loans → World
 worldBy s l = worldOf s (l .records) (l .memory) (l .queue)
 
 -- ---- what is kept
+
+-- what is kept from line to line: the first eight entries of the map and how many were read, whether a boot was accepted, and the store's state
+pub record Running : Type 0 where
+  pub map : List MemoryRegion
+  pub count : ℕ
+  pub booted : Bool
+  pub state : State
+
+-- what is kept after a line, and the place behind its text
+pub record Turn : Type 0 where
+  pub running : Running
+  pub at : ℕ
+
+-- the state has the counters that are kept, and the words
+abbrev pub runningWith : RunningOf → List ℕ → Running
+runningWith r ws = record { map = r .map; count = r .count; booted = r .booted; state = stateWith (r .counters) ws }
+
+abbrev pub turnWith : TurnOf → List ℕ → Turn
+turnWith t ws = record { running = runningWith (t .running) ws; at = t .at }
 
 -- what is kept, with the loans, is the run's; of the map the first eight entries and their number
 pub record Stands (r : Running) (l : Loans) (x : RunningOn) : Type 0 where
@@ -73,12 +91,15 @@ pub record Turned (t : TurnOn) (out : List ℕ) (at : ℕ) (l′ : Loans) (out�
   pub wrote : Wrote out at (t .text) out′ (r .at)
 
 -- a text of at most 512 bytes, and at most one entry more
-abbrev pub Bounded : Running → ℕ → Turn → Type 0
+abbrev pub Bounded : RunningOf → ℕ → TurnOf → Type 0
 Bounded r at t = (t .at ≤ at + 512) × (t .running .count ≤ r .count + 1)
 
 -- `bad,17,0,0`, whatever the loans
 abbrev pub Bad : Running → List ℕ → ℕ → List ℕ → Turn → Type 0
 Bad r out at out′ t = (l : Loans) (x : RunningOn) → Stands r l x → Turned (badOn x) out at l out′ t
+
+abbrev pub BadAny : RunningOf → List ℕ → ℕ → List ℕ → TurnOf → Type 0
+BadAny r out at out′ t = (ws : List ℕ) → Bad (runningWith r ws) out at out′ (turnWith t ws)
 
 -- a command under its name
 abbrev pub Does : Command → List ℕ → Running → Loans → List ℕ → ℕ → Loans → List ℕ → Turn → Type 0
@@ -96,6 +117,9 @@ Enters map n m map′ =
 
 abbrev pub Adds : Running → (ℕ → ℕ) → List ℕ → ℕ → List ℕ → Turn → Type 0
 Adds r n out at out′ t = (l : Loans) → Does (AddRegion (entryOf n)) (bytesOf "region") r l out at l out′ t
+
+abbrev pub AddsAny : RunningOf → (ℕ → ℕ) → List ℕ → ℕ → List ℕ → TurnOf → Type 0
+AddsAny r n out at out′ t = (ws : List ℕ) → Adds (runningWith r ws) n out at out′ (turnWith t ws)
 
 abbrev pub Turns : Running → Loans → (line out : List ℕ) → ℕ → Loans → List ℕ → Turn → Type 0
 Turns r l line out at l′ out′ t = (x : RunningOn) → Stands r l x → Turned (lineOn standard x (readLine line)) out at l′ out′ t

@@ -2,24 +2,20 @@
 // Rust, and the program `jilakkor` calls it.
 use address::PhysAddr;
 use definition::Counters;
-use definition::Links;
 use definition::MemoryRegion;
 use definition::MemoryRegionKind;
-use definition::Pass;
-use definition::Row;
 use exam::Answer;
-use exam::State;
 use lines::Ask;
 use lines::Op;
 ghost use mathlib.Core.Path.{_≡_};
 ghost use Prim.Native.Nat.{_+_, _≤_, _<_, _^_};
-ghost use lib.ListN.{length, getD};
+ghost use lib.ListN.{length, getD, replicate};
+ghost use Rattle.definition.specs.Boot.{countersAtBoot};
 ghost use Rattle.definition.specs.Calls.{Stats};
 ghost use Rattle.definition.specs.Script.{BootNow, Ask as Asks, lineOf, room};
-ghost use Rattle.exam.specs.Promise.{worldOf};
 ghost use Rattle.text.specs.Writing.{Wrote};
 ghost use Rattle.lines.specs.Reading.{askName, nameOf, callOf};
-ghost use Rattle.script.specs.Running.{Names, unbooted as «unbooted_def», Fresh, Bounded, Bad, Enters, Adds, Does, Turns, RanAll, Ran};
+ghost use Rattle.script.specs.Running.{Names, Fresh, Bounded, BadAny, Enters, AddsAny, Does, Turns, RanAll, Ran, runningWith, turnWith};
 
 // ---- what is printed
 
@@ -86,12 +82,13 @@ fn put_line(out: &mut [u8], at: usize, op: Op, y: Answer) -> usize
 
 // ---- what is kept
 
-// What is kept from line to line beside the loans: the first eight entries of the map and how many were read, whether a boot was accepted, and the store's state.
+// What is kept from line to line beside the loans and the words: the first eight entries of the map and how many were read, whether a boot was accepted, and the
+// store's counters.
 pub struct Running {
     pub map: [MemoryRegion; 8],
     pub count: usize,
     pub booted: bool,
-    pub state: State,
+    pub counters: Counters,
 }
 
 // What is kept after a line, and the place behind its text.
@@ -100,23 +97,11 @@ pub struct Turn {
     pub at: usize,
 }
 
-// The state before a boot: no region, and all counters 0.
-fn unbooted() -> State
-    ensures { λ r. ⌜ r ≡ «unbooted_def» ⌝ }
+// The counters before a boot.
+fn unbooted() -> Counters
+    ensures { λ r. ⌜ r ≡ countersAtBoot 0 ⌝ }
 {
-    let none = Links {
-        front: 0,
-        back: 0,
-        count: 0,
-    };
-    let lists = [none; 6];
-    let unused = Row {
-        start: PhysAddr(0),
-        pages: 0,
-        lists,
-    };
-    let rows = [unused; 8];
-    let counters = Counters {
+    Counters {
         kernel_used: 0,
         page_data: 0,
         idle: 0,
@@ -126,22 +111,12 @@ fn unbooted() -> State
         reclaimed: 0,
         waiting: 0,
         pager_outstanding: 0,
-    };
-    let pass = Pass {
-        rounds: 0,
-        freed: 0,
-    };
-    State {
-        rows,
-        counters,
-        queued: 0,
-        pass,
     }
 }
 
-// What is kept before the first line.
+// What is kept before the first line, where the words are zeros.
 fn fresh() -> Running
-    ensures { λ r. ⌜ Fresh r ⌝ }
+    ensures { λ r. ⌜ Fresh (runningWith r (replicate 92 0)) ⌝ }
 {
     let unused = MemoryRegion {
         start: PhysAddr(0),
@@ -149,12 +124,11 @@ fn fresh() -> Running
         kind: MemoryRegionKind::Reserved,
     };
     let map = [unused; 8];
-    let state = unbooted();
     Running {
         map,
         count: 0,
         booted: false,
-        state,
+        counters: unbooted(),
     }
 }
 
@@ -163,7 +137,7 @@ fn fresh() -> Running
 // A line that can't be read, or that may not come now: `bad,17,0,0`.
 fn bad(running: Running, answer: &mut [u8], at: usize) -> Turn
     requires { ⌜ at + 512 ≤ length (now answer) ⌝ }
-    ensures { λ r. ⌜ Bad running (now (answer .entry)) at (now (answer .exit)) r ⌝ }
+    ensures { λ r. ⌜ BadAny running (now (answer .entry)) at (now (answer .exit)) r ⌝ }
     ensures { λ r. ⌜ Bounded running at r ⌝ }
 {
     let next = put_line(answer, at, Op::Bad, exam::refused(17));
@@ -184,7 +158,7 @@ fn entered(map: [MemoryRegion; 8], count: usize, entry: MemoryRegion) -> [Memory
 // An entry more of the map, which prints nothing.
 fn region(running: Running, n: [u64; 5], answer: &mut [u8], at: usize) -> Turn
     requires { ⌜ (at + 512 ≤ length (now answer)) × (running .count + 1 < 2 ^ 64) ⌝ }
-    ensures { λ r. ⌜ Adds running (λ i. getD n i 0) (now (answer .entry)) at (now (answer .exit)) r ⌝ }
+    ensures { λ r. ⌜ AddsAny running (λ i. getD n i 0) (now (answer .entry)) at (now (answer .exit)) r ⌝ }
     ensures { λ r. ⌜ Bounded running at r ⌝ }
 {
     if running.booted {
@@ -198,26 +172,28 @@ fn region(running: Running, n: [u64; 5], answer: &mut [u8], at: usize) -> Turn
     let count = running.count;
     let first = running.map;
     let map = entered(first, count, entry);
-    let state = running.state;
+    let counters = running.counters;
     let next = Running {
         map,
         count: count + 1,
         booted: running.booted,
-        state,
+        counters,
     };
     Turn { running: next, at }
 }
 
 fn boot_now(
     running: Running,
+    words: &mut [u64],
     records: &mut [u8],
     memory: &[u8],
     queue: &[u64],
     answer: &mut [u8],
     at: usize,
 ) -> Turn
+    requires { ⌜ 92 ≤ length (now words) ⌝ }
     requires { ⌜ at + 512 ≤ length (now answer) ⌝ }
-    ensures { λ r. ⌜ Does BootNow (nameOf (Op.Boot)) running (record { records = now (records .entry); memory = now (memory .entry); queue = now (queue .entry) }) (now (answer .entry)) at (record { records = now (records .exit); memory = now (memory .entry); queue = now (queue .entry) }) (now (answer .exit)) r ⌝ }
+    ensures { λ r. ⌜ Does BootNow (nameOf (Op.Boot)) (runningWith running (now (words .entry))) (record { records = now (records .entry); memory = now (memory .entry); queue = now (queue .entry) }) (now (answer .entry)) at (record { records = now (records .exit); memory = now (memory .entry); queue = now (queue .entry) }) (now (answer .exit)) (turnWith r (now (words .exit))) ⌝ }
     ensures { λ r. ⌜ Bounded running at r ⌝ }
 {
     if running.booted {
@@ -225,15 +201,15 @@ fn boot_now(
     }
     let map = running.map;
     let count = running.count;
-    let o = boot::boot(running.state, map, count, records, memory, queue);
+    let o = boot::boot(running.counters, words, map, count, records, memory, queue);
     let y = o.answer;
     let at = put_line(answer, at, Op::Boot, y);
-    let state = o.state;
+    let counters = o.counters;
     let next = Running {
         map,
         count,
         booted: y.number == 0,
-        state,
+        counters,
     };
     Turn { running: next, at }
 }
@@ -241,20 +217,22 @@ fn boot_now(
 // The statistics answer by a text, of at most 368 bytes.
 fn stats_now(
     running: Running,
+    words: &[u64],
     records: &[u8],
     memory: &[u8],
     queue: &[u64],
     answer: &mut [u8],
     at: usize,
 ) -> Turn
+    requires { ⌜ 92 ≤ length (now words) ⌝ }
     requires { ⌜ at + 512 ≤ length (now answer) ⌝ }
-    ensures { λ r. ⌜ Does (Asks Stats) (nameOf (Op.Stats)) running (record { records = now (records .entry); memory = now (memory .entry); queue = now (queue .entry) }) (now (answer .entry)) at (record { records = now (records .entry); memory = now (memory .entry); queue = now (queue .entry) }) (now (answer .exit)) r ⌝ }
+    ensures { λ r. ⌜ Does (Asks Stats) (nameOf (Op.Stats)) (runningWith running (now (words .entry))) (record { records = now (records .entry); memory = now (memory .entry); queue = now (queue .entry) }) (now (answer .entry)) at (record { records = now (records .entry); memory = now (memory .entry); queue = now (queue .entry) }) (now (answer .exit)) (turnWith r (now (words .entry))) ⌝ }
     ensures { λ r. ⌜ Bounded running at r ⌝ }
 {
     if !running.booted {
         return bad(running, answer, at);
     }
-    let report = counts::stats(running.state, records, memory, queue);
+    let report = counts::stats(running.counters, words, records, memory, queue);
     if report.number != 0 {
         let at = put_line(answer, at, Op::Stats, exam::refused(report.number));
         return Turn { running, at };
@@ -269,29 +247,31 @@ fn call_now(
     running: Running,
     op: Ask,
     n: [u64; 5],
+    words: &mut [u64],
     records: &mut [u8],
     memory: &mut [u8],
     queue: &mut [u64],
     answer: &mut [u8],
     at: usize,
 ) -> Turn
+    requires { ⌜ 92 ≤ length (now words) ⌝ }
     requires { ⌜ at + 512 ≤ length (now answer) ⌝ }
-    ensures { λ r. ⌜ Does (Asks (callOf op (λ i. getD n i 0))) (askName op) running (record { records = now (records .entry); memory = now (memory .entry); queue = now (queue .entry) }) (now (answer .entry)) at (record { records = now (records .exit); memory = now (memory .exit); queue = now (queue .exit) }) (now (answer .exit)) r ⌝ }
+    ensures { λ r. ⌜ Does (Asks (callOf op (λ i. getD n i 0))) (askName op) (runningWith running (now (words .entry))) (record { records = now (records .entry); memory = now (memory .entry); queue = now (queue .entry) }) (now (answer .entry)) at (record { records = now (records .exit); memory = now (memory .exit); queue = now (queue .exit) }) (now (answer .exit)) (turnWith r (now (words .exit))) ⌝ }
     ensures { λ r. ⌜ Bounded running at r ⌝ }
 {
     if !running.booted {
         return bad(running, answer, at);
     }
-    let o = calls::ask(running.state, records, memory, queue, op, n);
+    let o = calls::ask(running.counters, words, records, memory, queue, op, n);
     let y = o.answer;
     let at = put_line(answer, at, Op::Call(op), y);
     let map = running.map;
-    let state = o.state;
+    let counters = o.counters;
     let next = Running {
         map,
         count: running.count,
         booted: true,
-        state,
+        counters,
     };
     Turn { running: next, at }
 }
@@ -300,14 +280,16 @@ fn call_now(
 fn take_turn(
     line: &[u8],
     running: Running,
+    words: &mut [u64],
     records: &mut [u8],
     memory: &mut [u8],
     queue: &mut [u64],
     answer: &mut [u8],
     at: usize,
 ) -> Turn
+    requires { ⌜ 92 ≤ length (now words) ⌝ }
     requires { ⌜ (at + 512 ≤ length (now answer)) × (running .count + 1 < 2 ^ 64) ⌝ }
-    ensures { λ r. ⌜ Turns running (record { records = now (records .entry); memory = now (memory .entry); queue = now (queue .entry) }) (now (line .entry)) (now (answer .entry)) at (record { records = now (records .exit); memory = now (memory .exit); queue = now (queue .exit) }) (now (answer .exit)) r ⌝ }
+    ensures { λ r. ⌜ Turns (runningWith running (now (words .entry))) (record { records = now (records .entry); memory = now (memory .entry); queue = now (queue .entry) }) (now (line .entry)) (now (answer .entry)) at (record { records = now (records .exit); memory = now (memory .exit); queue = now (queue .exit) }) (now (answer .exit)) (turnWith r (now (words .exit))) ⌝ }
     ensures { λ r. ⌜ Bounded running at r ⌝ }
 {
     let read = lines::read_line(line);
@@ -316,20 +298,22 @@ fn take_turn(
     match op {
         Op::Bad => bad(running, answer, at),
         Op::Region => region(running, n, answer, at),
-        Op::Boot => boot_now(running, records, memory, queue, answer, at),
-        Op::Stats => stats_now(running, records, memory, queue, answer, at),
-        Op::Call(a) => call_now(running, a, n, records, memory, queue, answer, at),
+        Op::Boot => boot_now(running, words, records, memory, queue, answer, at),
+        Op::Stats => stats_now(running, words, records, memory, queue, answer, at),
+        Op::Call(a) => call_now(running, a, n, words, records, memory, queue, answer, at),
     }
 }
 
-// The lines, one after the other, behind the header.
+// The lines, one after the other, behind the header, from words that are zeros.
 fn run_all(
     script: &[u8],
+    words: &mut [u64],
     records: &mut [u8],
     memory: &mut [u8],
     queue: &mut [u64],
     answer: &mut [u8],
 ) -> usize
+    requires { ⌜ now words ≡ replicate 92 0 ⌝ }
     requires { ⌜ room (now script) ≤ length (now answer) ⌝ }
     ensures { λ r. ⌜ RanAll (now (script .entry)) (record { records = now (records .entry); memory = now (memory .entry); queue = now (queue .entry) }) (now (answer .entry)) (record { records = now (records .exit); memory = now (memory .exit); queue = now (queue .exit) }) (now (answer .exit)) r ⌝ }
 {
@@ -339,7 +323,16 @@ fn run_all(
     while at < script.len() {
         let cursor = lines::next_line(script, at);
         let end = cursor.end;
-        let t = take_turn(&script[at..end], running, records, memory, queue, answer, w);
+        let t = take_turn(
+            &script[at..end],
+            running,
+            words,
+            records,
+            memory,
+            queue,
+            answer,
+            w,
+        );
         running = t.running;
         w = t.at;
         at = cursor.next;
@@ -364,5 +357,6 @@ pub extern "C" fn jilakkor_run(
     if (answer.len() - 512) / 512 < lines::count_lines(script) {
         return 0;
     }
-    run_all(script, records, memory, queue, answer)
+    let mut words = [0u64; 92];
+    run_all(script, &mut words, records, memory, queue, answer)
 }

@@ -5,7 +5,7 @@ use mathlib.Core.List.{List, [], _∷_}
 use mathlib.Core.Option.{Option, none, some}
 use mathlib.Core.Path.{_≡_, refl, sym, ap, _∙_}
 use native.Mathlib.Omega.{arith}
-use borrow.Author.Tests.{leb-true, le-leb, lt-leb, eq-eqb, ne-eqb, eqb-true}
+use borrow.Author.Tests.{leb-true, le-leb, lt-leb, eq-eqb, eqb-true, eqb-false}
 use lib.Dec.{eqb, leb}
 use lib.ListN.{length, take, length-take}
 use Rattle.definition.specs.declared.Counters.{Counters}
@@ -20,13 +20,12 @@ use Rattle.definition.specs.World.{World, decode}
 use Rattle.definition.specs.Torn.{bootCall, booted as bootedWorld, call, sound, untouched, unlessRefused as unlessBootRefused, written as writtenWorld}
 use Rattle.definition.proofs.Tests.{and-left, and-right}
 use Rattle.record.specs.Records.{withBytes}
-use Rattle.words.specs.Words.{wordIn, isKept, rowsIn, queuedIn, passIn, countersIn, counterWords}
-use Rattle.words.proofs.Words.{kept-again, counters-again}
+use Rattle.words.specs.Words.{Beside, wordIn, isKept, countersIn, counterWords}
+use Rattle.words.proofs.Words.{beside-same, kept-again, kept-from, counters-again}
 use Rattle.world.specs.Refusals.{numberIf}
 use Rattle.exam.specs.declared.Answer.{Answer}
-use Rattle.exam.specs.declared.State.{State}
-use Rattle.exam.specs.Promise.{worldOf, Leaves, told}
-use Rattle.boot.specs.Booting.{Boots as BootsOf}
+use Rattle.exam.specs.Promise.{stateWith, worldOf, Leaves, told}
+use Rattle.boot.specs.Booting.{Boots as BootsOf, BootsOver}
 use Rattle.copies.specs.declared.Place.{Place}
 use Rattle.copies.specs.Copies.{Finds}
 use Rattle.counts.specs.declared.Report.{Report}
@@ -76,11 +75,14 @@ module _ (l : Lent) (e : isLentKept l ≡ true) where
   pub lent-room : 2 ≤ length (l .answer)
   lent-room = leb-true 2 (length (l .answer)) (and-right (isKept (l .words)) (hasRoom l) e)
 
+  pub lent-version : wordIn (l .words) 0 ≡ 1
+  lent-version =
+      let ws = l .words in
+      eqb-true (wordIn ws 0) 1 (and-right (leb 92 (length ws)) (eqb (wordIn ws 0) 1) (and-left (isKept ws) (hasRoom l) e))
+
   -- what is read out of the words and written over them again is the words
   pub kept-same : (k : Counters) → keptOver (worldWith k l) (l .words) ≡ l .words
-  kept-same k =
-      let ws = l .words in
-      kept-again ws lent-words (eqb-true (wordIn ws 0) 1 (and-right (leb 92 (length ws)) (eqb (wordIn ws 0) 1) (and-left (isKept ws) (hasRoom l) e)))
+  kept-same k = kept-again (l .words) lent-words lent-version
 
 module _ (l : Lent) (e : isLent l ≡ true) where
   pub lent-long : 101 ≤ length (l .words)
@@ -100,28 +102,16 @@ module _ (c : Call) (l : Lent) where
   unfolding servedWith
   serves-with-torn k e = rw e refl
 
--- ---- a call that is made: the state that it leaves is written over the words, and its answer over the answer
+-- ---- a call that is made: it leaves words that stand beside those that it was given, so that they are these with its state written over them
 
-abbrev pub stateWith : Counters → List ℕ → State
-stateWith k ws = record { rows = rowsIn ws; counters = k; queued = queuedIn ws; pass = passIn ws }
-
-module _ {c : Call} (l : Lent) (k : Counters) {given left : State} {records memory queue : List ℕ} {y : Answer}
-    (L : Leaves (worldOf given (l .records) (l .memory) (l .queue)) c (worldOf left records memory queue) y)
-    {answer : List ℕ} {r : ℕ} (told-answer : answer ≡ tells y (l .answer)) (told-number : r ≡ y .number)
-    (e : isLentKept l ≡ true) (g : given ≡ stateWith k (l .words)) where
-  pub serves-with : {words : List ℕ} → words ≡ keptOver (worldOf left [] [] []) (l .words)
-      → ServesWith c k l (left .counters) (record { words = words; records = records; memory = memory; queue = queue; answer = answer }) r
+module _ {c : Call} (l : Lent) (k : Counters) {k′ : Counters} {words records memory queue : List ℕ} {y : Answer}
+    (L : Leaves (worldWith k l) c (worldOf (stateWith k′ words) records memory queue) y)
+    {answer : List ℕ} {r : ℕ} (told-answer : answer ≡ tells y (l .answer)) (told-number : r ≡ y .number) (e : isLentKept l ≡ true) where
+  pub serves-with : length words ≡ length (l .words) → Beside (l .words) words
+      → ServesWith c k l k′ (record { words = words; records = records; memory = memory; queue = queue; answer = answer }) r
   unfolding servedWith
-  serves-with p =
-      let K : Leaves (worldWith k l) c (worldOf left records memory queue) y = rw g at L in
-      rw (e, K .world, K .answer, p, told-answer, told-number) refl
-
-  -- where the state stays, the words do
-  pub serves-kept : left ≡ given
-      → ServesWith c k l k (record { words = l .words; records = records; memory = memory; queue = queue; answer = answer }) r
-  serves-kept s =
-      let f : left ≡ stateWith k (l .words) = s ∙ g in
-      rw (ap (λ (x : State). x .counters) f) at (serves-with {words = l .words} (rw f (sym (kept-same l e k))))
+  serves-with n b =
+      rw (e, L .world, L .answer, kept-from (l .words) words (lent-words l e) n (lent-version l e) b, told-answer, told-number) refl
 
 -- ---- the words with the counters: these are read out of the words and written over them
 
@@ -181,15 +171,11 @@ module _ (a off len : ℕ) (l : Lent) where
         bytes = λ z. absurd (omega arith);
       }
 
-  module _ (k : Counters) {given : State} {p : Place} (F : Finds (worldOf given (l .records) (l .memory) (l .queue)) (Read a off len) len p)
-      (e : isLentKept l ≡ true) (g : given ≡ stateWith k (l .words))
+  module _ (k : Counters) {p : Place} (F : Finds (worldWith k l) (Read a off len) len p) (e : isLentKept l ≡ true)
       {answer : List ℕ} {r : ℕ} (told-answer : answer ≡ tells (record { number = p .number; address = p .at; bytes = len }) (l .answer)) (number : r ≡ p .number) where
-    found : Finds (worldWith k l) (Read a off len) len p
-    found = rw g at F
-
     read-number : r ≡ servedWith (Read a off len) k l .served .number
     unfolding servedWith
-    read-number = rw e (number ∙ found .numbers .number ∙ answer-number (call standard (worldWith k l) (Read a off len) .answer))
+    read-number = rw e (number ∙ F .numbers .number ∙ answer-number (call standard (worldWith k l) (Read a off len) .answer))
 
     placed : r ≡ 0 → wordIn answer 0 ≡ p .at
     unfolding tells withBytes
@@ -208,7 +194,7 @@ module _ (a off len : ℕ) (l : Lent) where
           memory = refl;
           queue = refl;
           answer = answered;
-          bytes = λ z. rw (placed z) (found .bytes (sym number ∙ z));
+          bytes = λ z. rw (placed z) (F .bytes (sym number ∙ z));
         }
 
   pub places-in-words : isLent l ≡ true → {l′ : Lent} {r : ℕ} → PlacesWith a off len (countersIn (l .words)) l l′ r → Places a off len l l′ r
@@ -247,17 +233,16 @@ module _ {O : Type 0} (fit : Bool) (w : World) {made refused : O} (text : List �
   reports-torn e m = record { loans = rw m (cond-same (leb 368 (length text)) refused); report = rw (e, and-false (leb 368 (length text))) refl }
 
 module _ (l : Lent) (text : List ℕ) where
-  pub reports : (k : Counters) {given : State} {p : Report} → ReportsOf (worldOf given (l .records) (l .memory) (l .queue)) p
+  pub reports : (k : Counters) {p : Report} → ReportsOf (worldWith k l) p
       → {answer text′ : List ℕ} {r : ℕ} → answer ≡ tells (record { number = p .number; address = 0; bytes = p .len }) (l .answer) → r ≡ p .number
-      → 368 ≤ length text → isLentKept l ≡ true → given ≡ stateWith k (l .words)
+      → 368 ≤ length text → isLentKept l ≡ true
       → text′ ≡ withBytes text 0 (take (p .len) (p .text))
       → ReportsWith k l text k (record { words = l .words; records = l .records; memory = l .memory; queue = l .queue; answer = answer }) text′ r
-  reports k {given} {p} R a b h e g t =
+  reports k R a b h e t =
       let n = le-leb 368 (length text) h in
-      let K : ReportsOf (worldWith k l) p = rw g at R in
       record {
-        loans = rw n (serves-kept l k (record { world = R .world; answer = R .answer }) a b e g refl);
-        report = rw (n, e) (t ∙ ap (withBytes text 0) (K .text));
+        loans = rw n (serves-with l k (record { world = R .world; answer = R .answer }) a b e refl beside-same);
+        report = rw (n, e) (t ∙ ap (withBytes text 0) (R .text));
       }
 
   pub reports-in-words : {records memory queue answer text′ : List ℕ} {r : ℕ} → isLent l ≡ true
@@ -303,25 +288,27 @@ module _ (ms : List MemoryRegion) (l : Lent) where
   unfolding bootedWith
   boots-with-short k e n = rw (e, n) refl
 
-  module _ (k : Counters) {given left : State} {records : List ℕ} {y : Answer} (e : isRoomyKept l ≡ true) (g : given ≡ stateWith k (l .words))
-      (B : BootsOf ms (worldOf given (l .records) (l .memory) (l .queue)) (worldOf left records (l .memory) (l .queue)) y) where
-    made : BootsOf ms (worldWith k l) (worldOf left records (l .memory) (l .queue)) y
-    made = rw g at B
+  -- one that is made: refused it leaves all loans as they were, accepted it has written them
+  module _ (k : Counters) {k′ : Counters} {words records : List ℕ} {y : Answer} (e : isRoomyKept l ≡ true)
+      (B : BootsOf ms (worldWith k l) (worldOf (stateWith k′ words) records (l .memory) (l .queue)) y) (O : BootsOver (l .words) words y)
+      {answer : List ℕ} {r : ℕ} (told-answer : answer ≡ tells y (l .answer)) (told-number : r ≡ y .number) where
+    same-world : eqb (y .number) 0 ≡ false → worldOf (stateWith k′ words) records (l .memory) (l .queue) ≡ worldWith k l
+    same-world f =
+        sym (B .world)
+        ∙ boot-leaves ms (worldWith k l) (λ z. eqb-false (y .number) 0 f (sym (ap (λ (x : Answer). x .number) (B .answer)) ∙ z))
 
-    same-records : (y .number ≡ 0 → ⊥) → records ≡ l .records
-    same-records d =
-        sym (ap (λ (w : World). w .records) (made .world))
-        ∙ ap (λ (w : World). w .records) (boot-leaves ms (worldWith k l) (λ z. d (sym (ap (λ (x : Answer). x .number) (made .answer)) ∙ z)))
+    abbrev pub bootLeaves : Counted
+    bootLeaves = record { counters = k′; served = refusedAs (record { words = words; records = records; memory = l .memory; queue = l .queue; answer = answer }) r }
 
-    pub boots-refused : (y .number ≡ 0 → ⊥)
-        → bootedWith ms k l ≡ stays k (record { words = l .words; records = records; memory = l .memory; queue = l .queue; answer = l .answer }) (y .number)
-    unfolding bootedWith
-    boots-refused d = rw (e, made .answer, ne-eqb (y .number) 0 d, same-records d) refl
-
-    pub boots : y .number ≡ 0 → {words answer : List ℕ} {r : ℕ} → words ≡ keptOver (worldOf left [] [] []) (l .words) → answer ≡ tells y (l .answer) → r ≡ y .number
-        → bootedWith ms k l ≡ record { counters = left .counters; served = refusedAs (record { words = words; records = records; memory = l .memory; queue = l .queue; answer = answer }) r }
-    unfolding bootedWith
-    boots z p q n = rw (e, made .answer, eq-eqb (y .number) 0 z, made .world, p, q, n) refl
+    pub boots : bootedWith ms k l ≡ bootLeaves
+    unfolding bootedWith tells
+    boots = go (eqb (y .number) 0) refl
+      where
+        go : (t : Bool) → eqb (y .number) 0 ≡ t → bootedWith ms k l ≡ bootLeaves
+        go true f = rw (told-answer, told-number, e, B .answer, f, B .world, ← O .written f) refl
+        go false f =
+            let w = same-world f in
+            rw (told-answer, told-number, e, B .answer, f, O .refused f, ap (λ (v : World). v .records) w, ap (λ (v : World). v .counters) w) refl
 
   -- the words with the counters, whether they have room or not
   pub boot-in-words : 101 ≤ length (l .words) → booted ms l ≡ wordsFrom (bootedWith ms (countersIn (l .words)) l)

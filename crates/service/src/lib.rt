@@ -1,11 +1,10 @@
-// The calls over lent words, for a kernel to make: the state is read out of the words, the call is made, and what it leaves is written back. The answer's two
+// The calls over lent words, for a kernel to make: the words are tested for their number and version, and the call is made on them where they stand. The answer's two
 // numbers go to a lent slice, and the refusal's number, 0 where the call was accepted, is returned. Every promise is `served` or `booted` of specs/Serving.antt.
 // What ends in `_with` takes the counters apart from the words; beside it stands the same over words that have them, which are read out and written back.
 use address::PhysAddr;
 use definition::Counters;
 use definition::MemoryRegion;
 use exam::Answer;
-use exam::State;
 use lines::Ask;
 ghost use mathlib.Core.List.{[]};
 ghost use mathlib.Core.Path.{_≡_};
@@ -13,14 +12,11 @@ ghost use Prim.Native.Nat.{_≤_};
 ghost use lib.ListN.{length, getD};
 ghost use Rattle.definition.specs.Calls.{Write};
 ghost use Rattle.lines.specs.Reading.{callOf};
-ghost use Rattle.words.specs.Words.{rowsIn, queuedIn, passIn};
-ghost use Rattle.exam.specs.Promise.{worldOf};
 ghost use Rattle.service.specs.Serving.{
   tells,
   isLent,
   isLentKept,
   isRoomyKept,
-  keptOver,
   Serves,
   ServesWith,
   Reports,
@@ -51,29 +47,6 @@ fn is_lent(words: &[u64], answer: &[u64]) -> bool
         return false;
     }
     is_lent_kept(words, answer)
-}
-
-pub fn state_with(words: &[u64], counters: Counters) -> State
-    requires { ⌜ 92 ≤ length (now words) ⌝ }
-    ensures { λ r. ⌜ r ≡ record { rows = rowsIn (now (words .entry)); counters = counters; queued = queuedIn (now (words .entry)); pass = passIn (now (words .entry)) } ⌝ }
-{
-    let rows = words::rows_in(words);
-    let pass = words::pass_in(words);
-    State {
-        rows,
-        counters,
-        queued: words::queued_in(words),
-        pass,
-    }
-}
-
-pub fn put_kept(words: &mut [u64], state: State)
-    requires { ⌜ 92 ≤ length (now words) ⌝ }
-    ensures { λ _. ⌜ now (words .exit) ≡ keptOver (worldOf state [] [] []) (now (words .entry)) ⌝ }
-{
-    let rows = state.rows;
-    let pass = state.pass;
-    words::put_kept(words, rows, state.queued, pass);
 }
 
 // ---- the answer
@@ -117,10 +90,8 @@ pub fn serve_with(
             number: 6,
         };
     }
-    let o = calls::ask(state_with(words, counters), records, memory, queue, op, n);
-    let next = o.state;
-    put_kept(words, next);
-    let left = next.counters;
+    let o = calls::ask(counters, words, records, memory, queue, op, n);
+    let left = o.counters;
     let number = tell(answer, o.answer);
     Counted {
         counters: left,
@@ -167,8 +138,7 @@ pub fn serve_write_with(
     if !is_lent_kept(words, answer) {
         return 6;
     }
-    let state = state_with(words, counters);
-    let y = ranges::write(state, records, memory, queue, pa, offset, bytes);
+    let y = ranges::write(counters, words, records, memory, queue, pa, offset, bytes);
     tell(answer, y)
 }
 
@@ -218,8 +188,7 @@ pub fn serve_read_with(
     if !is_lent_kept(words, answer) {
         return 6;
     }
-    let state = state_with(words, counters);
-    let place = copies::read_place(state, records, memory, queue, pa, offset, len);
+    let place = copies::read_place(counters, words, records, memory, queue, pa, offset, len);
     tell(
         answer,
         Answer {
@@ -277,8 +246,7 @@ pub fn serve_stats_with(
     if !is_lent_kept(words, answer) {
         return 6;
     }
-    let state = state_with(words, counters);
-    let report = counts::stats(state, records, memory, queue);
+    let report = counts::stats(counters, words, records, memory, queue);
     let told = report.text;
     let len = report.len;
     text::put_text(text, 0, &told[..len]);
@@ -348,19 +316,9 @@ pub fn serve_boot_with(
         let number = short_boot(map, count, records.len(), memory.len());
         return Counted { counters, number };
     }
-    let state = state_with(words, counters);
-    let o = boot::boot(state, map, count, records, memory, queue);
-    let y = o.answer;
-    if y.number != 0 {
-        return Counted {
-            counters,
-            number: y.number,
-        };
-    }
-    let next = o.state;
-    put_kept(words, next);
-    let fresh = next.counters;
-    let number = tell(answer, y);
+    let o = boot::boot(counters, words, map, count, records, memory, queue);
+    let fresh = o.counters;
+    let number = tell(answer, o.answer);
     Counted {
         counters: fresh,
         number,

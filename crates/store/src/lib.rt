@@ -64,11 +64,8 @@ pub extern "C" fn jilakkor_audit(
     if !words::is_kept(words) {
         return 6;
     }
-    let rows = words::rows_in(words);
     let counters = words::counters_in(words);
-    let queued = words::queued_in(words);
-    let pass = words::pass_in(words);
-    if audit::audit(rows, counters, queued, pass, records, memory_len, queue_len) {
+    if audit::audit(counters, words, records, memory_len, queue_len) {
         0
     } else {
         6

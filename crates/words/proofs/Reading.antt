@@ -70,10 +70,10 @@ row-again ws at = simp halves
 
 module _ (a b : Links) (rest : List ℕ) (p : NarrowLinks a) (q : NarrowLinks b) where
   first-read : firstIn (pairWords a b ++ rest) 0 ≡ a
-  first-read = rw (low (a .front) (a .back) (p .front), high (a .front) (a .back) (p .front), low (a .count) (b .front) (p .count)) refl
+  first-read = rw (low (a .front) (a .back) (p .front), high (a .front) (a .back) (p .front), low (a .count) (b .count) (p .count)) refl
 
   second-read : secondIn (pairWords a b ++ rest) 0 ≡ b
-  second-read = rw (high (a .count) (b .front) (p .count), low (b .back) (b .count) (q .back), high (b .back) (b .count) (q .back)) refl
+  second-read = rw (low (b .front) (b .back) (q .front), high (b .front) (b .back) (q .front), high (a .count) (b .count) (p .count)) refl
 
 pub row-read : (row : Row) (rest : List ℕ) → NarrowRow row → rowIn (rowWords row ++ rest) 0 ≡ row
 unfolding rowIn rowWords
@@ -113,7 +113,7 @@ row-same ws vs at bt h =
 
 -- ---- the rows
 
-pub rows-same : (ws vs : List ℕ) (i n : ℕ) → i + n ≤ 8 → ((k : ℕ) → k < 92 → wordIn ws k ≡ wordIn vs k) → rowsFrom ws i n ≡ rowsFrom vs i n
+pub rows-same : (ws vs : List ℕ) (i n : ℕ) → i + n ≤ 8 → ((k : ℕ) → k < 89 → wordIn ws k ≡ wordIn vs k) → rowsFrom ws i n ≡ rowsFrom vs i n
 unfolding rowsFrom
 rows-same ws vs i zero h e = refl
 rows-same ws vs i (suc n) h e =

@@ -1,4 +1,5 @@
--- Laws of the words: how many there are; that what was read and is written again leaves them as they were; and that what was written is read.
+-- Laws of the words: how many there are; that what stays through each of two changes stays through both; that what was read and is written again leaves them
+-- as they were; and that what was written is read.
 use Prim.Native.Nat.{ℕ, suc, _+_, _≤_, _<_}
 use mathlib.Core.List.{List, [], _∷_, _++_, append-assoc}
 use mathlib.Core.Path.{_≡_, refl, ap, _∙_}
@@ -13,9 +14,10 @@ use Rattle.definition.specs.declared.Row.{Row}
 use Rattle.definition.specs.World.{noRow}
 use Rattle.record.specs.Records.{withBytes}
 use Rattle.record.proofs.Bytes.{with-length, with-in, with-out}
-use Rattle.words.specs.Words.{Narrow, NarrowRow, wordIn, rowsIn, rowsFrom, queuedIn, passIn, countersIn, isKept, rowsWords, keptOf, counterWords}
+use Rattle.words.specs.Words.{Beside, RowsBeside, Narrow, NarrowRow, wordIn, rowsIn, rowsFrom, queuedIn, passIn, countersIn, isKept, rowsWords, keptOf, counterWords}
 use Rattle.words.proofs.Reading.{run, run-taken, row-again, rows-same, rows-read}
 use Rattle.words.proofs.Rows.{length-rows-words}
+use Rattle.words.proofs.Places.{length-rows}
 
 -- ---- lengths
 
@@ -27,6 +29,25 @@ length-kept rows queued pass e =
 pub length-counters : (c : Counters) → length (counterWords c) ≡ 9
 unfolding counterWords
 length-counters c = refl
+
+-- ---- what stays, of changes one after another
+
+pub beside-same : {ws : List ℕ} → Beside ws ws
+beside-same = record { version = refl; behind = refl }
+
+pub beside-then : {ws vs us : List ℕ} → Beside ws vs → Beside vs us → Beside ws us
+beside-then b d = record { version = d .version ∙ b .version; behind = d .behind ∙ b .behind }
+
+pub rows-beside-same : {ws : List ℕ} → RowsBeside ws ws
+rows-beside-same = record { beside = beside-same; queued = refl; pass = refl }
+
+pub rows-beside-then : {ws vs us : List ℕ} → RowsBeside ws vs → RowsBeside vs us → RowsBeside ws us
+rows-beside-then b d =
+    record {
+      beside = beside-then (b .beside) (d .beside);
+      queued = d .queued ∙ b .queued;
+      pass = d .pass ∙ b .pass;
+    }
 
 -- ---- read and written again
 
@@ -42,6 +63,19 @@ kept-run ws e = rw (e, row-again ws 1, row-again ws 12, row-again ws 23, row-aga
 
 pub kept-again : (ws : List ℕ) → 92 ≤ length ws → wordIn ws 0 ≡ 1 → withBytes ws 0 (keptOf (rowsIn ws) (queuedIn ws) (passIn ws)) ≡ ws
 kept-again ws h e = rw (kept-run ws e) (again ws 0 92 h)
+
+-- 92 words take the place of 92
+kept-same : (ws vs xs : List ℕ) → length xs ≡ 92 → Beside ws vs → withBytes ws 0 xs ≡ withBytes vs 0 xs
+unfolding withBytes
+kept-same ws vs xs n b = rw (n, b .behind) refl
+
+-- what is kept of the words vs, written over words that they stand beside
+pub kept-from : (ws vs : List ℕ) → 92 ≤ length ws → length vs ≡ length ws → wordIn ws 0 ≡ 1 → Beside ws vs
+    → withBytes ws 0 (keptOf (rowsIn vs) (queuedIn vs) (passIn vs)) ≡ vs
+kept-from ws vs h l e b =
+    let v : wordIn vs 0 ≡ 1 = b .version ∙ e in
+    kept-same ws vs (keptOf (rowsIn vs) (queuedIn vs) (passIn vs)) (length-kept (rowsIn vs) (queuedIn vs) (passIn vs) (length-rows vs 0 8)) b
+    ∙ kept-again vs (omega arith) v
 
 pub counters-again : (ws : List ℕ) → 101 ≤ length ws → withBytes ws 92 (counterWords (countersIn ws)) ≡ ws
 unfolding countersIn counterWords
@@ -122,7 +156,7 @@ module _ (ws : List ℕ) (c : Counters) (h : 101 ≤ length ws) where
   same k l = with-out ws 92 (counterWords c) (omega (arith, length-counters c)) k (λ a b. omega arith)
 
   pub rows-kept : rowsIn (withBytes ws 92 (counterWords c)) ≡ rowsIn ws
-  rows-kept = rows-same (withBytes ws 92 (counterWords c)) ws 0 8 (omega arith) same
+  rows-kept = rows-same (withBytes ws 92 (counterWords c)) ws 0 8 (omega arith) (λ k l. same k (omega arith))
 
   pub queued-kept : queuedIn (withBytes ws 92 (counterWords c)) ≡ queuedIn ws
   queued-kept = same 89 (omega arith)

@@ -1,12 +1,12 @@
 -- The state of a store as 101 words of 64 bits, in which a kernel lends it. In this order: the version of this layout; the eight rows, eleven words each; how
 -- many places of the queue are taken; the pass's rounds and freed; and, from the word 92 on, the nine counters. A row is its start, its pages, and its six lists
--- as eighteen 32-bit numbers, front, back and count of each, two to a word, the first in the low half: on a little-endian machine a plain struct.
+-- as eighteen 32-bit numbers, two to a word, the first in the low half: of each level the dirty list's front and back, the zeroed list's, and the two counts.
 use Prim.Native.Nat.{ℕ, zero, suc, _+_, _*_, _/_, _%_, _<_}
 use mathlib.Core.Bool.{Bool, _&&_}
 use mathlib.Core.List.{List, [], _∷_, _++_}
 use mathlib.Core.Path.{_≡_}
 use lib.Dec.{eqb, leb}
-use lib.ListN.{getD, length}
+use lib.ListN.{getD, length, drop}
 use Rattle.definition.specs.declared.Links.{Links}
 use Rattle.definition.specs.declared.Row.{Row}
 use Rattle.definition.specs.declared.Counters.{Counters}
@@ -35,14 +35,14 @@ lowHalf w = w % 4294967296
 abbrev pub highHalf : ℕ → ℕ
 highHalf w = w / 4294967296
 
--- two lists stand in three words
+-- two lists stand in three words: the ends of the one, those of the other, and both counts
 abbrev pub firstIn : List ℕ → ℕ → Links
 firstIn ws at =
-    record { front = lowHalf (wordIn ws at); back = highHalf (wordIn ws at); count = lowHalf (wordIn ws (at + 1)) }
+    record { front = lowHalf (wordIn ws at); back = highHalf (wordIn ws at); count = lowHalf (wordIn ws (at + 2)) }
 
 abbrev pub secondIn : List ℕ → ℕ → Links
 secondIn ws at =
-    record { front = highHalf (wordIn ws (at + 1)); back = lowHalf (wordIn ws (at + 2)); count = highHalf (wordIn ws (at + 2)) }
+    record { front = lowHalf (wordIn ws (at + 1)); back = highHalf (wordIn ws (at + 1)); count = highHalf (wordIn ws (at + 2)) }
 
 unfoldable pub rowIn : List ℕ → ℕ → Row
 rowIn ws at =
@@ -66,6 +66,10 @@ rowsFrom ws i (suc n) = rowIn ws (1 + 11 * i) ∷ rowsFrom ws (i + 1) n
 
 abbrev pub rowsIn : List ℕ → List Row
 rowsIn ws = rowsFrom ws 0 mostRows
+
+-- a place of a list of rows
+abbrev pub rowOf : List Row → ℕ → Row
+rowOf rows i = getD rows i (record { start = record { 0 = 0 }; pages = 0; lists = [] })
 
 abbrev pub queuedIn : List ℕ → ℕ
 queuedIn ws = wordIn ws 89
@@ -97,7 +101,7 @@ abbrev pub joined : ℕ → ℕ → ℕ
 joined low high = low + 4294967296 * high
 
 abbrev pub pairWords : Links → Links → List ℕ
-pairWords a b = joined (a .front) (a .back) ∷ joined (a .count) (b .front) ∷ joined (b .back) (b .count) ∷ []
+pairWords a b = joined (a .front) (a .back) ∷ joined (b .front) (b .back) ∷ joined (a .count) (b .count) ∷ []
 
 abbrev pub listIn : Row → ℕ → Links
 listIn row k = getD (row .lists) k noLinks
@@ -127,6 +131,33 @@ counterWords c =
     ∷ c .waiting
     ∷ c .«pager_outstanding»
     ∷ []
+
+-- ---- what stays
+
+-- from the words ws on, the state's own may have changed; the version and all that stands behind them have not
+pub record Beside (ws vs : List ℕ) : Type 0 where
+  pub version : wordIn vs 0 ≡ wordIn ws 0
+  pub behind : drop keptWords vs ≡ drop keptWords ws
+
+-- nothing has changed but rows
+pub record RowsBeside (ws vs : List ℕ) : Type 0 where
+  pub beside : Beside ws vs
+  pub queued : queuedIn vs ≡ queuedIn ws
+  pub pass : passIn vs ≡ passIn ws
+
+-- nothing but the queue's count, which is n
+pub record QueuedBeside (ws : List ℕ) (n : ℕ) (vs : List ℕ) : Type 0 where
+  pub beside : Beside ws vs
+  pub rows : rowsIn vs ≡ rowsIn ws
+  pub queued : queuedIn vs ≡ n
+  pub pass : passIn vs ≡ passIn ws
+
+-- nothing but the pass, which is p
+pub record PassBeside (ws : List ℕ) (p : Pass) (vs : List ℕ) : Type 0 where
+  pub beside : Beside ws vs
+  pub rows : rowsIn vs ≡ rowsIn ws
+  pub queued : queuedIn vs ≡ queuedIn ws
+  pub pass : passIn vs ≡ p
 
 -- ---- what the words can hold
 

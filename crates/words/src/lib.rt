@@ -1,13 +1,15 @@
-// The state of a store as 101 words of 64 bits: read out of a lent slice, and written into one. Any words of the right number and version are some state; whether
-// it is a sound one is the audit's to say. What each word is stands in specs/Words.antt.
+// The state of a store as 101 words of 64 bits, in a lent slice: a row, the queue's count, the pass or the counters are read where they stand, and written there.
+// Any words of the right number and version are some state; whether it is a sound one is the audit's to say. What each word is stands in specs/Words.antt.
 use address::PhysAddr;
 use definition::Counters;
 use definition::Links;
 use definition::Pass;
 use definition::Row;
 ghost use mathlib.Core.Path.{_≡_};
-ghost use Prim.Native.Nat.{_+_, _*_, _%_, _/_, _≤_};
-ghost use lib.ListN.{length};
+ghost use Prim.Native.Nat.{_+_, _*_, _%_, _/_, _≤_, _<_};
+ghost use lib.ListN.{length, drop, set};
+ghost use Rattle.definition.specs.Basics.{all};
+ghost use Rattle.definition.specs.Torn.{isNoRow};
 ghost use Rattle.record.specs.Records.{withBytes};
 ghost use Rattle.words.specs.Words.{
   lowHalf,
@@ -15,6 +17,7 @@ ghost use Rattle.words.specs.Words.{
   firstIn,
   secondIn,
   rowIn,
+  rowOf,
   rowsIn,
   countersIn,
   queuedIn,
@@ -25,6 +28,9 @@ ghost use Rattle.words.specs.Words.{
   rowWords,
   keptOf,
   counterWords,
+  RowsBeside,
+  QueuedBeside,
+  PassBeside,
 };
 
 // ---- read
@@ -49,7 +55,7 @@ fn first_at(words: &[u64], at: usize) -> Links
     Links {
         front: low_half(words[at]),
         back: high_half(words[at]),
-        count: low_half(words[at + 1]),
+        count: low_half(words[at + 2]),
     }
 }
 
@@ -58,13 +64,14 @@ fn second_at(words: &[u64], at: usize) -> Links
     ensures { λ r. ⌜ r ≡ secondIn (now (words .entry)) at ⌝ }
 {
     Links {
-        front: high_half(words[at + 1]),
-        back: low_half(words[at + 2]),
+        front: low_half(words[at + 1]),
+        back: high_half(words[at + 1]),
         count: high_half(words[at + 2]),
     }
 }
 
-fn row_at(words: &[u64], at: usize) -> Row
+// The row whose words begin at a place.
+fn row_from(words: &[u64], at: usize) -> Row
     requires { ⌜ at + 11 ≤ length (now words) ⌝ }
     ensures { λ r. ⌜ r ≡ rowIn (now (words .entry)) at ⌝ }
 {
@@ -85,19 +92,67 @@ fn row_at(words: &[u64], at: usize) -> Row
     }
 }
 
+// The row i of the eight.
+pub fn row_at(words: &[u64], i: usize) -> Row
+    requires { ⌜ (92 ≤ length (now words)) × (i < 8) ⌝ }
+    ensures { λ r. ⌜ r ≡ rowOf (rowsIn (now (words .entry))) i ⌝ }
+{
+    row_from(words, 1 + 11 * i)
+}
+
+// How many pages the row i has: 0 where it is not in use.
+pub fn pages_at(words: &[u64], i: usize) -> usize
+    requires { ⌜ (92 ≤ length (now words)) × (i < 8) ⌝ }
+    ensures { λ r. ⌜ r ≡ rowOf (rowsIn (now (words .entry))) i .pages ⌝ }
+{
+    words[2 + 11 * i] as usize
+}
+
+// Whether eleven words are zeros, as those of an unused row are. All are looked at before any is judged, so that they are read as vectors.
+fn is_no_row(words: &[u64], at: usize) -> bool
+    requires { ⌜ at + 11 ≤ length (now words) ⌝ }
+    ensures { λ r. ⌜ r ≡ isNoRow (rowIn (now (words .entry)) at) ⌝ }
+{
+    let mut none = true;
+    let mut k: usize = 0;
+    while k < 11 {
+        if words[at + k] != 0 {
+            none = false;
+        }
+        k += 1;
+    }
+    none
+}
+
+// Whether the rows from `first` on are unused ones.
+pub fn is_no_rows(words: &[u64], first: usize) -> bool
+    requires { ⌜ (92 ≤ length (now words)) × (first ≤ 8) ⌝ }
+    ensures { λ r. ⌜ r ≡ all isNoRow (drop first (rowsIn (now (words .entry)))) ⌝ }
+{
+    let mut at = 1 + 11 * first;
+    while at < 89 {
+        if !is_no_row(words, at) {
+            return false;
+        }
+        at += 11;
+    }
+    true
+}
+
+// All eight rows, by value.
 pub fn rows_in(words: &[u64]) -> [Row; 8]
     requires { ⌜ 92 ≤ length (now words) ⌝ }
     ensures { λ r. ⌜ r ≡ rowsIn (now (words .entry)) ⌝ }
 {
     [
-        row_at(words, 1),
-        row_at(words, 12),
-        row_at(words, 23),
-        row_at(words, 34),
-        row_at(words, 45),
-        row_at(words, 56),
-        row_at(words, 67),
-        row_at(words, 78),
+        row_from(words, 1),
+        row_from(words, 12),
+        row_from(words, 23),
+        row_from(words, 34),
+        row_from(words, 45),
+        row_from(words, 56),
+        row_from(words, 67),
+        row_from(words, 78),
     ]
 }
 
@@ -158,11 +213,11 @@ fn put_pair(words: &mut [u64], at: usize, a: Links, b: Links)
     ensures { λ _. ⌜ now (words .exit) ≡ withBytes (now (words .entry)) at (pairWords a b) ⌝ }
 {
     words[at] = joined(a.front, a.back);
-    words[at + 1] = joined(a.count, b.front);
-    words[at + 2] = joined(b.back, b.count);
+    words[at + 1] = joined(b.front, b.back);
+    words[at + 2] = joined(a.count, b.count);
 }
 
-fn put_row(words: &mut [u64], at: usize, row: Row)
+fn put_row_from(words: &mut [u64], at: usize, row: Row)
     requires { ⌜ at + 11 ≤ length (now words) ⌝ }
     ensures { λ _. ⌜ now (words .exit) ≡ withBytes (now (words .entry)) at (rowWords row) ⌝ }
 {
@@ -174,6 +229,30 @@ fn put_row(words: &mut [u64], at: usize, row: Row)
     put_pair(words, at + 8, row.lists[4], row.lists[5]);
 }
 
+// The row i of the eight becomes `row`.
+pub fn put_row(words: &mut [u64], i: usize, row: Row)
+    requires { ⌜ (92 ≤ length (now words)) × (i < 8) ⌝ }
+    ensures rows { λ _. ⌜ rowsIn (now (words .exit)) ≡ set (rowsIn (now (words .entry))) i row ⌝ }
+    ensures rest { λ _. ⌜ RowsBeside (now (words .entry)) (now (words .exit)) ⌝ }
+{
+    put_row_from(words, 1 + 11 * i, row);
+}
+
+pub fn put_queued(words: &mut [u64], queued: usize)
+    requires { ⌜ 92 ≤ length (now words) ⌝ }
+    ensures { λ _. ⌜ QueuedBeside (now (words .entry)) queued (now (words .exit)) ⌝ }
+{
+    words[89] = queued as u64;
+}
+
+pub fn put_pass(words: &mut [u64], pass: Pass)
+    requires { ⌜ 92 ≤ length (now words) ⌝ }
+    ensures { λ _. ⌜ PassBeside (now (words .entry)) pass (now (words .exit)) ⌝ }
+{
+    words[90] = pass.rounds as u64;
+    words[91] = pass.freed as u64;
+}
+
 // What is kept beside the counters, with the version.
 pub fn put_kept(words: &mut [u64], rows: [Row; 8], queued: usize, pass: Pass)
     requires { ⌜ 92 ≤ length (now words) ⌝ }
@@ -183,7 +262,7 @@ pub fn put_kept(words: &mut [u64], rows: [Row; 8], queued: usize, pass: Pass)
     let mut i: usize = 0;
     while i < 8 {
         let row = rows[i];
-        put_row(words, 1 + 11 * i, row);
+        put_row_from(words, 1 + 11 * i, row);
         i += 1;
     }
     words[89] = queued as u64;

@@ -58,12 +58,14 @@ static void boot(void)
         {0, 0x100000, JILAKKOR_RESERVED},
     };
     const struct jilakkor_row *row = &store.state.rows[0];
+    const struct jilakkor_lists *small = &row->levels[0];
     memset(&store, 0xA5, sizeof store);
     memset(memory, 0xA5, sizeof memory);
     ANSWERED(jilakkor_boot(map, 2, LENT), 0, PAGES * page);
     HOLDS(store.state.version == JILAKKOR_VERSION);
     HOLDS(row->start == 0x100000 && row->pages == 16);
-    HOLDS(row->lists[0].front == 1 && row->lists[0].back == 15 && row->lists[0].count == 15);
+    HOLDS(small->ends[0].front == 1 && small->ends[0].back == 15 && small->count[0] == 15);
+    HOLDS(small->ends[1].front == 0 && small->count[1] == 0);
     HOLDS(store.state.rows[1].pages == 0 && store.state.queued == 0);
     HOLDS(store.state.counters.idle == 16 && store.state.counters.total == 16);
     HOLDS(jilakkor_audit(store.words, JILAKKOR_WORDS, records, sizeof records, sizeof memory,

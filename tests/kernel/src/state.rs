@@ -21,15 +21,17 @@ pub fn words(store: &Store) -> [u64; WORDS] {
     words
 }
 
-/// Start, pages, and the lists' eighteen numbers, two to a word.
+/// Start, pages, and of each level the ends of its two lists and their counts,
+/// two numbers to a word.
 fn row_words(region: &Region) -> [u64; ROW] {
     let mut row = [0; ROW];
     (row[0], row[1]) = (region.start, region.pages);
     let number = |frame: Option<&u64>| frame.map_or(0, |&frame| region.page(frame) + 1);
-    let lists = region.lists.iter();
-    let numbers = lists.flat_map(|list| [number(list.first()), number(list.last()), count(list)]);
-    for (place, number) in numbers.enumerate() {
-        row[2 + place / 2] |= number << (32 * (place % 2));
+    let ends = |list: &[u64]| number(list.first()) | number(list.last()) << 32;
+    for (level, lists) in region.lists.chunks_exact(2).enumerate() {
+        let words = &mut row[2 + 3 * level..][..3];
+        (words[0], words[1]) = (ends(&lists[0]), ends(&lists[1]));
+        words[2] = count(&lists[0]) | count(&lists[1]) << 32;
     }
     row
 }

@@ -165,7 +165,10 @@ impl State {
         let (rows, others) = numbers.split_at(QUEUED);
         for row in rows.chunks_exact(ROW) {
             row[..2].iter().for_each(|&number| put(number));
-            row[2..].chunks_exact(2).for_each(|pair| put(pair[0] | pair[1] << 32));
+            for lists in row[2..].chunks_exact(6) {
+                let places = [(0, 1), (3, 4), (2, 5)];
+                places.into_iter().for_each(|(a, b)| put(lists[a] | lists[b] << 32));
+            }
         }
         others.iter().for_each(|&number| put(number));
         words

@@ -6,57 +6,61 @@ use borrow.Author.Needs.{needs}
 use Rattle.definition.specs.World.{recordAt}
 use Rattle.record.specs.Records.{pagesIn}
 use Rattle.region.specs.Rep.{managed}
+use Rattle.words.specs.Words.{rowsIn}
 use Rattle.allocator.proofs.Arrays.{row-last, row-eighth}
 use Rattle.allocator.proofs.Seeing.{Looking, looking-none, Here, here, nothing-left, not-here, found-inside, found-here}
 use Rattle.allocator.proofs.see.Statement.{statement}
 use Rattle.allocator.proofs.see.Tie as tie
 
 abbrev Inv-loop : tie.InvT-loop
-Inv-loop records pa rows base₀ i₀ base i = Looking (recordAt records) (pagesIn records) rows (pa .0 / 4096) base i
+Inv-loop words records pa base₀ i₀ base i = Looking (recordAt records) (pagesIn records) (rowsIn words) (pa .0 / 4096) base i
 
 abbrev μ-loop : tie.MeasureT-loop
-μ-loop records pa rows base₀ i₀ base i = 8 - i
+μ-loop words records pa base₀ i₀ base i = 8 - i
 
 loop-holds : tie.Need-loop-holds Inv-loop μ-loop
 loop-holds c = looking-none
 
-mul-row : tie.Need-mul-row Inv-loop μ-loop
-mul-row c = search needs
-
-array-copy-out-row : tie.Need-array-copy-out-row Inv-loop μ-loop
-array-copy-out-row c = search needs
+row-at-requires : tie.Need-row-at-requires Inv-loop μ-loop
+row-at-requires c κs = search needs
 
 nothing-seen-requires : tie.Need-nothing-seen-requires Inv-loop μ-loop
 nothing-seen-requires c κs = search needs
 
 returns : tie.Need-returns Inv-loop μ-loop
 returns c =
-    let s = c .before .before .before .before .before .before .before in
-    let k = c .before .before .before .before .before .loop in
-    nothing-left (k .inv) (c .nothing-seen .result) (c .nothing-seen .ensures) (row-last (s .pre) (k .i) (k .inv .onward .used) (c .before .if1 .taken))
+    let k = c .before .before .before .before .before in
+    let s = k .before .before .before in
+    nothing-left (k .loop .inv) (c .nothing-seen .result) (c .nothing-seen .ensures)
+    (row-last (s .pre .1) (k .loop .i) (k .loop .inv .onward .used) (rw (c .before .before .before .row-at .ensures) at (c .before .if1 .taken)))
 
 -- the row of a turn
-turn : (c : tie.Else1 Inv-loop μ-loop) → let a = c .before .before .before .before .before .before .args in
-    Here (pagesIn (a .records .now)) (a .t2) (c .before .before .before .before .loop .base) (c .before .before .before .before .loop .i)
+turn
+    : (c : tie.Else1 Inv-loop μ-loop)
+    → let k = c .before .before .before .before in
+    let a = k .before .before .before .args in
+    Here (pagesIn (a .records .now)) (rowsIn (a .words .now)) (k .loop .base) (k .loop .i)
 turn c =
-    let s = c .before .before .before .before .before .before in
-    let k = c .before .before .before .before .loop in
-    here (k .inv) (s .pre) (c .before .before .before .loop-test .taken) (c .if1 .left)
+    let k = c .before .before .before .before in
+    let s = k .before .before .before in
+    here (k .loop .inv) (s .pre .1) (c .before .before .before .loop-test .taken) (rw (c .before .before .row-at .ensures) at (c .if1 .left))
 
 get-frame-requires : tie.Need-get-frame-requires Inv-loop μ-loop
-get-frame-requires c κs = let t = turn c in (t .pages, omega (arith, t .small))
+get-frame-requires c κs = let t = turn c in rw (c .before .before .row-at .ensures) (t .pages, omega (arith, t .small))
 
 enum-known-page : tie.Need-enum-known-page Inv-loop μ-loop
 enum-known-page c = search needs
 
 -- the page has a record
-inside : (c : tie.After-known-told Inv-loop μ-loop) → let s = c .before .before .before .before .before .before .before .before .before .before in
-    c .before .page .given .0 .0 < pagesIn (s .args .records .now)
+inside
+    : (c : tie.After-known-told Inv-loop μ-loop)
+    → c .before .page .given .0 .0 < pagesIn (c .before .before .before .before .before .before .before .before .before .before .before .args .records .now)
 inside c =
-    let k = c .before .before .before .before .before .before .before .before .loop in
+    let e = c .before .before .before .before in
+    let k = e .before .before .before .before .loop in
     let g = c .before .before .before .get-frame in
     let v = c .before .page .given in
-    found-inside (k .inv) (turn (c .before .before .before .before)) (g .result) (g .ensures) (v .0 .0) (v .1)
+    found-inside (k .inv) (turn e) (g .result) (rw (e .before .before .row-at .ensures) at (g .ensures)) (v .0 .0) (v .1)
 
 marks-requires : tie.Need-marks-requires Inv-loop μ-loop
 marks-requires c κs = inside c
@@ -66,23 +70,34 @@ level-requires c κs = inside (c .before)
 
 returns-2 : tie.Need-returns-2 Inv-loop μ-loop
 returns-2 c =
-    let k = c .before .before .before .before .before .before .before .before .before .before .loop in
+    let e = c .before .before .before .before .before .before in
+    let k = e .before .before .before .before .loop in
     let g = c .before .before .before .before .before .get-frame in
     let v = c .before .before .before .page .given in
-    found-here (k .inv) (turn (c .before .before .before .before .before .before)) (g .result) (g .ensures) (v .0 .0) (v .1)
+    found-here (k .inv) (turn e) (g .result) (rw (e .before .before .row-at .ensures) at (g .ensures)) (v .0 .0) (v .1)
     (c .before .marks .result) (c .level .result) (c .before .marks .ensures) (c .level .ensures)
 
 enum-told : tie.Need-enum-told Inv-loop μ-loop
 enum-told c = search needs
 
 table-pages-requires : tie.Need-table-pages-requires Inv-loop μ-loop
-table-pages-requires c κs = let t = turn (c .before .before .before) in omega (arith, t .pages)
+table-pages-requires c κs =
+    let e = c .before .before .before in
+    let t = turn e in rw (e .before .before .row-at .ensures) (omega (arith, t .pages))
 
 sub-base : tie.Need-sub-base Inv-loop μ-loop
-sub-base c = let t = turn (c .before .before .before .before .before) in omega (arith, t .tables, c .before .table-pages .ensures)
+sub-base c =
+    let e = c .before .before .before .before .before in
+    let t = turn e in
+    let p = rw (e .before .before .row-at .ensures) at (c .before .table-pages .ensures) in
+    rw (e .before .before .row-at .ensures) (omega (arith, t .tables, p))
 
 add-base : tie.Need-add-base Inv-loop μ-loop
-add-base c = let t = turn (c .before .before .before .before .before) in omega (arith, t .small, c .before .table-pages .ensures)
+add-base c =
+    let e = c .before .before .before .before .before in
+    let t = turn e in
+    let p = rw (e .before .before .row-at .ensures) at (c .before .table-pages .ensures) in
+    rw (e .before .before .row-at .ensures) (omega (arith, t .small, p))
 
 add-i : tie.Need-add-i Inv-loop μ-loop
 add-i c = search needs
@@ -93,19 +108,20 @@ loop-less c = search needs
 loop-again : tie.Need-loop-again Inv-loop μ-loop
 unfolding managed
 loop-again c =
-    let k = c .before .before .before .before .before .before .before .before .before .loop in
+    let e = c .before .before .before .before .before in
+    let k = e .before .before .before .before .loop in
     let g = c .before .before .before .before .get-frame in
-    rw (c .before .table-pages .ensures)
-    (not-here (k .inv) (turn (c .before .before .before .before .before)) (g .result) (g .ensures) (c .before .before .enum-told .given .1))
+    rw (c .before .table-pages .ensures, e .before .before .row-at .ensures)
+    (not-here (k .inv) (turn e) (g .result) (rw (e .before .before .row-at .ensures) at (g .ensures)) (c .before .before .enum-told .given .1))
 
 nothing-seen-requires-2 : tie.Need-nothing-seen-requires-2 Inv-loop μ-loop
 nothing-seen-requires-2 c κs = search needs
 
 returns-3 : tie.Need-returns-3 Inv-loop μ-loop
 returns-3 c =
-    let s = c .before .before .before .before in
-    let k = c .before .before .loop in
-    nothing-left (k .inv) (c .nothing-seen2 .result) (c .nothing-seen2 .ensures) (row-eighth (s .pre) (k .i) (c .before .loop-test .left))
+    let k = c .before .before in
+    let s = k .before .before .before in
+    nothing-left (k .loop .inv) (c .nothing-seen2 .result) (c .nothing-seen2 .ensures) (row-eighth (s .pre .1) (k .loop .i) (c .before .loop-test .left))
 
 pub see-spec : {M : Type 1} → statement M
 see-spec =
@@ -114,8 +130,7 @@ see-spec =
     Inv-loop
     μ-loop
     loop-holds
-    mul-row
-    array-copy-out-row
+    row-at-requires
     nothing-seen-requires
     returns
     get-frame-requires

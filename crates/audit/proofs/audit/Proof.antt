@@ -1,21 +1,21 @@
 -- `audit` meets its contract. Its tests together are the sheet, as `Sheets` says, and what each has passed is what the next requires.
 use Prim.Native.Nat.{_*_, _/_, _≤_}
-use mathlib.Core.Bool.{true, not, _&&_}
-use mathlib.Core.Path.{_≡_, refl, sym, _∙_}
+use mathlib.Core.Bool.{true, not}
+use mathlib.Core.Path.{_≡_, sym, _∙_}
 use native.Mathlib.Omega.{arith}
 use borrow.Author.Needs.{needs}
 use borrow.Author.Tests.{not-true, not-false}
-use lib.Dec.{leb}
 use lib.ListN.{length, drop}
 use Rattle.definition.specs.Board.{standard}
 use Rattle.definition.specs.Basics.{all}
 use Rattle.definition.specs.Allocator.{total}
 use Rattle.definition.specs.Boot.{managedPages, overlap}
 use Rattle.definition.specs.World.{recordAt, usedRows}
-use Rattle.definition.specs.Torn.{isNoRow, regionsOf, rowAsBoot, rowsAsBoot}
+use Rattle.definition.specs.Torn.{isNoRow, regionsOf}
 use Rattle.definition.proofs.Tests.{and-left, and-right}
+use Rattle.words.specs.Words.{rowsIn, queuedIn, passIn}
 use Rattle.audit.specs.Sheet.{surveyTest, Found, countsAs}
-use Rattle.audit.proofs.Arrays.{rows-shaped}
+use Rattle.audit.proofs.Arrays.{words-shaped}
 use Rattle.audit.proofs.Sheets.{
   stops,
   goes,
@@ -33,56 +33,50 @@ use Rattle.audit.proofs.audit.Tie as tie
 abbrev given : tie.Start → Given
 given s =
     record {
-      rows = s .args .rows;
+      rows = rowsIn (s .args .words .now);
       counters = s .args .counters;
-      queued = s .args .queued;
-      pass = s .args .pass;
+      queued = queuedIn (s .args .words .now);
+      pass = passIn (s .args .words .now);
       records = s .args .records .now;
       memoryLen = s .args .memory-len;
       queueLen = s .args .queue-len;
     }
-
--- what the rows' type leaves of the sheet's test of them
-shape : (s : tie.Start) → let rows = s .args .rows in
-    rowsAsBoot standard rows
-    ≡ (all isNoRow (drop (length (usedRows rows)) rows)
-    && (all (rowAsBoot standard) (usedRows rows)
-    && (not (overlap standard (regionsOf standard rows)) && leb (total (regionsOf standard rows)) 1048576)))
-shape s = rows-shaped (s .args .rows) (length (usedRows (s .args .rows))) _ refl (s .good .0)
 
 survey-requires : tie.Need-survey-requires
 survey-requires c κs = search needs
 
 returns : tie.Need-returns
 returns c =
-    let s = c .before .before .before .before in
-    torn-survey (given s) (shape s) (sym (c .before .before .survey .ensures .exact) ∙ not-true _ (c .if1 .taken))
+    let s = c .before .before .before .before .before in
+    torn-survey (given s) (words-shaped (s .args .words .now)) (sym (c .before .before .survey .ensures .exact) ∙ not-true _ (c .if1 .taken))
 
 -- the survey has passed, and found what there is
-surveyed : (c : tie.Else1) → let a = c .before .before .before .before .args in
-    surveyTest (recordAt (a .records .now)) (length (a .records .now) / 16) (a .rows) ≡ true
+surveyed : (c : tie.Else1) → let a = c .before .before .before .before .before .args in
+    surveyTest (recordAt (a .records .now)) (length (a .records .now) / 16) (rowsIn (a .words .now)) ≡ true
 surveyed c = sym (c .before .before .survey .ensures .exact) ∙ not-false _ (c .if1 .left)
 
-found : (c : tie.Else1) → let a = c .before .before .before .before .args in
-    Found (recordAt (a .records .now)) (a .rows) (c .before .before .survey .result)
+found : (c : tie.Else1) → let a = c .before .before .before .before .before .args in
+    Found (recordAt (a .records .now)) (rowsIn (a .words .now)) (c .before .before .survey .result)
 found c = c .before .before .survey .ensures .found (not-false _ (c .if1 .left))
 
 returns-2 : tie.Need-returns-2
 returns-2 c =
-    let s = c .before .before .before .before .before .before in
-    torn-total (given s) (shape s) (omega (arith, c .if2 .taken, found (c .before .before) .total))
+    let s = c .before .before .before .before .before .before .before in
+    torn-total (given s) (words-shaped (s .args .words .now)) (omega (arith, c .if2 .taken, found (c .before .before) .total))
 
 apart-requires : tie.Need-apart-requires
 apart-requires c κs =
-    let rows = c .before .before .before .before .before .before .args .rows in (
+    let s = c .before .before .before .before .before .before .before in
+    let rows = rowsIn (s .args .words .now) in (
+      s .pre,
       found (c .before .before) .used,
       and-left _ _ (and-right (all isNoRow (drop (length (usedRows rows)) rows)) _ (surveyed (c .before .before))),
     )
 
 returns-3 : tie.Need-returns-3
 returns-3 c =
-    let s = c .before .before .before .before .before .before .before .before in
-    torn-apart (given s) (shape s) (stops (c .before .apart .ensures) (c .if3 .taken))
+    let s = c .before .before .before .before .before .before .before .before .before in
+    torn-apart (given s) (words-shaped (s .args .words .now)) (stops (c .before .apart .ensures) (c .if3 .taken))
 
 mul-if4 : tie.Need-mul-if4
 mul-if4 c =
@@ -91,8 +85,8 @@ mul-if4 c =
 
 returns-4 : tie.Need-returns-4
 returns-4 c =
-    let s = c .before .before .before .before .before .before .before .before .before .before in
-    torn-memory (given s) (shape s) (omega (arith, c .if4 .taken, found (c .before .before .before .before .before .before) .manages))
+    let s = c .before .before .before .before .before .before .before .before .before .before .before in
+    torn-memory (given s) (words-shaped (s .args .words .now)) (omega (arith, c .if4 .taken, found (c .before .before .before .before .before .before) .manages))
 
 counted-requires : tie.Need-counted-requires
 counted-requires c κs =
@@ -100,8 +94,8 @@ counted-requires c κs =
     omega (arith, h .manages, h .holds)
 
 -- few pages, none shared, and memory for those managed
-passed : (c : tie.Else4) → let a = c .before .before .before .before .before .before .before .before .before .before .args in
-    let rs = regionsOf standard (a .rows) in
+passed : (c : tie.Else4) → let a = c .before .before .before .before .before .before .before .before .before .before .before .args in
+    let rs = regionsOf standard (rowsIn (a .words .now)) in
     (total rs ≤ 1048576) × (not (overlap standard rs) ≡ true) × (4096 * managedPages standard rs ≤ a .memory-len)
 passed c =
     let h = found (c .before .before .before .before .before .before) in (
@@ -114,24 +108,32 @@ returns-5 : tie.Need-returns-5
 returns-5 c =
     let d = c .before .before in
     let o = d .before .before .before .before .before .before in
-    let s = o .before .before .before .before in
+    let s = o .before .before .before .before .before in
     let p = passed d in
     let seen = o .before .before .survey .result in
     let t = stops {t = countsAs (s .args .counters) seen} (c .before .counted .ensures) (c .if5 .taken) in
-    torn-counts (given s) (shape s) (surveyed o) (p .0) (p .1) (p .2) seen (found o) t
+    torn-counts (given s) (words-shaped (s .args .words .now)) (surveyed o) (p .0) (p .1) (p .2) seen (found o) t
+
+queued-in-requires : tie.Need-queued-in-requires
+queued-in-requires c κs = search needs
+
+pass-in-requires : tie.Need-pass-in-requires
+pass-in-requires c κs = search needs
 
 within-requires : tie.Need-within-requires
 within-requires c κs = search needs
 
 returns-6 : tie.Need-returns-6
 returns-6 c =
-    let d = c .before .before .before in
+    let e = c .before .before .before in
+    let d = e .before .before in
     let o = d .before .before .before .before .before .before in
-    let s = o .before .before .before .before in
+    let s = o .before .before .before .before .before in
     let p = passed d in
     let seen = o .before .before .survey .result in
-    let t = goes {t = countsAs (s .args .counters) seen} (c .before .before .counted .ensures) (c .before .if5 .left) in
-    rest-decides (given s) (shape s) (surveyed o) (p .0) (p .1) (p .2) seen (found o) t (c .within .result) (c .within .ensures)
+    let t = goes {t = countsAs (s .args .counters) seen} (e .before .counted .ensures) (e .if5 .left) in
+    rest-decides (given s) (words-shaped (s .args .words .now)) (surveyed o) (p .0) (p .1) (p .2) seen (found o) t (c .within .result)
+    (rw (c .before .before .queued-in .ensures, c .before .pass-in .ensures) at (c .within .ensures))
 
 pub audit-spec : {M : Type 1} → statement M
 audit-spec =
@@ -146,5 +148,7 @@ audit-spec =
     returns-4
     counted-requires
     returns-5
+    queued-in-requires
+    pass-in-requires
     within-requires
     returns-6)

@@ -1,10 +1,12 @@
--- Each call promises what it leaves and answers; what is left is which op it is, and its numbers as the callee takes them.
+-- Each call promises what it leaves and answers; what is left is which op it is, and its numbers as the callee takes them. A call that only reads the words
+-- leaves all of them.
 use borrow.Author.Needs.{needs}
+use Rattle.words.proofs.Words.{beside-same}
 use Rattle.calls.proofs.ask.Statement.{statement}
 use Rattle.calls.proofs.ask.Tie as tie
 
-array-read-t11 : tie.Need-array-read-t11
-array-read-t11 c = search needs
+array-read-t12 : tie.Need-array-read-t12
+array-read-t12 c = search needs
 
 enum-told : tie.Need-enum-told
 enum-told c = search needs
@@ -165,13 +167,13 @@ same-length-2 c = search needs
 same-length-3 : tie.Need-same-length-3
 same-length-3 c = search needs
 
-returns : tie.Need-returns
-returns c =
-    let d = c .before .before .before .before in
-    rw (d .before .before .before .before .before .enum-told .given .1) (rw (d .before .flags-of .ensures) at (d .alloc .ensures))
-
 same-length-4 : tie.Need-same-length-4
 same-length-4 c = search needs
+
+returns : tie.Need-returns
+returns c =
+    let d = c .before .before .before .before .before .before in
+    (rw (d .before .before .before .before .before .before .enum-told .given .1) (rw (d .before .flags-of .ensures) at (d .alloc .ensures .0)), d .alloc .ensures .1)
 
 same-length-5 : tie.Need-same-length-5
 same-length-5 c = search needs
@@ -179,22 +181,19 @@ same-length-5 c = search needs
 same-length-6 : tie.Need-same-length-6
 same-length-6 c = search needs
 
-returns-2 : tie.Need-returns-2
-returns-2 c =
-    let d = c .before .before .before .before in
-    rw (d .before .before .before .before .before .enum-told2 .given .1) (rw (d .before .flags-of2 .ensures) at (d .take .ensures))
-
 same-length-7 : tie.Need-same-length-7
 same-length-7 c = search needs
 
 same-length-8 : tie.Need-same-length-8
 same-length-8 c = search needs
 
+returns-2 : tie.Need-returns-2
+returns-2 c =
+    let d = c .before .before .before .before .before .before in
+    (rw (d .before .before .before .before .before .before .enum-told2 .given .1) (rw (d .before .flags-of2 .ensures) at (d .take .ensures .0)), d .take .ensures .1)
+
 same-length-9 : tie.Need-same-length-9
 same-length-9 c = search needs
-
-returns-3 : tie.Need-returns-3
-returns-3 c = rw (c .before .before .before .before .before .before .before .enum-told3 .given .1, c .kept .ensures) (c .before .before .before .split .ensures)
 
 same-length-10 : tie.Need-same-length-10
 same-length-10 c = search needs
@@ -205,8 +204,10 @@ same-length-11 c = search needs
 same-length-12 : tie.Need-same-length-12
 same-length-12 c = search needs
 
-returns-4 : tie.Need-returns-4
-returns-4 c = rw (c .before .before .before .before .before .before .enum-told4 .given .1) (c .before .before .free .ensures)
+returns-3 : tie.Need-returns-3
+returns-3 c =
+    let d = c .before .before .before in
+    (rw (d .before .before .before .before .before .enum-told3 .given .1, c .kept .ensures) (d .split .ensures), beside-same)
 
 same-length-13 : tie.Need-same-length-13
 same-length-13 c = search needs
@@ -217,13 +218,13 @@ same-length-14 c = search needs
 same-length-15 : tie.Need-same-length-15
 same-length-15 c = search needs
 
-returns-5 : tie.Need-returns-5
-returns-5 c =
-    let d = c .before .before .before .before .before in
-    rw (d .before .before .before .before .enum-told5 .given .1, c .kept2 .ensures) (d .zero .ensures)
-
 same-length-16 : tie.Need-same-length-16
 same-length-16 c = search needs
+
+returns-4 : tie.Need-returns-4
+returns-4 c =
+    let d = c .before .before .before .before in
+    (rw (d .before .before .before .before .before .enum-told4 .given .1) (d .free .ensures .0), d .free .ensures .1)
 
 same-length-17 : tie.Need-same-length-17
 same-length-17 c = search needs
@@ -231,22 +232,19 @@ same-length-17 c = search needs
 same-length-18 : tie.Need-same-length-18
 same-length-18 c = search needs
 
-returns-6 : tie.Need-returns-6
-returns-6 c =
-    let d = c .before .before .before in
-    rw (d .before .before .before .before .enum-told6 .given .1, c .kept3 .ensures) (d .dirty .ensures)
-
 same-length-19 : tie.Need-same-length-19
 same-length-19 c = search needs
 
 same-length-20 : tie.Need-same-length-20
 same-length-20 c = search needs
 
+returns-5 : tie.Need-returns-5
+returns-5 c =
+    let d = c .before .before .before .before .before in
+    (rw (d .before .before .before .before .before .enum-told5 .given .1, c .kept2 .ensures) (d .zero .ensures), beside-same)
+
 same-length-21 : tie.Need-same-length-21
 same-length-21 c = search needs
-
-returns-7 : tie.Need-returns-7
-returns-7 c = rw (c .before .before .before .before .before .enum-told7 .given .1, c .kept4 .ensures) (c .before .find .ensures)
 
 same-length-22 : tie.Need-same-length-22
 same-length-22 c = search needs
@@ -257,8 +255,10 @@ same-length-23 c = search needs
 same-length-24 : tie.Need-same-length-24
 same-length-24 c = search needs
 
-returns-8 : tie.Need-returns-8
-returns-8 c = rw (c .before .before .before .before .before .before .enum-told8 .given .1) (c .before .before .queue .ensures)
+returns-6 : tie.Need-returns-6
+returns-6 c =
+    let d = c .before .before .before in
+    (rw (d .before .before .before .before .before .enum-told6 .given .1, c .kept3 .ensures) (d .dirty .ensures), beside-same)
 
 same-length-25 : tie.Need-same-length-25
 same-length-25 c = search needs
@@ -269,13 +269,13 @@ same-length-26 c = search needs
 same-length-27 : tie.Need-same-length-27
 same-length-27 c = search needs
 
-returns-9 : tie.Need-returns-9
-returns-9 c =
-    let d = c .before .before .before .before .before in
-    rw (d .before .before .before .before .enum-told9 .given .1, c .kept5 .ensures) (d .fill .ensures)
-
 same-length-28 : tie.Need-same-length-28
 same-length-28 c = search needs
+
+returns-7 : tie.Need-returns-7
+returns-7 c =
+    let d = c .before in
+    (rw (d .before .before .before .before .before .enum-told7 .given .1, c .kept4 .ensures) (d .find .ensures), beside-same)
 
 same-length-29 : tie.Need-same-length-29
 same-length-29 c = search needs
@@ -283,24 +283,19 @@ same-length-29 c = search needs
 same-length-30 : tie.Need-same-length-30
 same-length-30 c = search needs
 
-returns-10 : tie.Need-returns-10
-returns-10 c =
-    let d = c .before .before .before .before .before in
-    rw (d .before .before .before .before .enum-told10 .given .1, c .kept6 .ensures) (d .copy .ensures)
-
 same-length-31 : tie.Need-same-length-31
 same-length-31 c = search needs
 
 same-length-32 : tie.Need-same-length-32
 same-length-32 c = search needs
 
+returns-8 : tie.Need-returns-8
+returns-8 c =
+    let d = c .before .before .before .before in
+    (rw (d .before .before .before .before .before .enum-told8 .given .1) (d .queue .ensures .0), d .queue .ensures .1)
+
 same-length-33 : tie.Need-same-length-33
 same-length-33 c = search needs
-
-returns-11 : tie.Need-returns-11
-returns-11 c =
-    let d = c .before .before .before .before .before in
-    rw (d .before .before .before .before .enum-told11 .given .1, c .kept7 .ensures) (d .pcopy .ensures)
 
 same-length-34 : tie.Need-same-length-34
 same-length-34 c = search needs
@@ -311,8 +306,10 @@ same-length-35 c = search needs
 same-length-36 : tie.Need-same-length-36
 same-length-36 c = search needs
 
-returns-12 : tie.Need-returns-12
-returns-12 c = rw (c .before .before .before .before .before .before .enum-told12 .given .1) (c .before .before .round .ensures)
+returns-9 : tie.Need-returns-9
+returns-9 c =
+    let d = c .before .before .before .before .before in
+    (rw (d .before .before .before .before .before .enum-told9 .given .1, c .kept5 .ensures) (d .fill .ensures), beside-same)
 
 same-length-37 : tie.Need-same-length-37
 same-length-37 c = search needs
@@ -323,11 +320,13 @@ same-length-38 c = search needs
 same-length-39 : tie.Need-same-length-39
 same-length-39 c = search needs
 
-returns-13 : tie.Need-returns-13
-returns-13 c = rw (c .before .before .before .before .before .enum-told13 .given .1) (rw (c .before .size-of .ensures) at (c .lend .ensures))
-
 same-length-40 : tie.Need-same-length-40
 same-length-40 c = search needs
+
+returns-10 : tie.Need-returns-10
+returns-10 c =
+    let d = c .before .before .before .before .before in
+    (rw (d .before .before .before .before .before .enum-told10 .given .1, c .kept6 .ensures) (d .copy .ensures), beside-same)
 
 same-length-41 : tie.Need-same-length-41
 same-length-41 c = search needs
@@ -335,26 +334,88 @@ same-length-41 c = search needs
 same-length-42 : tie.Need-same-length-42
 same-length-42 c = search needs
 
-returns-14 : tie.Need-returns-14
-returns-14 c = rw (c .before .before .before .before .before .enum-told14 .given .1) (rw (c .before .size-of2 .ensures) at (c .back .ensures))
-
 same-length-43 : tie.Need-same-length-43
 same-length-43 c = search needs
 
 same-length-44 : tie.Need-same-length-44
 same-length-44 c = search needs
 
+returns-11 : tie.Need-returns-11
+returns-11 c =
+    let d = c .before .before .before .before .before in
+    (rw (d .before .before .before .before .before .enum-told11 .given .1, c .kept7 .ensures) (d .pcopy .ensures), beside-same)
+
 same-length-45 : tie.Need-same-length-45
 same-length-45 c = search needs
 
+same-length-46 : tie.Need-same-length-46
+same-length-46 c = search needs
+
+same-length-47 : tie.Need-same-length-47
+same-length-47 c = search needs
+
+same-length-48 : tie.Need-same-length-48
+same-length-48 c = search needs
+
+returns-12 : tie.Need-returns-12
+returns-12 c =
+    let d = c .before .before .before .before in
+    (rw (d .before .before .before .before .before .enum-told12 .given .1) (d .round .ensures .0), d .round .ensures .1)
+
+same-length-49 : tie.Need-same-length-49
+same-length-49 c = search needs
+
+same-length-50 : tie.Need-same-length-50
+same-length-50 c = search needs
+
+same-length-51 : tie.Need-same-length-51
+same-length-51 c = search needs
+
+same-length-52 : tie.Need-same-length-52
+same-length-52 c = search needs
+
+returns-13 : tie.Need-returns-13
+returns-13 c =
+    (rw (c .before .before .before .before .before .before .enum-told13 .given .1) (rw (c .before .size-of .ensures) at (c .lend .ensures)), beside-same)
+
+same-length-53 : tie.Need-same-length-53
+same-length-53 c = search needs
+
+same-length-54 : tie.Need-same-length-54
+same-length-54 c = search needs
+
+same-length-55 : tie.Need-same-length-55
+same-length-55 c = search needs
+
+same-length-56 : tie.Need-same-length-56
+same-length-56 c = search needs
+
+returns-14 : tie.Need-returns-14
+returns-14 c =
+    (rw (c .before .before .before .before .before .before .enum-told14 .given .1) (rw (c .before .size-of2 .ensures) at (c .back .ensures)), beside-same)
+
+same-length-57 : tie.Need-same-length-57
+same-length-57 c = search needs
+
+same-length-58 : tie.Need-same-length-58
+same-length-58 c = search needs
+
+same-length-59 : tie.Need-same-length-59
+same-length-59 c = search needs
+
+same-length-60 : tie.Need-same-length-60
+same-length-60 c = search needs
+
 returns-15 : tie.Need-returns-15
-returns-15 c = rw (c .before .before .before .before .before .enum-told15 .given .1, c .kept8 .ensures) (c .before .low .ensures)
+returns-15 c =
+    let d = c .before in
+    (rw (d .before .before .before .before .before .enum-told15 .given .1, c .kept8 .ensures) (d .low .ensures), beside-same)
 
 pub ask-spec : {M : Type 1} → statement M
 ask-spec =
     tie.close
     (tie.spec
-    array-read-t11
+    array-read-t12
     enum-told
     array-read-alloc
     array-read-alloc-2
@@ -408,60 +469,75 @@ ask-spec =
     same-length
     same-length-2
     same-length-3
-    returns
     same-length-4
+    returns
     same-length-5
     same-length-6
-    returns-2
     same-length-7
     same-length-8
+    returns-2
     same-length-9
-    returns-3
     same-length-10
     same-length-11
     same-length-12
-    returns-4
+    returns-3
     same-length-13
     same-length-14
     same-length-15
-    returns-5
     same-length-16
+    returns-4
     same-length-17
     same-length-18
-    returns-6
     same-length-19
     same-length-20
+    returns-5
     same-length-21
-    returns-7
     same-length-22
     same-length-23
     same-length-24
-    returns-8
+    returns-6
     same-length-25
     same-length-26
     same-length-27
-    returns-9
     same-length-28
+    returns-7
     same-length-29
     same-length-30
-    returns-10
     same-length-31
     same-length-32
+    returns-8
     same-length-33
-    returns-11
     same-length-34
     same-length-35
     same-length-36
-    returns-12
+    returns-9
     same-length-37
     same-length-38
     same-length-39
-    returns-13
     same-length-40
+    returns-10
     same-length-41
     same-length-42
-    returns-14
     same-length-43
     same-length-44
+    returns-11
     same-length-45
+    same-length-46
+    same-length-47
+    same-length-48
+    returns-12
+    same-length-49
+    same-length-50
+    same-length-51
+    same-length-52
+    returns-13
+    same-length-53
+    same-length-54
+    same-length-55
+    same-length-56
+    returns-14
+    same-length-57
+    same-length-58
+    same-length-59
+    same-length-60
     returns-15)

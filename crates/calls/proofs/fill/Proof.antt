@@ -9,8 +9,8 @@ array-read-byte-of c = search needs
 byte-of-requires : tie.Need-byte-of-requires
 byte-of-requires c κs = search needs
 
-array-read-t10 : tie.Need-array-read-t10
-array-read-t10 c = search needs
+array-read-t11 : tie.Need-array-read-t11
+array-read-t11 c = search needs
 
 array-read-fill : tie.Need-array-read-fill
 array-read-fill c = search needs
@@ -36,7 +36,7 @@ fill-spec =
     (tie.spec
     array-read-byte-of
     byte-of-requires
-    array-read-t10
+    array-read-t11
     array-read-fill
     array-read-fill-2
     fill-requires

@@ -8,20 +8,22 @@ use Rattle.definition.specs.Calls.{Call, Copy}
 use Rattle.definition.specs.World.{World}
 use Rattle.definition.specs.Torn.{sound}
 use Rattle.audit.proofs.Sheets.{sound-is}
-use Rattle.world.proofs.Leaving.{sound-sane}
-use Rattle.exam.specs.Promise.{Examined, worldOf}
+use Rattle.exam.specs.Promise.{Examined, stateWith, worldOf}
 use Rattle.exam.proofs.Promises.{Small, leaves-torn}
-use Rattle.copies.proofs.Copying.{copy-done, copy-refused, looked, lower-none, spans-of}
+use Rattle.copies.proofs.Copying.{copy-done, copy-refused, looked, lower-none, sane-with, spans-of}
 use Rattle.copies.proofs.copy.Statement.{statement}
 use Rattle.copies.proofs.copy.Tie as tie
 
 -- ---- the world that was given, and the call
 
+abbrev start : tie.After-is-sound → tie.Start
+start c = c .before .before .before .before .before .before
+
 abbrev world : tie.After-is-sound → World
-world c = let a = c .before .before .before .before .before .args in worldOf (a .state) (a .records .now) (a .memory .now) (a .queue .now)
+world c = let a = start c .args in worldOf (stateWith (a .counters) (a .words .now)) (a .records .now) (a .memory .now) (a .queue .now)
 
 abbrev call : tie.After-is-sound → Call
-call c = let a = c .before .before .before .before .before .args in Copy (a .target .0) (a .target-offset) (a .source .0) (a .source-offset) (a .len)
+call c = let a = start c .args in Copy (a .target .0) (a .target-offset) (a .source .0) (a .source-offset) (a .len)
 
 small : (c : tie.After-is-sound) → Small (world c)
 small c i = c .before .before .before .before .slice-known .given i .fits
@@ -40,13 +42,13 @@ whole c =
     let w = world (c .before) in
     sym (r .ensures (w .memory) (w .queue) refl refl) ∙ not-false (r .result) (c .if1 .left)
 
-to : (c : tie.After-look) → let e = c .before .before .before in let a = e .before .before .before .before .before .before .args in
+to : (c : tie.After-look) → let e = c .before .before in let a = start (e .before) .args in
     Examined (world (e .before)) (a .target .0) (a .target-offset) (a .len) (c .look .result)
-to c = let e = c .before .before .before in looked (world (e .before)) (whole e) (c .look .ensures)
+to c = let e = c .before .before in looked (world (e .before)) (whole e) (c .look .ensures)
 
-from : (c : tie.After-look2) → let e = c .before .before .before .before .before in let a = e .before .before .before .before .before .before .args in
+from : (c : tie.After-look2) → let e = c .before .before .before .before in let a = start (e .before) .args in
     Examined (world (e .before)) (a .source .0) (a .source-offset) (a .len) (c .look2 .result)
-from c = let e = c .before .before .before .before .before in looked (world (e .before)) (whole e) (c .look2 .ensures)
+from c = let e = c .before .before .before .before in looked (world (e .before)) (whole e) (c .look2 .ensures)
 
 none : (c : tie.Else2) → (c .before .before .before .before .look .result .number ≡ 0) × (c .before .before .look2 .result .number ≡ 0)
 none c =
@@ -68,10 +70,10 @@ returns c =
     rw (c .refused .ensures) (leaves-torn (world k) (call k) (torn (c .before)))
 
 look-requires : tie.Need-look-requires
-look-requires c κs = let e = c .before .before in sound-sane (world (e .before)) (sound-is standard (world (e .before)) (whole e))
+look-requires c κs = let e = c .before in sane-with (world (e .before)) (whole e) (start (e .before) .pre)
 
 look-requires-2 : tie.Need-look-requires-2
-look-requires-2 c κs = let e = c .before .before .before .before in sound-sane (world (e .before)) (sound-is standard (world (e .before)) (whole e))
+look-requires-2 c κs = let e = c .before .before .before in sane-with (world (e .before)) (whole e) (start (e .before) .pre)
 
 lower-requires : tie.Need-lower-requires
 lower-requires c κs = search needs
@@ -85,15 +87,15 @@ same-length-2 c = search needs
 returns-2 : tie.Need-returns-2
 returns-2 c =
     let l = c .before .before .before in
-    let e = l .before .before .before .before .before in
+    let e = l .before .before .before .before in
     rw (c .refused2 .ensures) (copy-refused (world (e .before)) (small (e .before)) (whole e) (to (l .before .before)) (from l) (c .before .before .lower .result) (c .before .before .lower .ensures) (c .before .if2 .taken))
 
 copy-contents-from-requires : tie.Need-copy-contents-from-requires
 copy-contents-from-requires c κs =
     let l = c .before .before .before .before in
-    let e = l .before .before .before .before .before in
+    let e = l .before .before .before .before in
     let n = none (c .before .before) in
-    (sound-sane (world (e .before)) (sound-is standard (world (e .before)) (whole e)), (spans-of (world (e .before)) (whole e) (to (l .before .before)) (n .0), spans-of (world (e .before)) (whole e) (from l) (n .1)))
+    (sane-with (world (e .before)) (whole e) (start (e .before) .pre), (spans-of (world (e .before)) (whole e) (to (l .before .before)) (n .0), spans-of (world (e .before)) (whole e) (from l) (n .1)))
 
 raw-requires : tie.Need-raw-requires
 raw-requires c κs = search needs
@@ -110,13 +112,13 @@ same-length-4 c = search needs
 returns-3 : tie.Need-returns-3
 returns-3 c =
     let l = c .before .before .before .before .before .before .before .before .before .before .before in
-    let e = l .before .before .before .before .before in
+    let e = l .before .before .before .before in
     let n = none (c .before .before .before .before .before .before .before .before .before) in
     let d = c .before .before .before .before .before .before .copy-contents-from in
-    let a = e .before .before .before .before .before .before .args in
+    let a = start (e .before) .args in
     rw (c .done .ensures, c .before .raw .ensures)
     (copy-done (world (e .before)) (small (e .before)) (whole e) (to (l .before .before)) (from l) (n .0) (n .1)
-    (worldOf (a .state) (d .last .1 .0) (d .last .1 .1 .0) (a .queue .now)) (d .ensures (a .queue .now) (sound-is standard (world (e .before)) (whole e))))
+    (worldOf (stateWith (a .counters) (a .words .now)) (d .last .1 .0) (d .last .1 .1 .0) (a .queue .now)) (d .ensures (a .counters) (a .queue .now) (sound-is standard (world (e .before)) (whole e))))
 
 pub copy-spec : {M : Type 1} → statement M
 copy-spec =

@@ -6,7 +6,7 @@ use borrow.Author.Needs.{needs}
 use borrow.Author.Tests.{not-true, not-false}
 use Rattle.world.proofs.RoundTrip.{round-trip}
 use Rattle.allocator.specs.Spots.{numberAt}
-use Rattle.exam.specs.Promise.{worldOf}
+use Rattle.exam.specs.Promise.{stateWith, worldOf}
 use Rattle.ranges.proofs.Held.{held-read}
 use Rattle.copies.proofs.Copying.{both-zeroed, from-dirty, from-zeroed}
 use Rattle.copies.proofs.copy_contents_from.Statement.{statement}
@@ -23,7 +23,7 @@ add-at c = search needs
 
 move-into-requires : tie.Need-move-into-requires
 move-into-requires c κs =
-    let s = c .before .before .before .before .before .before .before .before in
+    let s = c .before .before .before .before .before .before .before .before .before in
     (s .pre .0, (s .pre .1 .0, omega (arith, s .pre .1 .1 .ends)))
 
 same-length : tie.Need-same-length
@@ -33,24 +33,24 @@ same-length-2 : tie.Need-same-length-2
 same-length-2 c = search needs
 
 returns : tie.Need-returns
-returns c queue S =
+returns c n queue S =
     let k = c .before .before .before .before .before .before .before .before .before .before .before .before in
-    let s = k .before in
-    let w = worldOf (s .args .state) (s .args .records .now) (s .args .memory .now) queue in
+    let s = k .before .before in
+    let w = worldOf (stateWith n (s .args .words .now)) (s .args .records .now) (s .args .memory .now) queue in
     let z = c .before .before .before .before .before .before .before .before .before .before .is-zeroed in
     let P = s .pre .1 .0 in
     let Q = s .pre .1 .1 in
     rw (from-dirty w S P Q (sym (z .ensures) ∙ not-true (z .result) (c .before .before .before .before .before .before .before .before .before .if1 .taken)))
-    (c .before .before .before .before .move-into .ensures queue S (4096 * numberAt (w .rows) (s .args .from .spot) + s .args .from-offset) (held-read S (Q .held) refl (s .args .from-offset) (s .args .len) (Q .range)))
+    (c .before .before .before .before .move-into .ensures n queue S (4096 * numberAt (w .rows) (s .args .from .spot) + s .args .from-offset) (held-read S (Q .held) refl (s .args .from-offset) (s .args .len) (Q .range)))
 
 is-zeroed-requires-2 : tie.Need-is-zeroed-requires-2
 is-zeroed-requires-2 c κs = search needs
 
 returns-2 : tie.Need-returns-2
-returns-2 c queue S =
+returns-2 c n queue S =
     let k = c .before .before .before .before .before in
-    let s = k .before in
-    let w = worldOf (s .args .state) (s .args .records .now) (s .args .memory .now) queue in
+    let s = k .before .before in
+    let w = worldOf (stateWith n (s .args .words .now)) (s .args .records .now) (s .args .memory .now) queue in
     let z = c .before .before .before .is-zeroed in
     let y = c .before .is-zeroed2 in
     rw (both-zeroed w S (s .pre .1 .0) (s .pre .1 .1) (sym (z .ensures) ∙ not-false (z .result) (c .before .before .if1 .left)) (sym (y .ensures) ∙ c .if2 .taken))
@@ -66,14 +66,14 @@ same-length-4 : tie.Need-same-length-4
 same-length-4 c = search needs
 
 returns-3 : tie.Need-returns-3
-returns-3 c queue S =
+returns-3 c n queue S =
     let k = c .before .before .before .before .before .before .before .before .before .before .before .before in
-    let s = k .before in
-    let w = worldOf (s .args .state) (s .args .records .now) (s .args .memory .now) queue in
+    let s = k .before .before in
+    let w = worldOf (stateWith n (s .args .words .now)) (s .args .records .now) (s .args .memory .now) queue in
     let z = c .before .before .before .before .before .before .before .before .before .before .is-zeroed in
     let y = c .before .before .before .before .before .before .before .before .is-zeroed2 in
     rw (from-zeroed w S (s .pre .1 .0) (s .pre .1 .1) (sym (z .ensures) ∙ not-false (z .result) (c .before .before .before .before .before .before .before .before .before .if1 .left)) (sym (y .ensures) ∙ c .before .before .before .before .before .before .before .if2 .left))
-    (c .before .before .before .before .zero-range .ensures queue S)
+    (c .before .before .before .before .zero-range .ensures n queue S)
 
 pub copy-contents-from-spec : {M : Type 1} → statement M
 copy-contents-from-spec =

@@ -11,23 +11,27 @@ use Rattle.definition.specs.Calls.{Call, Pcopy}
 use Rattle.definition.specs.World.{World, decode, recordAt}
 use Rattle.definition.specs.Torn.{sound}
 use Rattle.audit.proofs.Sheets.{sound-is}
-use Rattle.world.proofs.Leaving.{sound-sane, sound-table}
+use Rattle.world.proofs.Leaving.{sound-table}
+use Rattle.words.specs.Words.{rowsIn}
 use Rattle.allocator.specs.Spots.{Sees}
-use Rattle.exam.specs.Promise.{Examined, worldOf}
+use Rattle.exam.specs.Promise.{Examined, stateWith, worldOf}
 use Rattle.exam.proofs.Promises.{Small, leaves-torn}
 use Rattle.copies.specs.Copies.{placeSeen}
-use Rattle.copies.proofs.Copying.{looked, lower-none, spans-of}
+use Rattle.copies.proofs.Copying.{looked, lower-none, sane-with, spans-of}
 use Rattle.copies.proofs.Placing.{pcopy-done, pcopy-refused, place-bytes, place-ends, seen-placed}
 use Rattle.copies.proofs.pcopy.Statement.{statement}
 use Rattle.copies.proofs.pcopy.Tie as tie
 
 -- ---- the world that was given, and the call
 
+abbrev start : tie.After-is-sound → tie.Start
+start c = c .before .before .before .before .before .before
+
 abbrev world : tie.After-is-sound → World
-world c = let a = c .before .before .before .before .before .args in worldOf (a .state) (a .records .now) (a .memory .now) (a .queue .now)
+world c = let a = start c .args in worldOf (stateWith (a .counters) (a .words .now)) (a .records .now) (a .memory .now) (a .queue .now)
 
 abbrev call : tie.After-is-sound → Call
-call c = let a = c .before .before .before .before .before .args in Pcopy (a .target .0) (a .target-offset) (a .source .0) (a .len)
+call c = let a = start c .args in Pcopy (a .target .0) (a .target-offset) (a .source .0) (a .len)
 
 small : (c : tie.After-is-sound) → Small (world c)
 small c i = c .before .before .before .before .slice-known .given i .fits
@@ -46,32 +50,32 @@ whole c =
     let w = world (c .before) in
     sym (r .ensures (w .memory) (w .queue) refl refl) ∙ not-false (r .result) (c .if1 .left)
 
-to : (c : tie.After-look) → let e = c .before .before .before in let a = e .before .before .before .before .before .before .args in
+to : (c : tie.After-look) → let e = c .before .before in let a = start (e .before) .args in
     Examined (world (e .before)) (a .target .0) (a .target-offset) (a .len) (c .look .result)
-to c = let e = c .before .before .before in looked (world (e .before)) (whole e) (c .look .ensures)
+to c = let e = c .before .before in looked (world (e .before)) (whole e) (c .look .ensures)
 
-sees : (c : tie.After-see) → let e = c .before .before .before .before .before in let w = world (e .before) in
-    Sees (recordAt (w .records)) (w .rows) (e .before .before .before .before .before .before .args .source .0 / 4096) (decode standard w .allocator) (c .see .result)
+sees : (c : tie.After-see) → let e = c .before .before .before .before in let w = world (e .before) in
+    Sees (recordAt (w .records)) (w .rows) (start (e .before) .args .source .0 / 4096) (decode standard w .allocator) (c .see .result)
 sees c =
-    let e = c .before .before .before .before .before in
+    let e = c .before .before .before .before in
     let w = world (e .before) in
     c .see .ensures (decode standard w .allocator) (sound-table w (sound-is standard w (whole e)))
 
-none : (c : tie.Else2) → let l = c .before .before .before in let a = l .before .before .before .before .before .before .before .before .before .before .before .args in
-    (l .before .before .look .result .number ≡ 0) × (placeSeen (a .state .rows) (l .see .result) (a .source .0) (a .len) ≡ 0)
+none : (c : tie.Else2) → let l = c .before .before .before in let a = start (l .before .before .before .before .before) .args in
+    (l .before .before .look .result .number ≡ 0) × (placeSeen (rowsIn (a .words .now)) (l .see .result) (a .source .0) (a .len) ≡ 0)
 none c =
     let l = c .before .before .before in
-    let a = l .before .before .before .before .before .before .before .before .before .before .before .args in
-    lower-none (l .before .before .look .result .number) (placeSeen (a .state .rows) (l .see .result) (a .source .0) (a .len))
+    let a = start (l .before .before .before .before .before) .args in
+    lower-none (l .before .before .look .result .number) (placeSeen (rowsIn (a .words .now)) (l .see .result) (a .source .0) (a .len))
     (sym (rw (c .before .before .place-refusal .ensures) at (c .before .lower .ensures)) ∙ c .if2 .left)
 
 -- the place lies in the loan
-ends : (c : tie.Else2) → let l = c .before .before .before in let a = l .before .before .before .before .before .before .before .before .before .before .before .args in
+ends : (c : tie.Else2) → let l = c .before .before .before in let a = start (l .before .before .before .before .before) .args in
     4096 * l .see .result .spot .page + (a .source .0 % 4096 + a .len) ≤ length (a .memory .now)
 ends c =
     let l = c .before .before .before in
-    let e = l .before .before .before .before .before in
-    let a = e .before .before .before .before .before .before .args in
+    let e = l .before .before .before .before in
+    let a = start (e .before) .args in
     place-ends (world (e .before)) (sound-is standard (world (e .before)) (whole e)) (a .source .0) (sees l) (a .len) (none c .1)
 
 is-sound-requires : tie.Need-is-sound-requires
@@ -89,15 +93,15 @@ returns c =
     rw (c .refused .ensures) (leaves-torn (world k) (call k) (torn (c .before)))
 
 look-requires : tie.Need-look-requires
-look-requires c κs = let e = c .before .before in sound-sane (world (e .before)) (sound-is standard (world (e .before)) (whole e))
+look-requires c κs = let e = c .before in sane-with (world (e .before)) (whole e) (start (e .before) .pre)
 
 see-requires : tie.Need-see-requires
-see-requires c κs = let e = c .before .before .before .before in sound-sane (world (e .before)) (sound-is standard (world (e .before)) (whole e))
+see-requires c κs = let e = c .before .before .before in sane-with (world (e .before)) (whole e) (start (e .before) .pre)
 
 place-refusal-requires : tie.Need-place-refusal-requires
 place-refusal-requires c κs =
-    let e = c .before .before .before .before .before in
-    seen-placed (world (e .before)) (sound-is standard (world (e .before)) (whole e)) (e .before .before .before .before .before .before .args .source .0) (sees c)
+    let e = c .before .before .before .before in
+    (start (e .before) .pre, seen-placed (world (e .before)) (sound-is standard (world (e .before)) (whole e)) (start (e .before) .args .source .0) (sees c))
 
 lower-requires : tie.Need-lower-requires
 lower-requires c κs = search needs
@@ -111,28 +115,28 @@ same-length-2 c = search needs
 returns-2 : tie.Need-returns-2
 returns-2 c =
     let l = c .before .before .before .before in
-    let e = l .before .before .before .before .before in
+    let e = l .before .before .before .before in
     let n = c .before .before .lower in
     let m = c .before .before .before .place-refusal in
     rw (c .refused2 .ensures)
-    (pcopy-refused (world (e .before)) (small (e .before)) (whole e) (to (l .before .before)) (e .before .before .before .before .before .before .args .source .0) (sees l) (n .result)
+    (pcopy-refused (world (e .before)) (small (e .before)) (whole e) (to (l .before .before)) (start (e .before) .args .source .0) (sees l) (n .result)
     (rw (m .ensures) at (n .ensures)) (c .before .if2 .taken))
 
 mul-from : tie.Need-mul-from
-mul-from c = omega (arith, ends (c .before .before), c .before .before .before .before .before .before .before .before .before .before .before .before .before .before .before .before .good .1 .1 .0 .0)
+mul-from c = omega (arith, ends (c .before .before), start (c .before .before .before .before .before .before .before .before .before .before) .good .1 .1 .1 .0 .0)
 
 raw-requires : tie.Need-raw-requires
 raw-requires c κs = search needs
 
 add-from : tie.Need-add-from
-add-from c = omega (arith, ends (c .before .before .before), c .raw .ensures, c .before .before .before .before .before .before .before .before .before .before .before .before .before .before .before .before .before .good .1 .1 .0 .0)
+add-from c = omega (arith, ends (c .before .before .before), c .raw .ensures, start (c .before .before .before .before .before .before .before .before .before .before .before) .good .1 .1 .1 .0 .0)
 
 move-into-requires : tie.Need-move-into-requires
 move-into-requires c κs =
     let k = c .before .before .before .before .before in
     let l = k .before .before .before in
-    let e = l .before .before .before .before .before in (
-      sound-sane (world (e .before)) (sound-is standard (world (e .before)) (whole e)),
+    let e = l .before .before .before .before in (
+      sane-with (world (e .before)) (whole e) (start (e .before) .pre),
       (spans-of (world (e .before)) (whole e) (to (l .before .before)) (none k .0), omega (arith, ends k, c .before .before .raw .ensures)),
     )
 
@@ -152,15 +156,15 @@ returns-3 : tie.Need-returns-3
 returns-3 c =
     let k = c .before .before .before .before .before .before .before .before .before .before .before .before in
     let l = k .before .before .before in
-    let e = l .before .before .before .before .before in
+    let e = l .before .before .before .before in
     let d = c .before .before .before .before .before .before .move-into in
-    let a = e .before .before .before .before .before .before .args in
+    let a = start (e .before) .args in
     let S = sound-is standard (world (e .before)) (whole e) in
     let b = place-bytes (world (e .before)) S (a .source .0) (sees l) (a .len) (none k .1) in
     rw (c .done .ensures, c .before .raw2 .ensures)
     (pcopy-done (world (e .before)) (small (e .before)) (whole e) (to (l .before .before)) (a .source .0) (sees l) (none k .0) (none k .1)
-    (worldOf (a .state) (d .last .1 .0) (d .last .1 .1 .0) (a .queue .now))
-    (d .ensures (a .queue .now) S (a .source .0) (rw (c .before .before .before .before .before .before .before .before .before .raw .ensures) b)))
+    (worldOf (stateWith (a .counters) (a .words .now)) (d .last .1 .0) (d .last .1 .1 .0) (a .queue .now))
+    (d .ensures (a .counters) (a .queue .now) S (a .source .0) (rw (c .before .before .before .before .before .before .before .before .before .raw .ensures) b)))
 
 pub pcopy-spec : {M : Type 1} → statement M
 pcopy-spec =

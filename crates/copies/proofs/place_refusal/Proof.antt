@@ -1,10 +1,11 @@
 -- The end of the region is that of the row that was seen.
-use Prim.Native.Nat.{ℕ, _+_}
+use Prim.Native.Nat.{ℕ, _+_, _*_}
 use mathlib.Core.Bool.{Bool, true, false, not, cond}
 use mathlib.Core.Path.{_≡_, refl}
 use native.Mathlib.Omega.{arith}
 use borrow.Author.Needs.{needs}
 use borrow.Author.Tests.{not-false, lt-ltb, le-ltb}
+use Rattle.words.specs.Words.{rowsIn}
 use Rattle.copies.specs.Copies.{Inward, endSeen}
 use Rattle.copies.proofs.place_refusal.Statement.{statement}
 use Rattle.copies.proofs.place_refusal.Tie as tie
@@ -19,59 +20,51 @@ past-end a b = rw (a, b) refl
 no-refusal : {m h : Bool} → m ≡ true → h ≡ false → 0 ≡ number m h
 no-refusal a b = rw (a, b) refl
 
-managed : (c : tie.After-spot) → c .before .before .before .args .seen .managed ≡ true
-managed c = not-false (c .before .before .before .args .seen .managed) (c .before .if1 .left)
+managed : (c : tie.After-spot) → c .before .before .before .before .args .seen .managed ≡ true
+managed c = not-false (c .before .before .before .before .args .seen .managed) (c .before .if1 .left)
 
-inward : (c : tie.After-spot) → let a = c .before .before .before .args in Inward (a .t1) (a .seen) (a .pa .0)
-inward c = c .before .before .before .pre (managed c)
+inward : (c : tie.After-spot) → let a = c .before .before .before .before .args in Inward (rowsIn (a .words .now)) (a .seen) (a .pa .0)
+inward c = c .before .before .before .before .pre .1 (managed c)
+
+-- the end as it is computed
+end-is
+    : (c : tie.After-page-number) → let a = c .before .before .before .before .before .before .before .args in
+    4096 * (c .page-number .result + c .before .before .row-at .result .pages) ≡ endSeen (rowsIn (a .words .now)) (a .seen)
+end-is c = rw (c .page-number .ensures, c .before .before .row-at .ensures) refl
 
 returns : tie.Need-returns
 returns c = search needs
 
-mul-row : tie.Need-mul-row
-mul-row c = omega (arith, inward c .index)
-
-array-copy-out-row : tie.Need-array-copy-out-row
-array-copy-out-row c = inward c .index
+row-at-requires : tie.Need-row-at-requires
+row-at-requires c κs = (c .before .before .before .before .pre .0, inward c .index)
 
 page-number-requires : tie.Need-page-number-requires
 page-number-requires c κs = search needs
 
 add-end : tie.Need-add-end
-add-end c = omega (arith, inward (c .before .before .before .before) .bounded, c .before .page-number .ensures)
+add-end c = omega (arith, inward (c .before .before .before .before) .bounded, end-is (c .before))
 
 mul-end : tie.Need-mul-end
-mul-end c = omega (arith, inward (c .before .before .before .before) .bounded, c .before .page-number .ensures)
+mul-end c = omega (arith, inward (c .before .before .before .before) .bounded, end-is (c .before))
 
 raw-requires : tie.Need-raw-requires
 raw-requires c κs = search needs
 
 sub-if2 : tie.Need-sub-if2
-sub-if2 c = omega (arith, inward (c .before .before .before .before .before) .before, c .before .before .page-number .ensures, c .raw .ensures)
+sub-if2 c = omega (arith, inward (c .before .before .before .before .before) .before, end-is (c .before .before), c .raw .ensures)
 
 returns-2 : tie.Need-returns-2
 returns-2 c =
     let k = c .before .before .before .before .before .before in
-    let a = k .before .before .before .args in
-    past-end (managed k) (lt-ltb (endSeen (a .t1) (a .seen)) (a .pa .0 + a .len) (omega (arith, inward k .before, c .before .before .before .page-number .ensures, c .before .raw .ensures)))
+    let a = k .before .before .before .before .args in
+    past-end (managed k) (lt-ltb (endSeen (rowsIn (a .words .now)) (a .seen)) (a .pa .0 + a .len) (omega (arith, inward k .before, end-is (c .before .before .before), c .before .raw .ensures)))
 
 returns-3 : tie.Need-returns-3
 returns-3 c =
     let k = c .before .before .before .before .before .before in
-    let a = k .before .before .before .args in
-    no-refusal (managed k) (le-ltb (endSeen (a .t1) (a .seen)) (a .pa .0 + a .len) (omega (arith, inward k .before, c .before .before .before .page-number .ensures, c .before .raw .ensures)))
+    let a = k .before .before .before .before .args in
+    no-refusal (managed k) (le-ltb (endSeen (rowsIn (a .words .now)) (a .seen)) (a .pa .0 + a .len) (omega (arith, inward k .before, end-is (c .before .before .before), c .before .raw .ensures)))
 
 pub place-refusal-spec : {M : Type 1} → statement M
 place-refusal-spec =
-    tie.close
-    (tie.spec
-    returns
-    mul-row
-    array-copy-out-row
-    page-number-requires
-    add-end
-    mul-end
-    raw-requires
-    sub-if2
-    returns-2
-    returns-3)
+    tie.close (tie.spec returns row-at-requires page-number-requires add-end mul-end raw-requires sub-if2 returns-2 returns-3)

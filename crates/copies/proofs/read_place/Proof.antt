@@ -5,7 +5,7 @@ use native.Mathlib.Omega.{arith}
 use borrow.Author.Needs.{needs}
 use lib.ListN.{length}
 use Rattle.definition.specs.World.{World}
-use Rattle.exam.specs.Promise.{Examined, worldOf}
+use Rattle.exam.specs.Promise.{Examined, stateWith, worldOf}
 use Rattle.exam.proofs.Promises.{Small}
 use Rattle.ranges.proofs.Held.{examined-ends}
 use Rattle.copies.proofs.Reading.{place-done, place-refused}
@@ -15,16 +15,16 @@ use Rattle.copies.proofs.read_place.Tie as tie
 -- the world that was given, the bytes of its records, and what was found
 world : tie.After-examine → World
 world c =
-    let a = c .before .before .before .before .args in
-    worldOf (a .state) (a .records .now) (a .memory .now) (a .queue .now)
+    let a = c .before .before .before .before .before .args in
+    worldOf (stateWith (a .counters) (a .words .now)) (a .records .now) (a .memory .now) (a .queue .now)
 
 small : (c : tie.After-examine) → Small (world c)
 unfolding world
-small c i = c .before .before .before .shared-slice-known .given i .fits
+small c i = c .before .before .before .shared-slice-known2 .given i .fits
 
-examined : (c : tie.After-examine) → let a = c .before .before .before .before .args in Examined (world c) (a .pa .0) (a .offset) (a .len) (c .examine .result)
+examined : (c : tie.After-examine) → let a = c .before .before .before .before .before .args in Examined (world c) (a .pa .0) (a .offset) (a .len) (c .examine .result)
 unfolding world
-examined c = let a = c .before .before .before .before .args in c .examine .ensures (a .memory .now) (a .queue .now) refl refl
+examined c = let a = c .before .before .before .before .before .args in c .examine .ensures (a .memory .now) (a .queue .now) refl refl
 
 examine-requires : tie.Need-examine-requires
 examine-requires c κs = search needs
@@ -33,16 +33,16 @@ returns : tie.Need-returns
 unfolding world
 returns c = place-refused (world (c .before)) (small (c .before)) (examined (c .before)) (c .if1 .taken)
 
-ends : (c : tie.After-struct-known) → let a = c .before .before .before .before .before .before .before .before .args in
+ends : (c : tie.After-struct-known) → let a = c .before .before .before .before .before .before .before .before .before .args in
     4096 * c .before .before .before .before .examine .result .seen .spot .page + a .offset + a .len ≤ length (a .memory .now)
 unfolding world
 ends c = examined-ends (examined (c .before .before .before .before)) (c .before .before .before .if1 .left)
 
-mul-t12 : tie.Need-mul-t12
-mul-t12 c = omega (arith, ends c)
+mul-t13 : tie.Need-mul-t13
+mul-t13 c = omega (arith, ends c)
 
-add-t15 : tie.Need-add-t15
-add-t15 c = omega (arith, ends c)
+add-t16 : tie.Need-add-t16
+add-t16 c = omega (arith, ends c)
 
 returns-2 : tie.Need-returns-2
 unfolding world
@@ -51,4 +51,4 @@ returns-2 c =
     place-done (world k) (small k) (examined k) (c .before .before .before .if1 .left)
 
 pub read-place-spec : {M : Type 1} → statement M
-read-place-spec = tie.close (tie.spec examine-requires returns mul-t12 add-t15 returns-2)
+read-place-spec = tie.close (tie.spec examine-requires returns mul-t13 add-t16 returns-2)

@@ -3,7 +3,7 @@ use mathlib.Core.Bool.{true}
 use mathlib.Core.Path.{sym, _∙_}
 use borrow.Author.Needs.{needs}
 use borrow.Author.Tests.{not-true, not-false}
-use Rattle.exam.specs.Promise.{worldOf}
+use Rattle.exam.specs.Promise.{stateWith, worldOf}
 use Rattle.ranges.proofs.Marking.{Remarked}
 use Rattle.copies.proofs.Writing.{zero-part, zero-whole}
 use Rattle.copies.proofs.zero_range.Statement.{statement}
@@ -25,9 +25,9 @@ same-length : tie.Need-same-length
 same-length c = search needs
 
 returns : tie.Need-returns
-returns c queue S =
+returns c n queue S =
     let k = c .before .before .before .before .before .before .before .before .before in
-    let s = k .before in
+    let s = k .before .before in
     let r = c .before .is-whole in
     rw (c .before .before .before .before .fill .ensures) (zero-part S (s .pre .1) (λ i. k .slice-known .given i .fits) (sym (r .ensures) ∙ not-true (r .result) (c .if1 .taken)))
 
@@ -44,22 +44,22 @@ same-length-3 : tie.Need-same-length-3
 same-length-3 c = search needs
 
 returns-2 : tie.Need-returns-2
-returns-2 c queue S =
-    let k = c .before .before .before .before .before .before .before .before .before .before .before .before .before .before .before in
-    let s = k .before in
-    let w = worldOf (s .args .state) (s .args .records .now) (s .args .memory .now) queue in
-    let r = c .before .before .before .before .before .before .before .is-whole in
+returns-2 c n queue S =
+    let k = c .before .before .before .before .before .before .before .before .before .before .before .before .before .before in
+    let s = k .before .before in
+    let w = worldOf (stateWith n (s .args .words .now)) (s .args .records .now) (s .args .memory .now) queue in
+    let r = c .before .before .before .before .before .before .is-whole in
     let d = c .before .before .set-marks in
-    let M : Remarked w (s .args .to) true (c .before .before .before .is-kernel .result) (d .last .0) =
+    let M : Remarked w (s .args .to) true (c .before .before .before .is-kernel .result) (d .last .1 .0) =
     record {
       own = c .before .before .before .is-kernel .ensures;
       turns = d .ensures;
-      as-long = d .kept .0;
+      as-long = d .kept .1 .0;
       before = λ i. k .slice-known .given i .fits;
       after = λ i. c .slice-known4 .given i .fits;
     } in
-    rw (c .before .before .before .before .before .before .before .before .before .before .fill .ensures)
-    (zero-whole S (s .pre .1) M (sym (r .ensures) ∙ not-false (r .result) (c .before .before .before .before .before .before .if1 .left)))
+    rw (c .before .before .before .before .before .before .before .before .before .fill .ensures)
+    (zero-whole S (s .pre .1) M (sym (r .ensures) ∙ not-false (r .result) (c .before .before .before .before .before .if1 .left)))
 
 pub zero-range-spec : {M : Type 1} → statement M
 zero-range-spec =

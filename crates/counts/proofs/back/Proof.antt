@@ -4,9 +4,9 @@ use native.Mathlib.Omega.{arith}
 use borrow.Author.Needs.{needs}
 use borrow.Author.Tests.{not-true, not-false}
 use Rattle.definition.specs.Calls.{Back}
-use Rattle.exam.specs.Promise.{worldOf}
+use Rattle.exam.specs.Promise.{stateWith, worldOf}
 use Rattle.exam.proofs.Promises.{Small, leaves-torn}
-use Rattle.counts.proofs.Recounted.{counts-leaves, leaves-back, refuses-back}
+use Rattle.counts.proofs.Recounted.{leaves-back, refuses-back}
 use Rattle.counts.proofs.back.Statement.{statement}
 use Rattle.counts.proofs.back.Tie as tie
 
@@ -18,9 +18,9 @@ refused-requires c κs = search needs
 
 returns : tie.Need-returns
 returns c =
-    let s = c .before .before .before .before .before .before in
+    let s = c .before .before .before .before .before .before .before in
     let r = c .before .before .is-sound in
-    let w = worldOf (s .args .state) (s .args .records .now) (s .args .memory .now) (s .args .queue .now) in
+    let w = worldOf (stateWith (s .args .counters) (s .args .words .now)) (s .args .records .now) (s .args .memory .now) (s .args .queue .now) in
     let q = r .ensures (s .args .memory .now) (s .args .queue .now) refl refl in
     let e = sym q ∙ not-true (r .result) (c .before .if1 .taken) in
     rw (c .refused .ensures) (leaves-torn w (Back (s .args .count)) e)
@@ -31,11 +31,11 @@ refused-requires-2 c κs = search needs
 returns-2 : tie.Need-returns-2
 returns-2 c =
     let s = c .before .before .before .before .before .before .before .before .before in
-    let r = c .before .before .before .before .before .is-sound in
-    let w = worldOf (s .args .state) (s .args .records .now) (s .args .memory .now) (s .args .queue .now) in
+    let r = c .before .before .before .before .is-sound in
+    let w = worldOf (stateWith (s .args .counters) (s .args .words .now)) (s .args .records .now) (s .args .memory .now) (s .args .queue .now) in
     let q = r .ensures (s .args .memory .now) (s .args .queue .now) refl refl in
-    let t = sym q ∙ not-false (r .result) (c .before .before .before .before .if1 .left) in
-    let small : Small w = λ i. omega (arith, c .before .before .before .before .before .before .before .before .shared-slice-known .given i) in
+    let t = sym q ∙ not-false (r .result) (c .before .before .before .if1 .left) in
+    let small : Small w = λ i. omega (arith, c .before .before .before .before .before .before .before .shared-slice-known2 .given i) in
     rw (c .refused2 .ensures) (refuses-back w t small (s .args .count) (omega (arith, c .before .if2 .taken)))
 
 untrack-frame-pager-requires : tie.Need-untrack-frame-pager-requires
@@ -47,13 +47,12 @@ counted-requires c κs = search needs
 returns-3 : tie.Need-returns-3
 returns-3 c =
     let s = c .before .before .before .before .before .before .before .before .before .before in
-    let r = c .before .before .before .before .before .before .is-sound in
-    let w = worldOf (s .args .state) (s .args .records .now) (s .args .memory .now) (s .args .queue .now) in
+    let r = c .before .before .before .before .before .is-sound in
+    let w = worldOf (stateWith (s .args .counters) (s .args .words .now)) (s .args .records .now) (s .args .memory .now) (s .args .queue .now) in
     let q = r .ensures (s .args .memory .now) (s .args .queue .now) refl refl in
-    let t = sym q ∙ not-false (r .result) (c .before .before .before .before .before .if1 .left) in
-    let small : Small w = λ i. omega (arith, c .before .before .before .before .before .before .before .before .before .shared-slice-known .given i) in
-    counts-leaves (s .args .state) (s .args .records .now) (s .args .memory .now) (s .args .queue .now) (Back (s .args .count)) (c .counted .ensures)
-    (leaves-back w t small (s .args .count) (omega (arith, c .before .before .if2 .left)) (c .before .untrack-frame-pager .result) (c .before .untrack-frame-pager .ensures))
+    let t = sym q ∙ not-false (r .result) (c .before .before .before .before .if1 .left) in
+    let small : Small w = λ i. omega (arith, c .before .before .before .before .before .before .before .before .shared-slice-known2 .given i) in
+    rw (c .counted .ensures) (leaves-back w t small (s .args .count) (omega (arith, c .before .before .if2 .left)) (c .before .untrack-frame-pager .result) (c .before .untrack-frame-pager .ensures))
 
 pub back-spec : {M : Type 1} → statement M
 back-spec =

@@ -5,7 +5,7 @@ use borrow.Author.Needs.{needs}
 use borrow.Author.Tests.{not-true, not-false}
 use mathlib.Core.Bool.{true, false}
 use Rattle.definition.specs.Calls.{Low}
-use Rattle.exam.specs.Promise.{worldOf}
+use Rattle.exam.specs.Promise.{stateWith, worldOf}
 use Rattle.exam.proofs.Promises.{Small, leaves-torn}
 use Rattle.counts.proofs.Recounted.{leaves-low}
 use Rattle.counts.proofs.low.Statement.{statement}
@@ -19,9 +19,9 @@ refused-requires c κs = search needs
 
 returns : tie.Need-returns
 returns c =
-    let s = c .before .before .before .before .before .before in
+    let s = c .before .before .before .before .before .before .before in
     let r = c .before .before .is-sound in
-    let w = worldOf (s .args .state) (s .args .records .now) (s .args .memory .now) (s .args .queue .now) in
+    let w = worldOf (stateWith (s .args .counters) (s .args .words .now)) (s .args .records .now) (s .args .memory .now) (s .args .queue .now) in
     let q = r .ensures (s .args .memory .now) (s .args .queue .now) refl refl in
     let e = sym q ∙ not-true (r .result) (c .before .if1 .taken) in
     rw (c .refused .ensures) (leaves-torn w Low e)
@@ -34,12 +34,12 @@ done-requires c κs = search needs
 
 returns-2 : tie.Need-returns-2
 returns-2 c =
-    let s = c .before .before .before .before .before .before .before .before in
+    let s = c .before .before .before .before .before .before .before .before .before in
     let r = c .before .before .before .before .is-sound in
-    let w = worldOf (s .args .state) (s .args .records .now) (s .args .memory .now) (s .args .queue .now) in
+    let w = worldOf (stateWith (s .args .counters) (s .args .words .now)) (s .args .records .now) (s .args .memory .now) (s .args .queue .now) in
     let q = r .ensures (s .args .memory .now) (s .args .queue .now) refl refl in
     let t = sym q ∙ not-false (r .result) (c .before .before .before .if1 .left) in
-    let small : Small w = λ i. omega (arith, c .before .before .before .before .before .before .before .shared-slice-known .given i) in
+    let small : Small w = λ i. omega (arith, c .before .before .before .before .before .before .before .shared-slice-known2 .given i) in
     let l = c .before .before .should-reclaim in
     rw (c .done .ensures) (leaves-low w t small true (sym (c .before .if2 .taken) ∙ l .ensures))
 
@@ -48,12 +48,12 @@ done-requires-2 c κs = search needs
 
 returns-3 : tie.Need-returns-3
 returns-3 c =
-    let s = c .before .before .before .before .before .before .before .before in
+    let s = c .before .before .before .before .before .before .before .before .before in
     let r = c .before .before .before .before .is-sound in
-    let w = worldOf (s .args .state) (s .args .records .now) (s .args .memory .now) (s .args .queue .now) in
+    let w = worldOf (stateWith (s .args .counters) (s .args .words .now)) (s .args .records .now) (s .args .memory .now) (s .args .queue .now) in
     let q = r .ensures (s .args .memory .now) (s .args .queue .now) refl refl in
     let t = sym q ∙ not-false (r .result) (c .before .before .before .if1 .left) in
-    let small : Small w = λ i. omega (arith, c .before .before .before .before .before .before .before .shared-slice-known .given i) in
+    let small : Small w = λ i. omega (arith, c .before .before .before .before .before .before .before .shared-slice-known2 .given i) in
     let l = c .before .before .should-reclaim in
     rw (c .done2 .ensures) (leaves-low w t small false (sym (c .before .if2 .left) ∙ l .ensures))
 

@@ -24,13 +24,15 @@ boot-requires c κs = search needs
 same-length : tie.Need-same-length
 same-length c = search needs
 
+same-length-2 : tie.Need-same-length-2
+same-length-2 c = search needs
+
 returns : tie.Need-returns
 unfolding bootedWorld
 returns c =
-    let a = c .before .before .before .before .before .before .before .before .before .before .before .args in
-    let map = ap (λ (n : ℕ). usable n (a .length)) (sym (c .before .before .before .before .before .before .new2 .ensures)) in
-    rw (c .before .before .before .before .before .unbooted .ensures) at
-    (c .before .before .before .boot .ensures (usable (a .start) (a .length)) refl map .world)
+    let a = c .before .before .before .before .before .before .before .before .before .before .before .before .before .before .before .args in
+    let map = ap (λ (n : ℕ). usable n (a .bytes)) (sym (c .before .before .before .before .before .before .before .before .before .new2 .ensures)) in
+    rw (c .before .before .before .before .before .before .before .before .unbooted .ensures) at (c .before .before .before .before .before .boot .ensures .0 (usable (a .start) (a .bytes)) refl map .world)
 
 pub booted-spec : {M : Type 1} → statement M
 booted-spec =
@@ -42,4 +44,5 @@ booted-spec =
     unbooted-requires
     boot-requires
     same-length
+    same-length-2
     returns)

@@ -1,23 +1,24 @@
--- The state stays as it is, and the loans keep their lengths.
+-- The words stay as they are, and the other loans keep their lengths.
 use borrow.Author.Needs.{needs}
 use Prim.Native.Nat.{_-_, _<_, _^_}
 use mathlib.Core.Path.{_≡_}
 use native.Mathlib.Omega.{arith}
 use lib.ListN.{length}
 use Rattle.definition.specs.Calls.{Copy}
-use Rattle.exam.specs.Promise.{worldOf}
+use Rattle.exam.specs.Promise.{stateWith, worldOf}
 use Rattle.drivers.specs.Driving.{turn}
 use Rattle.drivers.proofs.Turns.{Onward, begun, ended, leaves-turn, onward, stopped}
 use Rattle.drivers.proofs.copy_all.Statement.{statement}
 use Rattle.drivers.proofs.copy_all.Tie as tie
 
 abbrev Inv-loop : tie.InvT-loop
-Inv-loop state records₀ memory₀ queue target source size times to from i₀ records memory i =
+Inv-loop counters words records₀ memory₀ queue target source size times to from i₀ records memory i =
     (times < 2 ^ 64) × (length records ≡ length records₀) × (length memory ≡ length memory₀)
-    × Onward (turn (Copy (to .0) 0 (from .0) 0 size)) times (worldOf state records₀ memory₀ queue) (worldOf state records memory queue) i
+    × Onward (turn (Copy (to .0) 0 (from .0) 0 size)) times (worldOf (stateWith counters words) records₀ memory₀ queue)
+    (worldOf (stateWith counters words) records memory queue) i
 
 abbrev μ-loop : tie.MeasureT-loop
-μ-loop state records₀ memory₀ queue target source size times to from i₀ records memory i = times - i
+μ-loop counters words records₀ memory₀ queue target source size times to from i₀ records memory i = times - i
 
 new-requires : tie.Need-new-requires Inv-loop μ-loop
 new-requires c κs = search needs
@@ -40,8 +41,8 @@ same-length-2 c = omega arith
 returns : tie.Need-returns Inv-loop μ-loop
 returns c =
     let u = c .before .before .before .before .before .before in
-    rw (u .before .before .before .before .before .before .new .ensures, u .before .before .before .before .before .new2 .ensures) at
-    (stopped (u .before .before .before .before .loop .inv .3) (u .before .before .before .loop-test .taken) (leaves-turn (u .copy .ensures)) (c .if1 .taken))
+    let t = u .before .before .before in
+    rw (t .before .before .before .new .ensures, t .before .before .new2 .ensures) at (stopped (t .before .loop .inv .3) (t .loop-test .taken) (leaves-turn (u .copy .ensures)) (c .if1 .taken))
 
 add-i : tie.Need-add-i Inv-loop μ-loop
 add-i c = omega arith
@@ -52,8 +53,8 @@ loop-less c = omega arith
 loop-again : tie.Need-loop-again Inv-loop μ-loop
 loop-again c =
     let u = c .before .before .before .before .before .before in
-    let o = onward (u .before .before .before .before .loop .inv .3) (u .before .before .before .loop-test .taken) (leaves-turn (u .copy .ensures)) (c .if1 .left) in
-    (omega arith, omega arith, omega arith, o)
+    let t = u .before .before .before in
+    (omega arith, omega arith, omega arith, onward (t .before .loop .inv .3) (t .loop-test .taken) (leaves-turn (u .copy .ensures)) (c .if1 .left))
 
 same-length-3 : tie.Need-same-length-3 Inv-loop μ-loop
 same-length-3 c = omega arith

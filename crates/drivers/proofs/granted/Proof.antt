@@ -13,8 +13,12 @@ same-length c = search needs
 same-length-2 : tie.Need-same-length-2
 same-length-2 c = search needs
 
+same-length-3 : tie.Need-same-length-3
+same-length-3 c = search needs
+
 returns : tie.Need-returns
-returns c = leaves-turn (c .before .before .before .before .alloc .ensures)
+returns c = leaves-turn (c .before .before .before .before .before .before .alloc .ensures .0)
 
 pub granted-spec : {M : Type 1} → statement M
-granted-spec = tie.close (tie.spec alloc-requires same-length same-length-2 returns)
+granted-spec =
+    tie.close (tie.spec alloc-requires same-length same-length-2 same-length-3 returns)

@@ -15,9 +15,19 @@ same-length c = search needs
 same-length-2 : tie.Need-same-length-2
 same-length-2 c = search needs
 
+same-length-3 : tie.Need-same-length-3
+same-length-3 c = search needs
+
 returns : tie.Need-returns
-returns c = rw (c .before .before .before .before .before .before .before .before .before .booted .ensures) (c .before .before .before .before .granted .ensures)
+returns c = let u = c .before .before .before .before .before .before in rw (u .before .before .before .before .before .before .before .before .booted .ensures) (u .granted .ensures)
 
 pub holding-spec : {M : Type 1} → statement M
 holding-spec =
-    tie.close (tie.spec booted-requires granted-requires same-length same-length-2 returns)
+    tie.close
+    (tie.spec
+    booted-requires
+    granted-requires
+    same-length
+    same-length-2
+    same-length-3
+    returns)

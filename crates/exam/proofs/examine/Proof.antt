@@ -10,7 +10,7 @@ use Rattle.definition.specs.Board.{standard}
 use Rattle.definition.specs.World.{decode}
 use Rattle.audit.proofs.Sheets.{sound-is}
 use Rattle.world.proofs.Leaving.{sound-sane, sound-table}
-use Rattle.exam.specs.Promise.{worldOf}
+use Rattle.exam.specs.Promise.{stateWith, worldOf}
 use Rattle.exam.proofs.Tests.{frame-seen}
 use Rattle.exam.proofs.examine.Statement.{statement}
 use Rattle.exam.proofs.examine.Tie as tie
@@ -23,7 +23,6 @@ nothing-seen-requires c κs = search needs
 
 returns : tie.Need-returns
 returns c memory queue a b =
-    let s = c .before .before .before .before in
     let r = c .before .before .is-sound in
     let e = sym (r .ensures memory queue a b) ∙ not-true (r .result) (c .before .if1 .taken) in
     record {
@@ -36,18 +35,20 @@ returns c memory queue a b =
 look-requires : tie.Need-look-requires
 look-requires c κs =
     let s = c .before .before .before .before in
-    let r = c .before .before .is-sound in
-    let m : List ℕ = replicate (s .args .memory-len) 0 in
-    let q : List ℕ = replicate (s .args .queue-len) 0 in
-    let t = sym (r .ensures m q (length-replicate (s .args .memory-len) 0) (length-replicate (s .args .queue-len) 0)) ∙ not-false (r .result) (c .before .if1 .left) in
-    sound-sane (worldOf (s .args .state) (s .args .records .now) m q) (sound-is standard (worldOf (s .args .state) (s .args .records .now) m q) t)
+    let a = s .args in
+    let r = c .before .is-sound in
+    let m : List ℕ = replicate (a .memory-len) 0 in
+    let q : List ℕ = replicate (a .queue-len) 0 in
+    let w = worldOf (stateWith (a .counters) (a .words .now)) (a .records .now) m q in
+    let t = sym (r .ensures m q (length-replicate (a .memory-len) 0) (length-replicate (a .queue-len) 0)) ∙ not-false (r .result) (c .if1 .left) in
+    (s .pre, sound-sane w (sound-is standard w t))
 
 returns-2 : tie.Need-returns-2
 returns-2 c memory queue a b =
     let s = c .before .before .before .before .before in
-    let r = c .before .before .before .is-sound in
-    let w = worldOf (s .args .state) (s .args .records .now) memory queue in
-    let t = sym (r .ensures memory queue a b) ∙ not-false (r .result) (c .before .before .if1 .left) in
+    let r = c .before .before .is-sound in
+    let w = worldOf (stateWith (s .args .counters) (s .args .words .now)) (s .args .records .now) memory queue in
+    let t = sym (r .ensures memory queue a b) ∙ not-false (r .result) (c .before .if1 .left) in
     let T = sound-table w (sound-is standard w t) in
     let l = c .look .ensures in
     record {

@@ -1,6 +1,7 @@
 -- What is seen at an address, for every allocator that the table stands for.
 use borrow.Author.Needs.{needs}
 use Rattle.definition.specs.World.{recordAt}
+use Rattle.words.specs.Words.{rowsIn}
 use Rattle.allocator.proofs.Standing.{sane-table, standing}
 use Rattle.exam.proofs.Tests.{sees-leveled}
 use Rattle.exam.proofs.look.Statement.{statement}
@@ -11,16 +12,17 @@ see-requires c κs = search needs
 
 refusal-requires : tie.Need-refusal-requires
 refusal-requires c κs =
-    let s = c .before .before in
-    sees-leveled (s .pre) (c .see .ensures (standing (recordAt (s .args .records .now)) (s .args .rows)) (sane-table (s .pre)))
+    let s = c .before .before .before in
+    sees-leveled (s .pre .1) (c .see .ensures (standing (recordAt (s .args .records .now)) (rowsIn (s .args .words .now))) (sane-table (s .pre .1)))
 
 returns : tie.Need-returns
 returns c =
-    let s = c .before .before .before in
+    let s = c .before .before .before .before in
+    let e = c .before .see .ensures in
     record {
       number = c .refusal .ensures;
-      leveled = sees-leveled (s .pre) (c .before .see .ensures (standing (recordAt (s .args .records .now)) (s .args .rows)) (sane-table (s .pre)));
-      sees = c .before .see .ensures;
+      leveled = sees-leveled (s .pre .1) (e (standing (recordAt (s .args .records .now)) (rowsIn (s .args .words .now))) (sane-table (s .pre .1)));
+      sees = e;
     }
 
 pub look-spec : {M : Type 1} → statement M

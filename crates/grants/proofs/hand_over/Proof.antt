@@ -9,8 +9,8 @@ use Rattle.grants.proofs.hand_over.Tie as tie
 
 zero-if-asked-requires : tie.Need-zero-if-asked-requires
 zero-if-asked-requires c κs =
-    let s = c .before .before .before .before in
-    let R = s .pre .0 .0 in
+    let s = c .before .before .before .before .before in
+    let R = s .pre .0 .1 in
     let I = s .pre .1 .0 in
     let H = s .pre .1 .1 in
     ((page-in I (R .sane), held-level I (R .sane) H), held-room I (R .sane) H (R .memory))
@@ -24,8 +24,8 @@ pages-at-requires c κs = search needs
 count-alloc-requires : tie.Need-count-alloc-requires
 count-alloc-requires c κs =
     let s = c .before .before .before .before .before .before .before .before .before .before .before .before .before in
-    let R = s .pre .0 .0 in
-    (omega (arith, R .kernel, c .pages-at .ensures, size-most (s .pre .0 .1)), omega (arith, R .page, c .pages-at .ensures, size-most (s .pre .0 .1)))
+    let R = s .pre .0 .1 in
+    (omega (arith, R .kernel, c .pages-at .ensures, size-most (s .pre .0 .2)), omega (arith, R .page, c .pages-at .ensures, size-most (s .pre .0 .2)))
 
 same-length : tie.Need-same-length
 same-length c = search needs
@@ -36,10 +36,7 @@ same-length-2 c = search needs
 returns : tie.Need-returns
 returns c = (
   rw (c .count-alloc .ensures, c .before .pages-at .ensures) refl,
-  (
-    c .before .before .before .before .before .before .before .before .before .zero-if-asked .ensures,
-    c .before .before .before .before .set-marks .ensures,
-  ),
+  (c .before .before .before .before .before .before .before .before .zero-if-asked .ensures, c .before .before .before .before .set-marks .ensures),
 )
 
 pub hand-over-spec : {M : Type 1} → statement M

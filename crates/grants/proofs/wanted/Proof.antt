@@ -11,7 +11,7 @@ use Rattle.definition.specs.World.{decode}
 use Rattle.audit.proofs.Sheets.{sound-is}
 use Rattle.level.proofs.Ranks.{rank-below}
 use Rattle.world.proofs.Leaving.{sound-sane, sound-table}
-use Rattle.exam.specs.Promise.{worldOf}
+use Rattle.exam.specs.Promise.{stateWith, worldOf}
 use Rattle.grants.proofs.Asking.{wants-found, wants-refused, wants-torn}
 use Rattle.grants.proofs.wanted.Statement.{statement}
 use Rattle.grants.proofs.wanted.Tie as tie
@@ -35,27 +35,26 @@ index-requires c κs = search needs
 
 is-listed-requires : tie.Need-is-listed-requires
 is-listed-requires c κs =
-    let i = c .before .before .before .before .before .before .before in
-    let s = i .before .before in
+    let i = c .before .before .before .before .before .before in
+    let s = i .before .before .before in
     let r = i .is-sound in
     let m : List ℕ = replicate (s .args .memory-len) 0 in
     let q : List ℕ = replicate (s .args .queue-len) 0 in
-    let t = sym (r .ensures m q (length-replicate (s .args .memory-len) 0) (length-replicate (s .args .queue-len) 0)) ∙ not-false (r .result) (c .before .before .before .before .before .before .if1 .left) in
-    let w = worldOf (s .args .state) (s .args .records .now) m q in
-    let x = c .before .index in
-    (sound-sane w (sound-is standard w t), omega (arith, x .ensures, rank-below (c .before .before .before .level .given .0 .0)))
+    let t = sym (r .ensures m q (length-replicate (s .args .memory-len) 0) (length-replicate (s .args .queue-len) 0)) ∙ not-false (r .result) (c .before .before .before .before .before .if1 .left) in
+    let w = worldOf (stateWith (s .args .counters) (s .args .words .now)) (s .args .records .now) m q in
+    ((s .pre, sound-sane w (sound-is standard w t)), omega (arith, c .index .ensures, rank-below (c .before .before .level .given .0 .0)))
 
 returns-2 : tie.Need-returns-2
 returns-2 c memory queue a b =
     let l = c .before in
-    let i = l .before .before .before .before .before .before .before .before in
-    let s = i .before .before in
+    let i = l .before .before .before .before .before .before .before in
+    let s = i .before .before .before in
     let r = i .is-sound in
-    let w = worldOf (s .args .state) (s .args .records .now) memory queue in
-    let t = sym (r .ensures memory queue a b) ∙ not-false (r .result) (l .before .before .before .before .before .before .before .if1 .left) in
-    let f = l .before .before .before .before .before .before .find-level in
-    let v = l .before .before .before .before .level .given in
-    wants-found t (v .0 .0) (sym (f .ensures (s .args .flags)) ∙ v .1) (l .before .before .index .ensures)
+    let w = worldOf (stateWith (s .args .counters) (s .args .words .now)) (s .args .records .now) memory queue in
+    let t = sym (r .ensures memory queue a b) ∙ not-false (r .result) (l .before .before .before .before .before .before .if1 .left) in
+    let f = l .before .before .before .before .before .find-level in
+    let v = l .before .before .before .level .given in
+    wants-found t (v .0 .0) (sym (f .ensures (s .args .flags)) ∙ v .1) (l .before .index .ensures)
     (l .is-listed .result) (l .is-listed .ensures (decode standard w .allocator) (sound-table w (sound-is standard w t)))
     (rw (c .if2 .taken) refl)
 
@@ -68,35 +67,35 @@ number-of-requires c κs = search needs
 returns-3 : tie.Need-returns-3
 returns-3 c memory queue a b =
     let l = c .before .before in
-    let i = l .before .before .before .before .before .before .before .before in
-    let s = i .before .before in
+    let i = l .before .before .before .before .before .before .before in
+    let s = i .before .before .before in
     let r = i .is-sound in
-    let w = worldOf (s .args .state) (s .args .records .now) memory queue in
-    let t = sym (r .ensures memory queue a b) ∙ not-false (r .result) (l .before .before .before .before .before .before .before .if1 .left) in
-    let f = l .before .before .before .before .before .before .find-level in
-    let v = l .before .before .before .before .level .given in
-    wants-found t (v .0 .0) (sym (f .ensures (s .args .flags)) ∙ v .1) (l .before .before .index .ensures)
+    let w = worldOf (stateWith (s .args .counters) (s .args .words .now)) (s .args .records .now) memory queue in
+    let t = sym (r .ensures memory queue a b) ∙ not-false (r .result) (l .before .before .before .before .before .before .if1 .left) in
+    let f = l .before .before .before .before .before .find-level in
+    let v = l .before .before .before .level .given in
+    wants-found t (v .0 .0) (sym (f .ensures (s .args .flags)) ∙ v .1) (l .before .index .ensures)
     (l .is-listed .result) (l .is-listed .ensures (decode standard w .allocator) (sound-table w (sound-is standard w t)))
     (rw (c .before .if2 .left, c .if3 .taken) refl)
 
 returns-4 : tie.Need-returns-4
 returns-4 c memory queue a b =
     let l = c .before .before in
-    let i = l .before .before .before .before .before .before .before .before in
-    let s = i .before .before in
+    let i = l .before .before .before .before .before .before .before in
+    let s = i .before .before .before in
     let r = i .is-sound in
-    let w = worldOf (s .args .state) (s .args .records .now) memory queue in
-    let t = sym (r .ensures memory queue a b) ∙ not-false (r .result) (l .before .before .before .before .before .before .before .if1 .left) in
-    let f = l .before .before .before .before .before .before .find-level in
-    let v = l .before .before .before .before .level .given in
-    wants-found t (v .0 .0) (sym (f .ensures (s .args .flags)) ∙ v .1) (l .before .before .index .ensures)
+    let w = worldOf (stateWith (s .args .counters) (s .args .words .now)) (s .args .records .now) memory queue in
+    let t = sym (r .ensures memory queue a b) ∙ not-false (r .result) (l .before .before .before .before .before .before .if1 .left) in
+    let f = l .before .before .before .before .before .find-level in
+    let v = l .before .before .before .level .given in
+    wants-found t (v .0 .0) (sym (f .ensures (s .args .flags)) ∙ v .1) (l .before .index .ensures)
     (l .is-listed .result) (l .is-listed .ensures (decode standard w .allocator) (sound-table w (sound-is standard w t)))
     (rw (c .before .if2 .left, c .if3 .left) refl)
 
 returns-5 : tie.Need-returns-5
 returns-5 c memory queue a b =
     let i = c .before .before .before .before .before .before in
-    let s = i .before .before in
+    let s = i .before .before .before in
     let r = i .is-sound in
     let t = sym (r .ensures memory queue a b) ∙ not-false (r .result) (c .before .before .before .before .before .if1 .left) in
     let f = c .before .before .before .before .find-level in

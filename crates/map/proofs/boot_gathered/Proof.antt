@@ -1,5 +1,5 @@
 -- What was gathered is the map's: its first eight entries and their number are all that a boot looks at.
-use mathlib.Core.Path.{_≡_, ap, sym, _∙_}
+use mathlib.Core.Path.{ap, sym, _∙_}
 use borrow.Author.Needs.{needs}
 use lib.ListN.{take}
 use Rattle.map.specs.declared.Gathered.{Gathered}
@@ -13,10 +13,17 @@ boot-requires c κs = search needs
 same-length : tie.Need-same-length
 same-length c = search needs
 
+same-length-2 : tie.Need-same-length-2
+same-length-2 c = search needs
+
 returns : tie.Need-returns
-returns c ms e =
-    c .before .before .boot .ensures ms (gathered-count ms ∙ ap (λ (g : Gathered). g .count) (sym e))
-    (gathered-front ms ∙ ap (λ (g : Gathered). take (g .count) (g .map)) (sym e))
+returns c =
+    let b = c .before .before .before .before .boot in (
+      λ ms e.
+          b .ensures .0 ms (gathered-count ms ∙ ap (λ (g : Gathered). g .count) (sym e))
+          (gathered-front ms ∙ ap (λ (g : Gathered). take (g .count) (g .map)) (sym e)),
+      b .ensures .1,
+    )
 
 pub boot-gathered-spec : {M : Type 1} → statement M
-boot-gathered-spec = tie.close (tie.spec boot-requires same-length returns)
+boot-gathered-spec = tie.close (tie.spec boot-requires same-length same-length-2 returns)

@@ -2,7 +2,8 @@
 use mathlib.Core.Path.{refl}
 use native.Mathlib.Omega.{arith}
 use borrow.Author.Needs.{needs}
-use Rattle.exam.specs.Promise.{worldOf}
+use Rattle.words.proofs.Words.{beside-same}
+use Rattle.exam.specs.Promise.{stateWith, worldOf}
 use Rattle.exam.proofs.Promises.{examined-held}
 use Rattle.reclaim.proofs.Queueing.{queue-done, queue-full, queue-kept}
 use Rattle.reclaim.proofs.queue.Statement.{statement}
@@ -14,24 +15,37 @@ examine-requires c κs = search needs
 refused-requires : tie.Need-refused-requires
 refused-requires c κs = search needs
 
+same-length : tie.Need-same-length
+same-length c = search needs
+
 returns : tie.Need-returns
 returns c =
-    let s = c .before .before .before .before .before .before in
+    let s = c .before .before .before .before .before .before .before .before in
     let x = c .before .before .examine in
-    let w = worldOf (s .args .state) (s .args .records .now) (s .args .memory .now) (s .args .queue .now) in
-    rw (c .refused .ensures)
-    (queue-kept w (s .args .pa .0) (x .result) (x .ensures (s .args .memory .now) (s .args .queue .now) refl refl) (λ i. omega (arith, c .before .before .before .before .before .shared-slice-known .given i)) (λ z. omega (arith, c .before .if1 .taken)))
+    let w = worldOf (stateWith (s .args .counters) (s .args .words .now)) (s .args .records .now) (s .args .memory .now) (s .args .queue .now) in (
+      rw (c .refused .ensures)
+          (queue-kept w (s .args .pa .0) (x .result) (x .ensures (s .args .memory .now) (s .args .queue .now) refl refl) (λ i. omega (arith, c .before .before .before .before .before .before .shared-slice-known .given i)) (λ z. omega (arith, c .before .if1 .taken))),
+      beside-same,
+    )
+
+queued-in-requires : tie.Need-queued-in-requires
+queued-in-requires c κs = search needs
 
 refused-requires-2 : tie.Need-refused-requires-2
 refused-requires-2 c κs = search needs
 
+same-length-2 : tie.Need-same-length-2
+same-length-2 c = search needs
+
 returns-2 : tie.Need-returns-2
 returns-2 c =
-    let s = c .before .before .before .before .before .before .before in
-    let x = c .before .before .before .examine in
-    let w = worldOf (s .args .state) (s .args .records .now) (s .args .memory .now) (s .args .queue .now) in
-    rw (c .refused2 .ensures)
-    (queue-full w (s .args .pa .0) (x .result) (x .ensures (s .args .memory .now) (s .args .queue .now) refl refl) (λ i. omega (arith, c .before .before .before .before .before .before .shared-slice-known .given i)) (omega (arith, c .before .before .if1 .left)) (omega (arith, c .before .if2 .taken)))
+    let s = c .before .before .before .before .before .before .before .before .before .before .before in
+    let x = c .before .before .before .before .before .examine in
+    let w = worldOf (stateWith (s .args .counters) (s .args .words .now)) (s .args .records .now) (s .args .memory .now) (s .args .queue .now) in (
+      rw (c .refused2 .ensures)
+          (queue-full w (s .args .pa .0) (x .result) (x .ensures (s .args .memory .now) (s .args .queue .now) refl refl) (λ i. omega (arith, c .before .before .before .before .before .before .before .before .before .shared-slice-known .given i)) (omega (arith, c .before .before .before .before .if1 .left)) (omega (arith, c .before .if2 .taken, c .before .before .queued-in .ensures))),
+      beside-same,
+    )
 
 raw-requires : tie.Need-raw-requires
 raw-requires c κs = search needs
@@ -42,31 +56,42 @@ mul-queue c = search needs
 slice-write-queue : tie.Need-slice-write-queue
 slice-write-queue c = search needs
 
-add-next : tie.Need-add-next
-add-next c = search needs
+add-put-queued : tie.Need-add-put-queued
+add-put-queued c = search needs
+
+put-queued-requires : tie.Need-put-queued-requires
+put-queued-requires c κs = search needs
 
 raw-requires-2 : tie.Need-raw-requires-2
 raw-requires-2 c κs = search needs
 
 frame-bytes-requires : tie.Need-frame-bytes-requires
 frame-bytes-requires c κs e =
-    let s = c .before .before .before .before .before .before .before .before in
-    let x = c .before .before .before .before .examine in
-    examined-held (x .ensures (s .args .memory .now) (s .args .queue .now) refl refl) (omega (arith, c .before .before .before .if1 .left)) .leveled
+    let s = c .before .before .before .before .before .before .before .before .before .before .before .before .before .before .before .before in
+    let x = c .before .before .before .before .before .before .before .before .before .before .examine in
+    let w = worldOf (stateWith (s .args .counters) (s .args .words .now)) (s .args .records .now) (s .args .memory .now) (s .args .queue .now) in
+    examined-held {w = w} (x .ensures (s .args .memory .now) (s .args .queue .now) refl refl) (omega (arith, c .before .before .before .before .before .before .before .before .before .if1 .left)) .leveled
 
 done-requires : tie.Need-done-requires
 done-requires c κs = search needs
 
-same-length : tie.Need-same-length
-same-length c = search needs
+same-length-3 : tie.Need-same-length-3
+same-length-3 c = search needs
+
+same-length-4 : tie.Need-same-length-4
+same-length-4 c = search needs
 
 returns-3 : tie.Need-returns-3
 returns-3 c =
-    let s = c .before .before .before .before .before .before .before .before .before .before in
-    let x = c .before .before .before .before .before .before .examine in
-    let w = worldOf (s .args .state) (s .args .records .now) (s .args .memory .now) (s .args .queue .now) in
-    rw (c .done .ensures, c .before .frame-bytes .ensures, c .before .before .raw2 .ensures, c .before .before .before .raw .ensures)
-    (queue-done w (s .args .pa .0) (x .result) (x .ensures (s .args .memory .now) (s .args .queue .now) refl refl) (λ i. omega (arith, c .before .before .before .before .before .before .before .before .before .shared-slice-known .given i)) (omega (arith, c .before .before .before .before .before .if1 .left)) (omega (arith, c .before .before .before .before .if2 .left)))
+    let s = c .before .before .before .before .before .before .before .before .before .before .before .before .before .before .before .before .before .before in
+    let x = c .before .before .before .before .before .before .before .before .before .before .before .before .examine in
+    let w = worldOf (stateWith (s .args .counters) (s .args .words .now)) (s .args .records .now) (s .args .memory .now) (s .args .queue .now) in
+    let l = c .before .before .before .before .before .before .before .before .before .queued-in .ensures in
+    let Q = c .before .before .before .before .before .put-queued .ensures in (
+      rw (c .done .ensures, c .before .frame-bytes .ensures, c .before .before .raw2 .ensures, c .before .before .before .before .before .before .before .raw .ensures, Q .rows, Q .queued, Q .pass, l)
+          (queue-done w (s .args .pa .0) (x .result) (x .ensures (s .args .memory .now) (s .args .queue .now) refl refl) (λ i. omega (arith, c .before .before .before .before .before .before .before .before .before .before .before .before .before .before .before .before .shared-slice-known .given i)) (omega (arith, c .before .before .before .before .before .before .before .before .before .before .before .if1 .left)) (omega (arith, c .before .before .before .before .before .before .before .before .if2 .left, l))),
+      Q .beside,
+    )
 
 pub queue-spec : {M : Type 1} → statement M
 queue-spec =
@@ -74,15 +99,20 @@ queue-spec =
     (tie.spec
     examine-requires
     refused-requires
+    same-length
     returns
+    queued-in-requires
     refused-requires-2
+    same-length-2
     returns-2
     raw-requires
     mul-queue
     slice-write-queue
-    add-next
+    add-put-queued
+    put-queued-requires
     raw-requires-2
     frame-bytes-requires
     done-requires
-    same-length
+    same-length-3
+    same-length-4
     returns-3)

@@ -22,14 +22,14 @@ loop-holds : tie.Need-loop-holds Inv-loop μ-loop
 unfolding all range
 loop-holds c = (search needs, refl)
 
-mul-walk : tie.Need-mul-walk Inv-loop μ-loop
-mul-walk c = search needs
+mul-is-list : tie.Need-mul-is-list Inv-loop μ-loop
+mul-is-list c = search needs
 
-array-copy-out-walk : tie.Need-array-copy-out-walk Inv-loop μ-loop
-array-copy-out-walk c = search needs
+array-copy-out-is-list : tie.Need-array-copy-out-is-list Inv-loop μ-loop
+array-copy-out-is-list c = search needs
 
-walk-requires : tie.Need-walk-requires Inv-loop μ-loop
-walk-requires c κs = search needs
+is-list-requires : tie.Need-is-list-requires Inv-loop μ-loop
+is-list-requires c κs = search needs
 
 add-k : tie.Need-add-k Inv-loop μ-loop
 add-k c = search needs
@@ -44,7 +44,7 @@ loop-again c =
     let s = c .before .before .before .before .loop in
     let z : 0 + s .k ≡ s .k = omega arith in (
       search needs,
-      range-last t 0 (s .k) ∙ rw (z, s .inv .1, ← c .before .walk .ensures) (c .if1 .taken),
+      range-last t 0 (s .k) ∙ rw (z, s .inv .1, ← c .before .is-list .ensures) (c .if1 .taken),
     )
 
 returns : tie.Need-returns Inv-loop μ-loop
@@ -52,7 +52,7 @@ returns c =
     let a = c .before .before .before .before .before .before .before .args in
     let t = listAt (recordAt (a .records .now)) (a .base) (a .past) (a .row .lists) in
     let s = c .before .before .before .before .loop in
-    refuse (λ q. false≢true (sym (sym (c .before .walk .ensures) ∙ c .if1 .left) ∙ range-in t 0 6 q (s .k) (omega arith) (omega arith)))
+    refuse (λ q. false≢true (sym (sym (c .before .is-list .ensures) ∙ c .if1 .left) ∙ range-in t 0 6 q (s .k) (omega arith) (omega arith)))
 
 returns-2 : tie.Need-returns-2 Inv-loop μ-loop
 returns-2 c =
@@ -69,9 +69,9 @@ all-walk-spec =
     Inv-loop
     μ-loop
     loop-holds
-    mul-walk
-    array-copy-out-walk
-    walk-requires
+    mul-is-list
+    array-copy-out-is-list
+    is-list-requires
     add-k
     loop-less
     loop-again

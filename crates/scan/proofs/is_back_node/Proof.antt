@@ -1,25 +1,26 @@
--- `is_back_node` meets its contract: the neighbour is looked at where the page is on the list.
+-- `is_back_node` meets its contract: the neighbour is looked at where the page is such a frame.
 use mathlib.Core.Path.{sym, _∙_}
+use Prim.Native.Nat.{_≤_, _<_}
 use native.Mathlib.Omega.{arith}
 use borrow.Author.Needs.{needs}
 use Rattle.definition.specs.World.{recordAt}
-use Rattle.scan.proofs.Nodes.{On, on-facts}
+use Rattle.scan.proofs.Marks.{kind-place}
 use Rattle.scan.proofs.is_back_node.Statement.{statement}
 use Rattle.scan.proofs.is_back_node.Tie as tie
 
 is-on-requires : tie.Need-is-on-requires
 is-on-requires c κs = search needs
 
-on : (c : tie.Then1) → let a = c .before .before .before .args in On (recordAt (a .records .now)) (a .base) (a .past) (a .k) (a .at)
-on c =
+place : (c : tie.Then1) → let a = c .before .before .before .args in (a .base < a .at) × (a .at ≤ a .past)
+place c =
     let a = c .before .before .before .args in
-    on-facts (recordAt (a .records .now)) (a .base) (a .past) (a .k) (a .at) (sym (c .before .is-on .ensures) ∙ c .if1 .taken)
+    kind-place (recordAt (a .records .now)) (a .base) (a .past) (a .kind) (a .at) (sym (c .before .is-on .ensures) ∙ c .if1 .taken)
 
 sub-later : tie.Need-sub-later
-sub-later c = let d = on c in omega arith
+sub-later c = let d = place c in omega arith
 
 later-requires : tie.Need-later-requires
-later-requires c κs = let d = on c in omega arith
+later-requires c κs = let d = place c in omega arith
 
 returns : tie.Need-returns
 returns c = sym (rw (← c .before .before .is-on .ensures, c .before .if1 .taken, ← c .later .ensures))

@@ -7,7 +7,9 @@ use Rattle.definition.specs.Board.{standard}
 use Rattle.definition.specs.Allocator.{first}
 use Rattle.definition.specs.World.{recordAt, bareRegion}
 use Rattle.definition.specs.Torn.{past as pastOf}
+use Rattle.definition.proofs.Tests.{and-left}
 use Rattle.scan.specs.Sheet.{placedAt, Tallied}
+use Rattle.scan.proofs.Heads.{tiled-marked}
 use Rattle.scan.proofs.Rows.{torn-heads, torn-pages, by-lists, placed-tally, placed-walks}
 use Rattle.scan.proofs.region_whole.Statement.{statement}
 use Rattle.scan.proofs.region_whole.Tie as tie
@@ -43,7 +45,12 @@ sub-if2-3 : tie.Need-sub-if2-3
 sub-if2-3 c = let t = tally (c .before .before .before .before) .few (c .before .before .before .if1 .taken) in omega arith
 
 all-walk-requires : tie.Need-all-walk-requires
-all-walk-requires c κs = search needs
+all-walk-requires c κs =
+    let s = c .before .before .before .before .before in
+    let a = s .before .before .args in
+    let f = recordAt (a .records .now) in
+    let t = sym (s .scan .ensures .exact) ∙ c .before .before .before .before .if1 .taken in
+    (omega arith, tiled-marked f (a .from) (a .base) (a .past) (and-left _ _ t))
 
 returns : tie.Need-returns
 returns c =

@@ -12,7 +12,7 @@ use Rattle.definition.proofs.Tests.{and-true}
 use Rattle.scan.specs.Sheet.{headAt}
 use Rattle.scan.proofs.Heads.{head-facts, none-pages, pages-small, pages-some, some-pages}
 use Rattle.scan.proofs.Tallies.{alone-free, alone-held, held-free, held-kernel, held-page}
-use Rattle.scan.proofs.Scanning.{Scanning, scan-start, scan-turn, scan-bad, scan-done}
+use Rattle.scan.proofs.Scanning.{Scanning, scan-start, scan-turn, scan-free, scan-bad, scan-done}
 use Rattle.scan.proofs.scan.Statement.{statement}
 use Rattle.scan.proofs.scan.Tie as tie
 
@@ -23,21 +23,21 @@ abbrev μ-loop : tie.MeasureT-loop
 μ-loop records from base past page₀ kernel₀ at₀ page kernel at = past - at
 
 -- a head that passed
-is-head : (c : tie.Else1 Inv-loop μ-loop) → let a = c .before .before .before .before .before .args in
-    headAt (recordAt (a .records .now)) (a .from) (a .base) (a .past) (c .before .before .before .loop .at) ≡ true
+is-head : (c : tie.Else2 Inv-loop μ-loop) → let a = c .before .before .before .before .before .before .before .args in
+    headAt (recordAt (a .records .now)) (a .from) (a .base) (a .past) (c .before .before .before .before .before .loop .at) ≡ true
 is-head c =
-    let a = c .before .before .before .before .before .args in
-    some-pages (recordAt (a .records .now)) (a .from) (a .base) (a .past) (c .before .before .before .loop .at)
-    (λ z. c .if1 .left (c .before .head-pages .ensures ∙ z))
+    let a = c .before .before .before .before .before .before .before .args in
+    some-pages (recordAt (a .records .now)) (a .from) (a .base) (a .past) (c .before .before .before .before .before .loop .at)
+    (λ z. c .if2 .left (c .before .head-pages .ensures ∙ z))
 
 -- its pages
-room : (c : tie.Else1 Inv-loop μ-loop) → let a = c .before .before .before .before .before .args in
-    let at = c .before .before .before .loop .at in
+room : (c : tie.Else2 Inv-loop μ-loop) → let a = c .before .before .before .before .before .before .before .args in
+    let at = c .before .before .before .before .before .loop .at in
     let pages = c .before .head-pages .result in
     (0 < pages) × (at + pages ≤ a .past) × (pages ≡ pagesOfRecord (recordAt (a .records .now) at))
 room c =
-    let a = c .before .before .before .before .before .args in
-    let at = c .before .before .before .loop .at in
+    let a = c .before .before .before .before .before .before .before .args in
+    let at = c .before .before .before .before .before .loop .at in
     let f = recordAt (a .records .now) in
     let d = head-facts f (a .from) (a .base) (a .past) at (is-head c) in
     let q = c .before .head-pages .ensures ∙ sym (pages-some f (a .from) (a .base) (a .past) at (is-head c)) in
@@ -48,6 +48,22 @@ loop-holds c =
     let a = c .before .args in
     scan-start (recordAt (a .records .now)) (a .from) (a .base) (a .past) (omega arith)
 
+is-free-page-requires : tie.Need-is-free-page-requires Inv-loop μ-loop
+is-free-page-requires c κs = search needs
+
+add-at : tie.Need-add-at Inv-loop μ-loop
+add-at c = search needs
+
+loop-less : tie.Need-loop-less Inv-loop μ-loop
+loop-less c = search needs
+
+loop-again : tie.Need-loop-again Inv-loop μ-loop
+loop-again c =
+    let a = c .before .before .before .before .before .args in
+    let s = c .before .before .before .loop in
+    scan-free (recordAt (a .records .now)) (a .from) (a .base) (a .past) (s .page) (s .kernel) (s .at)
+    (s .inv) (omega arith) (sym (c .before .is-free-page .ensures) ∙ c .if1 .taken)
+
 head-pages-requires : tie.Need-head-pages-requires Inv-loop μ-loop
 head-pages-requires c κs = search needs
 
@@ -56,10 +72,10 @@ torn-scan-requires c κs = search needs
 
 returns : tie.Need-returns Inv-loop μ-loop
 returns c =
-    let a = c .before .before .before .before .before .before .args in
-    let s = c .before .before .before .before .loop in
+    let a = c .before .before .before .before .before .before .before .before .args in
+    let s = c .before .before .before .before .before .before .loop in
     let f = recordAt (a .records .now) in
-    let n = none-pages f (a .from) (a .base) (a .past) (s .at) (sym (c .before .before .head-pages .ensures) ∙ c .before .if1 .taken) in
+    let n = none-pages f (a .from) (a .base) (a .past) (s .at) (sym (c .before .before .head-pages .ensures) ∙ c .before .if2 .taken) in
     scan-bad f (a .from) (a .base) (a .past) (s .page) (s .kernel) (s .at) (c .torn-scan .result)
     (s .inv) (omega arith) (rw n) (c .torn-scan .ensures)
 
@@ -78,11 +94,11 @@ torn-scan-requires-2 c κs = search needs
 returns-2 : tie.Need-returns-2 Inv-loop μ-loop
 returns-2 c =
     let m = c .before .before .before .before .before in
-    let a = m .before .before .before .before .before .before .args in
-    let s = m .before .before .before .before .loop in
+    let a = m .before .before .before .before .before .before .before .before .args in
+    let s = m .before .before .before .before .before .before .loop in
     let f = recordAt (a .records .now) in
-    let h = sym (c .before .before .before .before .is-allocated .ensures) ∙ c .before .before .before .if2 .taken in
-    let n = alone-held (f (s .at)) _ (m .marks .ensures) h ∙ sym (c .before .before .is-alone .ensures) ∙ not-true _ (c .before .if3 .taken) in
+    let h = sym (c .before .before .before .before .is-allocated .ensures) ∙ c .before .before .before .if3 .taken in
+    let n = alone-held (f (s .at)) _ (m .marks .ensures) h ∙ sym (c .before .before .is-alone .ensures) ∙ not-true _ (c .before .if4 .taken) in
     scan-bad f (a .from) (a .base) (a .past) (s .page) (s .kernel) (s .at) (c .torn-scan2 .result)
     (s .inv) (omega arith) (rw (is-head (m .before), n)) (c .torn-scan2 .ensures)
 
@@ -92,43 +108,43 @@ is-kernel-requires c κs = search needs
 add-kernel : tie.Need-add-kernel Inv-loop μ-loop
 add-kernel c =
     let r = room (c .before .before .before .before .before .before .before) in
-    omega (arith, c .before .before .before .before .before .before .before .before .before .before .loop .inv .few)
+    omega (arith, c .before .before .before .before .before .before .before .before .before .before .before .before .loop .inv .few)
 
 add-page : tie.Need-add-page Inv-loop μ-loop
 add-page c =
     let r = room (c .before .before .before .before .before .before .before) in
-    omega (arith, c .before .before .before .before .before .before .before .before .before .before .loop .inv .few)
+    omega (arith, c .before .before .before .before .before .before .before .before .before .before .before .before .loop .inv .few)
 
-add-at : tie.Need-add-at Inv-loop μ-loop
-add-at c = let r = room (c .before .before .before) in omega arith
+add-at-2 : tie.Need-add-at-2 Inv-loop μ-loop
+add-at-2 c = let r = room (c .before .before .before) in omega arith
 
-loop-less : tie.Need-loop-less Inv-loop μ-loop
-loop-less c = let r = room (c .before .before .before) in omega arith
+loop-less-2 : tie.Need-loop-less-2 Inv-loop μ-loop
+loop-less-2 c = let r = room (c .before .before .before) in omega arith
 
 -- a turn, once it is known what the head adds
-turn : (c : tie.Joined2 Inv-loop μ-loop) → let m = c .before .before in
-    let a = m .before .before .before .before .before .before .args in
-    let s = m .before .before .before .before .loop in
+turn : (c : tie.Joined3 Inv-loop μ-loop) → let m = c .before .before in
+    let a = m .before .before .before .before .before .before .before .before .args in
+    let s = m .before .before .before .before .before .before .loop in
     let r = recordAt (a .records .now) (s .at) in
     aloneIfHeld r ≡ true
-    → c .if2 .page ≡ s .page + heldAs false r
-    → c .if2 .kernel ≡ s .kernel + heldAs true r
+    → c .if3 .page ≡ s .page + heldAs false r
+    → c .if3 .kernel ≡ s .kernel + heldAs true r
     → heldAs false r + heldAs true r ≤ pagesOfRecord r
-    → Scanning (recordAt (a .records .now)) (a .from) (a .base) (a .past) (c .if2 .page) (c .if2 .kernel) (s .at + m .before .before .head-pages .result)
+    → Scanning (recordAt (a .records .now)) (a .from) (a .base) (a .past) (c .if3 .page) (c .if3 .kernel) (s .at + m .before .before .head-pages .result)
 turn c l p k most =
     let m = c .before .before in
-    let a = m .before .before .before .before .before .before .args in
-    let s = m .before .before .before .before .loop in
+    let a = m .before .before .before .before .before .before .before .before .args in
+    let s = m .before .before .before .before .before .before .loop in
     let r = room (m .before) in
     scan-turn (recordAt (a .records .now)) (a .from) (a .base) (a .past) (s .page) (s .kernel) (s .at)
-    (m .before .before .head-pages .result) (c .if2 .page) (c .if2 .kernel)
+    (m .before .before .head-pages .result) (c .if3 .page) (c .if3 .kernel)
     (s .inv) (omega arith) (and-true (is-head (m .before)) l) (r .2) (r .1) p k (omega arith)
 
-loop-again : tie.Need-loop-again Inv-loop μ-loop
-loop-again c =
+loop-again-2 : tie.Need-loop-again-2 Inv-loop μ-loop
+loop-again-2 c =
     let m = c .before .before in
-    let a = m .before .before .before .before .before .before .args in
-    let s = m .before .before .before .before .loop in
+    let a = m .before .before .before .before .before .before .before .before .args in
+    let s = m .before .before .before .before .before .before .loop in
     let r = recordAt (a .records .now) (s .at) in
     let o = room (m .before) in
     let i = c .before .is-allocated in
@@ -147,7 +163,7 @@ loop-again c =
     let p = held-free r _ (m .marks .ensures) h false in
     let k = held-free r _ (m .marks .ensures) h true in
     turn c (alone-free r _ (m .marks .ensures) h) (omega (arith, w .1)) (omega (arith, w .2)) (omega arith)))
-    (c .if2 .came)
+    (c .if3 .came)
 
 returns-3 : tie.Need-returns-3 Inv-loop μ-loop
 returns-3 c =
@@ -162,6 +178,10 @@ scan-spec =
     Inv-loop
     μ-loop
     loop-holds
+    is-free-page-requires
+    add-at
+    loop-less
+    loop-again
     head-pages-requires
     torn-scan-requires
     returns
@@ -173,7 +193,7 @@ scan-spec =
     is-kernel-requires
     add-kernel
     add-page
-    add-at
-    loop-less
-    loop-again
+    add-at-2
+    loop-less-2
+    loop-again-2
     returns-3)

@@ -11,30 +11,46 @@ use Rattle.definition.specs.World.{recordAt}
 use Rattle.definition.proofs.Tests.{and-left}
 use Rattle.scan.specs.Sheet.{nodeAt, backNodeAt, walksAt}
 use Rattle.scan.proofs.Nodes.{On, on-facts, node-facts}
+use Rattle.scan.proofs.Marks.{kind-node, kind-back}
 use Rattle.scan.proofs.Ends.{between, walks-between, between-none, between-one, between-two}
 use Rattle.scan.proofs.walk.Statement.{statement}
 use Rattle.scan.proofs.walk.Tie as tie
 
 abbrev Inv-loop : tie.InvT-loop
-Inv-loop records base past k prev₀ at₀ next₀ last₀ left₀ prev at next last left =
+Inv-loop records base past k kind prev₀ at₀ next₀ last₀ left₀ prev at next last left =
     (at < 4294967296)
     × (last < 4294967296)
     × (walksAt (recordAt records) base past k left₀ 0 at₀ last₀ ≡ between (recordAt records) base past k left prev at next last)
 
 abbrev μ-loop : tie.MeasureT-loop
-μ-loop records base past k prev₀ at₀ next₀ last₀ left₀ prev at next last left = left
+μ-loop records base past k kind prev₀ at₀ next₀ last₀ left₀ prev at next last left = left
+
+list-kind-requires : tie.Need-list-kind-requires Inv-loop μ-loop
+list-kind-requires c κs = search needs
 
 loop-holds : tie.Need-loop-holds Inv-loop μ-loop
 loop-holds c =
-    let a = c .before .args in
+    let a = c .before .before .args in
     (search needs, search needs, walks-between (recordAt (a .records .now)) (a .base) (a .past) (a .k) (a .links .count) 0 (a .links .front) (a .links .back))
 
 is-node-requires : tie.Need-is-node-requires Inv-loop μ-loop
 is-node-requires c κs = search needs
 
+-- each test, by the number of the list, is that of the sheet
+front : (c : tie.After-is-node Inv-loop μ-loop)
+    → let a = c .before .before .before .before .before .args in
+    let s = c .before .before .loop in
+    c .is-node .result ≡ nodeAt (recordAt (a .records .now)) (a .base) (a .past) (a .k) (s .prev) (s .at)
+front c =
+    let e = c .before .before .before in
+    let a = e .before .before .args in
+    let s = c .before .before .loop in
+    c .is-node .ensures
+    ∙ kind-node (recordAt (a .records .now)) (a .base) (a .past) (a .k) (e .before .before .pre .1) (e .list-kind .result) (s .prev) (s .at) (e .list-kind .ensures)
+
 -- a node off each end
 step : (c : tie.In-loop Inv-loop μ-loop)
-    → let a = c .before .before .before .args in
+    → let a = c .before .before .before .before .args in
     let s = c .before .loop in
     let f = recordAt (a .records .now) in
     walksAt f (a .base) (a .past) (a .k) (a .links .count) 0 (a .links .front) (a .links .back)
@@ -42,43 +58,55 @@ step : (c : tie.In-loop Inv-loop μ-loop)
     && (backNodeAt f (a .base) (a .past) (a .k) (s .last) (s .next)
     && between f (a .base) (a .past) (a .k) (s .left - 2) (s .at) (f (s .at - 1) .later) (s .last) (f (s .last - 1) .earlier)))
 step c =
-    let a = c .before .before .before .args in
+    let a = c .before .before .before .before .args in
     let s = c .before .loop in
     s .inv .2 ∙ between-two (recordAt (a .records .now)) (a .base) (a .past) (a .k) (s .left) (s .prev) (s .at) (s .next) (s .last) (omega arith)
 
 returns : tie.Need-returns Inv-loop μ-loop
-returns c = let d = c .before .is-node in sym (step (c .before .before) ∙ rw (← d .ensures, not-true (d .result) (c .if1 .taken)))
+returns c = let d = c .before in sym (step (d .before) ∙ rw (← front d, not-true (d .is-node .result) (c .if1 .taken)))
 
 is-back-node-requires : tie.Need-is-back-node-requires Inv-loop μ-loop
 is-back-node-requires c κs = search needs
 
+back : (c : tie.After-is-back-node Inv-loop μ-loop)
+    → let a = c .before .before .before .before .before .before .before .args in
+    let s = c .before .before .before .before .loop in
+    c .is-back-node .result ≡ backNodeAt (recordAt (a .records .now)) (a .base) (a .past) (a .k) (s .last) (s .next)
+back c =
+    let e = c .before .before .before .before .before in
+    let a = e .before .before .args in
+    let s = c .before .before .before .before .loop in
+    c .is-back-node .ensures
+    ∙ kind-back (recordAt (a .records .now)) (a .base) (a .past) (a .k) (e .before .before .pre .1) (e .list-kind .result) (s .last) (s .next) (e .list-kind .ensures)
+
 returns-2 : tie.Need-returns-2 Inv-loop μ-loop
 returns-2 c =
-    let d = c .before .before .before .is-node in
-    let e = c .before .is-back-node in
+    let d = c .before .before .before in
+    let e = c .before in
     sym
-    (step (c .before .before .before .before)
-    ∙ rw (← d .ensures, not-false (d .result) (c .before .before .if1 .left), ← e .ensures, not-true (e .result) (c .if2 .taken)))
+    (step (d .before)
+    ∙ rw (← front d, not-false (d .is-node .result) (c .before .before .if1 .left), ← back e, not-true (e .is-back-node .result) (c .if2 .taken)))
 
 front-on : (c : tie.Else2 Inv-loop μ-loop)
-    → let a = c .before .before .before .before .before .before .before .args in
+    → let a = c .before .before .before .before .before .before .before .before .args in
     On (recordAt (a .records .now)) (a .base) (a .past) (a .k) (c .before .before .before .before .before .loop .at)
 front-on c =
-    let a = c .before .before .before .before .before .before .before .args in
+    let a = c .before .before .before .before .before .before .before .before .args in
     let s = c .before .before .before .before .before .loop in
-    let d = c .before .before .before .is-node in
-    node-facts (recordAt (a .records .now)) (a .base) (a .past) (a .k) (s .prev) (s .at) (sym (d .ensures) ∙ not-false (d .result) (c .before .before .if1 .left))
+    let d = c .before .before .before in
+    node-facts (recordAt (a .records .now)) (a .base) (a .past) (a .k) (s .prev) (s .at)
+    (sym (front d) ∙ not-false (d .is-node .result) (c .before .before .if1 .left))
 
 back-on : (c : tie.Else2 Inv-loop μ-loop)
-    → let a = c .before .before .before .before .before .before .before .args in
+    → let a = c .before .before .before .before .before .before .before .before .args in
     On (recordAt (a .records .now)) (a .base) (a .past) (a .k) (c .before .before .before .before .before .loop .last)
 back-on c =
-    let a = c .before .before .before .before .before .before .before .args in
+    let a = c .before .before .before .before .before .before .before .before .args in
     let s = c .before .before .before .before .before .loop in
     let f = recordAt (a .records .now) in
-    let d = c .before .is-back-node in
+    let d = c .before in
     on-facts f (a .base) (a .past) (a .k) (s .last)
-    (and-left _ (eqb (f (s .last - 1) .later) (s .next)) (sym (d .ensures) ∙ not-false (d .result) (c .if2 .left)))
+    (and-left _ (eqb (f (s .last - 1) .later) (s .next)) (sym (back d) ∙ not-false (d .is-back-node .result) (c .if2 .left)))
 
 cast-later : tie.Need-cast-later Inv-loop μ-loop
 cast-later c = search needs
@@ -103,16 +131,16 @@ loop-less c = search needs
 
 loop-again : tie.Need-loop-again Inv-loop μ-loop
 loop-again c =
-    let d = c .before .before .before .before .before .is-node in
-    let e = c .before .before .before .is-back-node in (
+    let d = c .before .before .before .before .before in
+    let e = c .before .before .before in (
       search needs,
       search needs,
-      step (c .before .before .before .before .before .before)
+      step (d .before)
           ∙ rw (
-            ← d .ensures,
-            not-false (d .result) (c .before .before .before .before .if1 .left),
-            ← e .ensures,
-            not-false (e .result) (c .before .before .if2 .left),
+            ← front d,
+            not-false (d .is-node .result) (c .before .before .before .before .if1 .left),
+            ← back e,
+            not-false (e .is-back-node .result) (c .before .before .if2 .left),
             ← c .before .later .ensures,
             ← c .earlier .ensures,
           ),
@@ -123,27 +151,38 @@ is-node-requires-2 c κs = search needs
 
 -- the one node that is left
 one : (c : tie.Then3 Inv-loop μ-loop)
-    → let a = c .before .before .before .before .args in
+    → let a = c .before .before .before .before .before .args in
     let s = c .before .before .loop in
     let f = recordAt (a .records .now) in
     walksAt f (a .base) (a .past) (a .k) (a .links .count) 0 (a .links .front) (a .links .back)
     ≡ (nodeAt f (a .base) (a .past) (a .k) (s .prev) (s .at) && (eqb (f (s .at - 1) .later) (s .next) && eqb (s .at) (s .last)))
 one c =
-    let a = c .before .before .before .before .args in
+    let a = c .before .before .before .before .before .args in
     let s = c .before .before .loop in
     s .inv .2 ∙ between-one (recordAt (a .records .now)) (a .base) (a .past) (a .k) (s .left) (s .prev) (s .at) (s .next) (s .last) (omega arith)
 
+single : (c : tie.After-is-node2 Inv-loop μ-loop)
+    → let a = c .before .before .before .before .before .before .args in
+    let s = c .before .before .before .loop in
+    c .is-node2 .result ≡ nodeAt (recordAt (a .records .now)) (a .base) (a .past) (a .k) (s .prev) (s .at)
+single c =
+    let e = c .before .before .before .before in
+    let a = e .before .before .args in
+    let s = c .before .before .before .loop in
+    c .is-node2 .ensures
+    ∙ kind-node (recordAt (a .records .now)) (a .base) (a .past) (a .k) (e .before .before .pre .1) (e .list-kind .result) (s .prev) (s .at) (e .list-kind .ensures)
+
 returns-3 : tie.Need-returns-3 Inv-loop μ-loop
-returns-3 c = let d = c .before .is-node2 in sym (one (c .before .before) ∙ rw (← d .ensures, not-true (d .result) (c .if4 .taken)))
+returns-3 c = let d = c .before in sym (one (d .before) ∙ rw (← single d, not-true (d .is-node2 .result) (c .if4 .taken)))
 
 one-on : (c : tie.Else4 Inv-loop μ-loop)
-    → let a = c .before .before .before .before .before .before .args in
+    → let a = c .before .before .before .before .before .before .before .args in
     On (recordAt (a .records .now)) (a .base) (a .past) (a .k) (c .before .before .before .before .loop .at)
 one-on c =
-    let a = c .before .before .before .before .before .before .args in
+    let a = c .before .before .before .before .before .before .before .args in
     let s = c .before .before .before .before .loop in
-    let d = c .before .is-node2 in
-    node-facts (recordAt (a .records .now)) (a .base) (a .past) (a .k) (s .prev) (s .at) (sym (d .ensures) ∙ not-false (d .result) (c .if4 .left))
+    let d = c .before in
+    node-facts (recordAt (a .records .now)) (a .base) (a .past) (a .k) (s .prev) (s .at) (sym (single d) ∙ not-false (d .is-node2 .result) (c .if4 .left))
 
 cast-later-2 : tie.Need-cast-later-2 Inv-loop μ-loop
 cast-later-2 c = search needs
@@ -156,16 +195,18 @@ later-requires-2 c κs = let d = one-on c in omega arith
 
 -- the two ends meet
 meet : (c : tie.Joined3 Inv-loop μ-loop)
-    → let a = c .before .before .before .before .args in
+    → let a = c .before .before .before .before .before .args in
     let s = c .before .before .loop in
     walksAt (recordAt (a .records .now)) (a .base) (a .past) (a .k) (a .links .count) 0 (a .links .front) (a .links .back)
     ≡ (eqb (c .if3 .at) (s .next) && eqb (c .if3 .prev) (s .last))
 meet c =
-    let a = c .before .before .before .before .args in
+    let a = c .before .before .before .before .before .args in
     let s = c .before .before .loop in
     ⊎-elim
-    (λ w. one (record { before = c .before; if3 = w .0 })
-    ∙ rw (← w .1 .ensures, not-false (w .1 .result) (w .2 .left), ← w .3 .ensures, w .4, w .5))
+    (λ w.
+    let t : tie.Then3 Inv-loop μ-loop = record { before = c .before; if3 = w .0 } in
+    one t
+    ∙ rw (← single (record { before = t; is-node2 = w .1 }), not-false (w .1 .result) (w .2 .left), ← w .3 .ensures, w .4, w .5))
     (λ w. s .inv .2
     ∙ between-none (recordAt (a .records .now)) (a .base) (a .past) (a .k) (s .left) (s .prev) (s .at) (s .next) (s .last) (omega arith)
     ∙ rw (w .1, w .2))
@@ -183,6 +224,7 @@ walk-spec =
     (tie.spec
     Inv-loop
     μ-loop
+    list-kind-requires
     loop-holds
     is-node-requires
     returns

@@ -17,7 +17,7 @@ same-length c = search needs
 returns : tie.Need-returns
 returns c =
     let B = c .before .before .bad in
-    (does BootNow (bytesOf "boot") true (c .before .before .before .before .if1 .taken) (λ x S. B .ensures .0 _ x S), (omega arith, omega arith))
+    (does BootNow (bytesOf "boot") true (c .before .before .before .before .if1 .taken) (B .ensures .0 _ _), (omega arith, omega arith))
 
 boot-requires : tie.Need-boot-requires
 boot-requires c κs = search needs
@@ -31,11 +31,14 @@ same-length-2 c = search needs
 same-length-3 : tie.Need-same-length-3
 same-length-3 c = search needs
 
+same-length-4 : tie.Need-same-length-4
+same-length-4 c = search needs
+
 returns-2 : tie.Need-returns-2
 returns-2 c =
     let p = c .before .before .before .before in
-    let o = p .before .before .before .before .before in
-    (turned-boot (bytesOf "boot") (o .before .before .before .if1 .left) (o .boot .ensures) (p .put-line .ensures .0), (omega arith, omega arith))
+    let o = p .before .before .before .before .before .before .before in
+    (turned-boot (bytesOf "boot") (o .before .before .before .before .if1 .left) (o .boot .ensures .0) (p .put-line .ensures .0), (omega arith, omega arith))
 
 pub boot-now-spec : {M : Type 1} → statement M
 boot-now-spec =
@@ -48,4 +51,5 @@ boot-now-spec =
     put-line-requires
     same-length-2
     same-length-3
+    same-length-4
     returns-2)

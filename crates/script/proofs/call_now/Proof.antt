@@ -21,9 +21,9 @@ returns : tie.Need-returns
 returns c =
     let d = c .before .before in
     let t = d .before .before in
-    let a = t .before .before .before .before .before .before .args in
+    let a = t .before .before .before .before .before .before .before .args in
     let x = Ask (callOf (a .op) (λ i. getD (a .n) i 0)) in
-    (does x (askName (a .op)) false (not-true _ (t .if1 .taken)) (d .bad .ensures .0 _), d .bad .ensures .1)
+    (does x (askName (a .op)) false (not-true _ (t .if1 .taken)) (d .bad .ensures .0 _ _), d .bad .ensures .1)
 
 ask-requires : tie.Need-ask-requires
 ask-requires c κs = search needs
@@ -43,14 +43,17 @@ same-length-4 c = search needs
 same-length-5 : tie.Need-same-length-5
 same-length-5 c = search needs
 
+same-length-6 : tie.Need-same-length-6
+same-length-6 c = search needs
+
 returns-2 : tie.Need-returns-2
 returns-2 c =
     let p = c .before .before .before .before in
-    let o = p .before .before .before .before .before .before .before .before .before in
-    let t = o .before .before .before .before in
-    let a = t .before .before .before .before .before .before .args in
+    let o = p .before .before .before .before .before .before .before .before .before .before .before in
+    let t = o .before .before .before .before .before in
+    let a = t .before .before .before .before .before .before .before .args in
     let n : ℕ → ℕ = λ i. getD (a .n) i 0 in
-    (turned-call (askName (a .op)) (a .op) n (not-false _ (t .if1 .left)) (o .ask .ensures) (p .put-line .ensures .0), (omega arith, omega arith))
+    (turned-call (askName (a .op)) (a .op) n (not-false _ (t .if1 .left)) (o .ask .ensures .0) (p .put-line .ensures .0), (omega arith, omega arith))
 
 pub call-now-spec : {M : Type 1} → statement M
 call-now-spec =
@@ -65,4 +68,5 @@ call-now-spec =
     same-length-3
     same-length-4
     same-length-5
+    same-length-6
     returns-2)

@@ -17,6 +17,9 @@ count-lines-requires c κs = search needs
 returns-2 : tie.Need-returns-2
 returns-2 c = ran-none _ _ _ (omega (arith, c .before .count-lines .ensures))
 
+slice-aggregate-run-all : tie.Need-slice-aggregate-run-all
+slice-aggregate-run-all c = search needs
+
 run-all-requires : tie.Need-run-all-requires
 run-all-requires c κs = search needs
 
@@ -34,8 +37,8 @@ same-length-4 c = search needs
 
 returns-3 : tie.Need-returns-3
 returns-3 c =
-    let r = c .before .before .before .before .before .before .before .before in
-    ran-all (omega (arith, r .before .before .before .before .before .before .count-lines .ensures)) (r .run-all .ensures)
+    let r = c .before .before .before .before .before .before .before .before .before in
+    ran-all (omega (arith, r .before .before .before .before .before .before .before .count-lines .ensures)) (r .run-all .ensures)
 
 pub jilakkor-run-spec : {M : Type 1} → statement M
 jilakkor-run-spec =
@@ -45,6 +48,7 @@ jilakkor-run-spec =
     sub-if2
     count-lines-requires
     returns-2
+    slice-aggregate-run-all
     run-all-requires
     same-length
     same-length-2

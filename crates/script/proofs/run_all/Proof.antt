@@ -1,5 +1,6 @@
 -- The loop carries `Going` from the header to the last line. The measure is what is left of the script.
 use Prim.Native.Nat.{_-_}
+use mathlib.Core.Path.{ap, sym, _∙_}
 use native.Mathlib.Omega.{arith}
 use borrow.Author.Needs.{needs}
 use lib.ListN.{length}
@@ -9,12 +10,12 @@ use Rattle.script.proofs.run_all.Tie as tie
 use Rattle.script.proofs.run_all.Statement.{statement}
 
 abbrev Inv-loop : tie.InvT-loop
-Inv-loop script records₀ memory₀ queue₀ answer₀ w₀ running₀ at₀ records memory queue answer w running at =
-    Going script (record { records = records₀; memory = memory₀; queue = queue₀ }) answer₀ w₀ (record { records = records; memory = memory; queue = queue })
-    answer w running at
+Inv-loop script words₀ records₀ memory₀ queue₀ answer₀ w₀ running₀ at₀ words records memory queue answer w running at =
+    Going script (record { records = records₀; memory = memory₀; queue = queue₀ }) answer₀ w₀ words
+    (record { records = records; memory = memory; queue = queue }) answer w running at
 
 abbrev μ-loop : tie.MeasureT-loop
-μ-loop script records₀ memory₀ queue₀ answer₀ w₀ running₀ at₀ records memory queue answer w running at =
+μ-loop script words₀ records₀ memory₀ queue₀ answer₀ w₀ running₀ at₀ words records memory queue answer w running at =
     length script - at
 
 slice-aggregate-put-text : tie.Need-slice-aggregate-put-text Inv-loop μ-loop
@@ -30,7 +31,8 @@ loop-holds : tie.Need-loop-holds Inv-loop μ-loop
 unfolding bytesOf
 loop-holds c =
     let p = c .before .before .before in
-    going (p .put-text .ensures) (p .before .before .before .before .before .before .before .before .pre) (c .fresh .ensures)
+    let s = p .before .before .before .before .before .before .before .before .before .pre in
+    going (s .0) (p .put-text .ensures) (s .1) (c .fresh .ensures)
 
 next-line-requires : tie.Need-next-line-requires Inv-loop μ-loop
 next-line-requires c κs = search needs
@@ -46,22 +48,24 @@ part-take-turn-end c = search needs
 
 take-turn-requires : tie.Need-take-turn-requires Inv-loop μ-loop
 take-turn-requires c κs =
-    let n = c .before .before .before .before .before in
+    let n = c .before .before .before .before .before .before in
     let k = n .before .before .loop in
-    (omega (arith, one-less (n .next-line .ensures), k .inv .space), omega (arith, k .inv .few))
+    (omega (arith, k .inv .words), (omega (arith, one-less (n .next-line .ensures), k .inv .space), omega (arith, k .inv .few)))
 
 loop-less : tie.Need-loop-less Inv-loop μ-loop
 loop-less c = search needs
 
 loop-again : tie.Need-loop-again Inv-loop μ-loop
 loop-again c =
-    let t = c .before .before .before .before .before .before .before .before .before in
-    let n = t .before .before .before .before .before .before in
-    going-on (n .before .before .loop .inv) (n .next-line .ensures) (t .take-turn .ensures .0) (t .take-turn .ensures .1)
-    (record { records = omega arith; memory = omega arith; queue = omega arith })
+    let t = c .before .before .before .before .before .before .before .before .before .before .before in
+    let n = t .before .before .before .before .before .before .before in
+    going-on (t .take-turn .result) (n .before .before .loop .inv) (n .next-line .ensures) (t .take-turn .ensures .0) (t .take-turn .ensures .1)
+    (omega arith) (record { records = omega arith; memory = omega arith; queue = omega arith })
 
 same-length : tie.Need-same-length Inv-loop μ-loop
-same-length c = search needs
+same-length c =
+    let s = c .before .before .before .before .before .before .before .before .before .before .before .before .before .before in
+    c .before .loop .inv .words ∙ sym (ap length (s .pre .0))
 
 same-length-2 : tie.Need-same-length-2 Inv-loop μ-loop
 same-length-2 c = search needs
@@ -72,11 +76,14 @@ same-length-3 c = search needs
 same-length-4 : tie.Need-same-length-4 Inv-loop μ-loop
 same-length-4 c = search needs
 
+same-length-5 : tie.Need-same-length-5 Inv-loop μ-loop
+same-length-5 c = search needs
+
 returns : tie.Need-returns Inv-loop μ-loop
 unfolding bytesOf
 returns c =
     let p = c .before .before .before .before .before in
-    gone (p .put-text .ensures) (p .before .before .before .before .before .before .before .before .pre) (c .loop-test .left) (c .before .loop .inv)
+    gone (p .put-text .ensures) (p .before .before .before .before .before .before .before .before .before .pre .1) (c .loop-test .left) (c .before .loop .inv)
 
 pub run-all-spec : {M : Type 1} → statement M
 run-all-spec =
@@ -99,4 +106,5 @@ run-all-spec =
     same-length-2
     same-length-3
     same-length-4
+    same-length-5
     returns)

@@ -46,7 +46,7 @@ same-length c = search needs
 returns : tie.Need-returns
 returns c =
     let B = c .before .before .bad in
-    (does (Ask Stats) (bytesOf "stats") false (not-true _ (c .before .before .before .before .if1 .taken)) (B .ensures .0 _), B .ensures .1)
+    (does (Ask Stats) (bytesOf "stats") false (not-true _ (c .before .before .before .before .if1 .taken)) (B .ensures .0 _ _), B .ensures .1)
 
 stats-requires : tie.Need-stats-requires
 stats-requires c κs = search needs

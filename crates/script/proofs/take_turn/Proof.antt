@@ -46,8 +46,8 @@ returns c =
     let d = c .before .before in
     let t = d .before .before in
     let q = t .before .before .before in
-    let line = q .before .before .before .before .before .before .args .line .now in
-    (turns line (q .read-line .result) (q .read-line .ensures) Op.Bad (t .enum-told .given .1) (d .bad .ensures .0 _), d .bad .ensures .1)
+    let line = q .before .before .before .before .before .before .before .args .line .now in
+    (turns line (q .read-line .result) (q .read-line .ensures) Op.Bad (t .enum-told .given .1) (d .bad .ensures .0 _ _), d .bad .ensures .1)
 
 same-length-2 : tie.Need-same-length-2
 same-length-2 c = search needs
@@ -57,8 +57,8 @@ returns-2 c =
     let d = c .before .before in
     let t = d .before .before in
     let q = t .before .before .before in
-    let line = q .before .before .before .before .before .before .args .line .now in
-    (turns line (q .read-line .result) (q .read-line .ensures) Op.Region (t .enum-told2 .given .1) (d .region .ensures .0 _), d .region .ensures .1)
+    let line = q .before .before .before .before .before .before .before .args .line .now in
+    (turns line (q .read-line .result) (q .read-line .ensures) Op.Region (t .enum-told2 .given .1) (d .region .ensures .0 _ _), d .region .ensures .1)
 
 same-length-3 : tie.Need-same-length-3
 same-length-3 c = search needs
@@ -72,16 +72,16 @@ same-length-5 c = search needs
 same-length-6 : tie.Need-same-length-6
 same-length-6 c = search needs
 
-returns-3 : tie.Need-returns-3
-returns-3 c =
-    let d = c .before .before .before .before in
-    let t = d .before .before .before .before .before in
-    let q = t .before .before .before in
-    let line = q .before .before .before .before .before .before .args .line .now in
-    (turns line (q .read-line .result) (q .read-line .ensures) Op.Boot (t .enum-told3 .given .1) (d .boot-now .ensures .0), d .boot-now .ensures .1)
-
 same-length-7 : tie.Need-same-length-7
 same-length-7 c = search needs
+
+returns-3 : tie.Need-returns-3
+returns-3 c =
+    let d = c .before .before .before .before .before .before in
+    let t = d .before .before .before .before .before .before in
+    let q = t .before .before .before in
+    let line = q .before .before .before .before .before .before .before .args .line .now in
+    (turns line (q .read-line .result) (q .read-line .ensures) Op.Boot (t .enum-told3 .given .1) (d .boot-now .ensures .0), d .boot-now .ensures .1)
 
 same-length-8 : tie.Need-same-length-8
 same-length-8 c = search needs
@@ -92,19 +92,19 @@ same-length-9 c = search needs
 same-length-10 : tie.Need-same-length-10
 same-length-10 c = search needs
 
-returns-4 : tie.Need-returns-4
-returns-4 c =
-    let d = c .before .before in
-    let t = d .before .before .before .before .before in
-    let q = t .before .before .before in
-    let line = q .before .before .before .before .before .before .args .line .now in
-    (turns line (q .read-line .result) (q .read-line .ensures) Op.Stats (t .enum-told4 .given .1) (d .stats-now .ensures .0), d .stats-now .ensures .1)
-
 same-length-11 : tie.Need-same-length-11
 same-length-11 c = search needs
 
 same-length-12 : tie.Need-same-length-12
 same-length-12 c = search needs
+
+returns-4 : tie.Need-returns-4
+returns-4 c =
+    let d = c .before .before in
+    let t = d .before .before .before .before .before .before in
+    let q = t .before .before .before in
+    let line = q .before .before .before .before .before .before .before .args .line .now in
+    (turns line (q .read-line .result) (q .read-line .ensures) Op.Stats (t .enum-told4 .given .1) (d .stats-now .ensures .0), d .stats-now .ensures .1)
 
 same-length-13 : tie.Need-same-length-13
 same-length-13 c = search needs
@@ -112,12 +112,21 @@ same-length-13 c = search needs
 same-length-14 : tie.Need-same-length-14
 same-length-14 c = search needs
 
+same-length-15 : tie.Need-same-length-15
+same-length-15 c = search needs
+
+same-length-16 : tie.Need-same-length-16
+same-length-16 c = search needs
+
+same-length-17 : tie.Need-same-length-17
+same-length-17 c = search needs
+
 returns-5 : tie.Need-returns-5
 returns-5 c =
-    let d = c .before .before .before .before .before .before .before .before in
-    let t = d .before .before .before .before .before .before in
+    let d = c .before .before .before .before .before .before .before .before .before .before in
+    let t = d .before .before .before .before .before .before .before in
     let q = t .before .before .before in
-    let line = q .before .before .before .before .before .before .args .line .now in
+    let line = q .before .before .before .before .before .before .before .args .line .now in
     let g = t .op .given in
     (turns line (q .read-line .result) (q .read-line .ensures) (Op.Call (g .0 .0)) (g .1) (d .call-now .ensures .0), d .call-now .ensures .1)
 
@@ -144,14 +153,17 @@ take-turn-spec =
     same-length-4
     same-length-5
     same-length-6
-    returns-3
     same-length-7
+    returns-3
     same-length-8
     same-length-9
     same-length-10
-    returns-4
     same-length-11
     same-length-12
+    returns-4
     same-length-13
     same-length-14
+    same-length-15
+    same-length-16
+    same-length-17
     returns-5)

@@ -1,10 +1,10 @@
--- Loans that are too short are refused by the map or as 5; a refused boot left the records as they were; an accepted one is written over the loans.
+-- Loans that are too short are refused by the map or as 5; else `boot` promises what it leaves of them, and its answer is told.
 use mathlib.Core.Bool.{true}
 use mathlib.Core.Path.{_≡_, sym, _∙_}
 use borrow.Author.Needs.{needs}
 use borrow.Author.Tests.{not-true, not-false}
 use Rattle.service.specs.Serving.{Lent, isRoomyKept}
-use Rattle.service.proofs.Serving.{boots, boots-refused, boots-with-short, roomy-room, roomy-words}
+use Rattle.service.proofs.Serving.{boots, boots-with-short, roomy-room, roomy-words}
 use Rattle.service.proofs.serve_boot_with.Statement.{statement}
 use Rattle.service.proofs.serve_boot_with.Tie as tie
 
@@ -45,12 +45,13 @@ returns c =
     boots-with-short ms (loans s) (s .args .counters) (sym (h .before .is-roomy .ensures) ∙ not-true (h .before .is-roomy .result) (h .if1 .taken))
     (c .short-boot .ensures ms e f)
 
-state-with-requires : tie.Need-state-with-requires
-state-with-requires c κs =
-    let e = c .before in roomy-words (loans (start (e .before))) (roomy e)
-
 boot-requires : tie.Need-boot-requires
-boot-requires c κs = search needs
+boot-requires c κs =
+    let e = c .before .before in roomy-words (loans (start (e .before))) (roomy e)
+
+tell-requires : tie.Need-tell-requires
+tell-requires c κs =
+    let e = c .before .before .before .before .before .before .before .before .before in roomy-room (loans (start (e .before))) (roomy e)
 
 same-length-3 : tie.Need-same-length-3
 same-length-3 c = search needs
@@ -64,43 +65,11 @@ same-length-5 c = search needs
 returns-2 : tie.Need-returns-2
 returns-2 c =
     λ ms e f.
-    let k = c .before .before .before .before .before in
-    let i = k .before .before in
-    let h = i .before .before in
-    let s = start (h .before) in
-    boots-refused ms (loans s) (s .args .counters) (roomy h) (i .state-with .ensures) (k .boot .ensures ms e f) (c .if2 .taken)
-
-put-kept-requires : tie.Need-put-kept-requires
-put-kept-requires c κs =
-    let e = c .before .before .before .before .before .before .before .before .before .before .before in
-    roomy-words (loans (start (e .before))) (roomy e)
-
-tell-requires : tie.Need-tell-requires
-tell-requires c κs =
-    let e = c .before .before .before .before .before .before .before .before .before .before .before .before .before .before .before .before in
-    roomy-room (loans (start (e .before))) (roomy e)
-
-same-length-6 : tie.Need-same-length-6
-same-length-6 c = search needs
-
-same-length-7 : tie.Need-same-length-7
-same-length-7 c = search needs
-
-same-length-8 : tie.Need-same-length-8
-same-length-8 c = search needs
-
-returns-3 : tie.Need-returns-3
-returns-3 c =
-    λ ms e f.
     let t = c .before .before in
-    let p = t .before .before .before .before .before in
-    let z = p .before .before .before in
-    let k = z .before .before .before .before .before in
-    let i = k .before .before in
-    let h = i .before .before in
+    let k = t .before .before .before .before .before .before .before in
+    let h = k .before .before .before in
     let s = start (h .before) in
-    boots ms (loans s) (s .args .counters) (roomy h) (i .state-with .ensures) (k .boot .ensures ms e f) (z .if2 .left) (p .put-kept .ensures)
-    (t .tell .ensures .1) (t .tell .ensures .0)
+    boots ms (loans s) (s .args .counters) (roomy h) (k .boot .ensures .0 ms e f) (k .boot .ensures .1) (t .tell .ensures .1) (t .tell .ensures .0)
 
 pub serve-boot-with-spec : {M : Type 1} → statement M
 serve-boot-with-spec =
@@ -111,15 +80,9 @@ serve-boot-with-spec =
     same-length
     same-length-2
     returns
-    state-with-requires
     boot-requires
+    tell-requires
     same-length-3
     same-length-4
     same-length-5
-    returns-2
-    put-kept-requires
-    tell-requires
-    same-length-6
-    same-length-7
-    same-length-8
-    returns-3)
+    returns-2)

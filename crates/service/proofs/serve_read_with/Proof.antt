@@ -39,16 +39,13 @@ returns c =
     (ap (λ (x : Counted). x .served .number)
     (serves-with-torn _ (loans s) k (sym (c .before .is-lent-kept .ensures) ∙ not-true (c .before .is-lent-kept .result) (c .if1 .taken))))
 
-state-with-requires : tie.Need-state-with-requires
-state-with-requires c κs =
-    lent-words (loans (start (c .before))) (lent c)
-
 read-place-requires : tie.Need-read-place-requires
-read-place-requires c κs = search needs
+read-place-requires c κs =
+    lent-words (loans (start (c .before))) (lent c)
 
 tell-requires : tie.Need-tell-requires
 tell-requires c κs =
-    let e = c .before .before .before in lent-room (loans (start (e .before))) (lent e)
+    let e = c .before .before in lent-room (loans (start (e .before))) (lent e)
 
 same-length-2 : tie.Need-same-length-2
 same-length-2 c = search needs
@@ -57,11 +54,10 @@ returns-2 : tie.Need-returns-2
 returns-2 c =
     let t = c .before .before in
     let k = t .before .before in
-    let i = k .before in
-    let e = i .before in
+    let e = k .before in
     let s = start (e .before) in
     places (s .args .pa .0) (s .args .offset) (s .args .len) (loans s) (s .args .counters) (k .read-place .ensures) (lent e)
-    (i .state-with .ensures) (t .tell .ensures .1) (t .tell .ensures .0)
+    (t .tell .ensures .1) (t .tell .ensures .0)
 
 pub serve-read-with-spec : {M : Type 1} → statement M
 serve-read-with-spec =
@@ -70,7 +66,6 @@ serve-read-with-spec =
     is-lent-kept-requires
     same-length
     returns
-    state-with-requires
     read-place-requires
     tell-requires
     same-length-2

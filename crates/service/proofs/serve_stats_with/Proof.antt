@@ -1,4 +1,4 @@
--- The report's text, which its array holds, stands in front of the text; the rest is as in `serve_with`, of a state that stays.
+-- The report's text, which its array holds, stands in front of the text; the rest is as in `serve_with`, of words that are only read.
 use mathlib.Core.List.{List}
 use mathlib.Core.Bool.{true}
 use mathlib.Core.Path.{_≡_, sym, _∙_}
@@ -58,12 +58,9 @@ returns-2 c =
     let k = s .args .counters in
     reports-torn (isLentKept (loans s)) (worldWith k (loans s)) (s .args .text .now) e (serves-with-torn _ (loans s) k e)
 
-state-with-requires : tie.Need-state-with-requires
-state-with-requires c κs =
-    lent-words (loans (start (c .before))) (lent c)
-
 stats-requires : tie.Need-stats-requires
-stats-requires c κs = search needs
+stats-requires c κs =
+    lent-words (loans (start (c .before))) (lent c)
 
 array-share-prefix-told : tie.Need-array-share-prefix-told
 array-share-prefix-told c =
@@ -76,12 +73,12 @@ slice-aggregate-put-text c =
 put-text-requires : tie.Need-put-text-requires
 put-text-requires c κs =
     let k = c .before .before .before in
-    let h = c .before .before .before .before .before .before .before .before .if1 .left in
+    let h = c .before .before .before .before .before .before .before .if1 .left in
     omega (arith, part k, report-short (k .stats .ensures), report-long (k .stats .result) _ (k .stats .ok), h)
 
 tell-requires : tie.Need-tell-requires
 tell-requires c κs =
-    let e = c .before .before .before .before .before .before .before .before .before in
+    let e = c .before .before .before .before .before .before .before .before in
     lent-room (loans (start (e .before))) (lent e)
 
 same-length-2 : tie.Need-same-length-2
@@ -95,11 +92,10 @@ returns-3 c =
     let t = c .before .before in
     let x = t .before .before .before .before in
     let k = x .before .before .before .before in
-    let i = k .before in
-    let e = i .before in
+    let e = k .before in
     let s = start (e .before) in
     reports (loans s) (s .args .text .now) (s .args .counters) (k .stats .ensures) (t .tell .ensures .1) (t .tell .ensures .0)
-    (e .before .before .before .if1 .left) (lent e) (i .state-with .ensures) (x .put-text .ensures .bytes)
+    (e .before .before .before .if1 .left) (lent e) (x .put-text .ensures .bytes)
 
 pub serve-stats-with-spec : {M : Type 1} → statement M
 serve-stats-with-spec =
@@ -109,7 +105,6 @@ serve-stats-with-spec =
     is-lent-kept-requires
     same-length
     returns-2
-    state-with-requires
     stats-requires
     array-share-prefix-told
     slice-aggregate-put-text

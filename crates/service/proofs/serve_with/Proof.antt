@@ -1,4 +1,4 @@
--- Loans that are no state's are refused as they are; else `ask` promises what the call leaves, and it is written over them and told.
+-- Loans that are no state's are refused as they are; else `ask` promises what the call leaves of them, and its answer is told.
 use mathlib.Core.Bool.{true}
 use mathlib.Core.Path.{_≡_, sym, _∙_}
 use borrow.Author.Needs.{needs}
@@ -39,22 +39,13 @@ returns c =
     let s = start (c .before) in
     serves-with-torn _ (loans s) (s .args .counters) (sym (c .before .is-lent-kept .ensures) ∙ not-true (c .before .is-lent-kept .result) (c .if1 .taken))
 
-state-with-requires : tie.Need-state-with-requires
-state-with-requires c κs =
-    let e = c .before in lent-words (loans (start (e .before))) (lent e)
-
 ask-requires : tie.Need-ask-requires
-ask-requires c κs = search needs
-
-put-kept-requires : tie.Need-put-kept-requires
-put-kept-requires c κs =
-    let e = c .before .before .before .before .before .before .before .before .before .before .before .before .before .before in
-    lent-words (loans (start (e .before))) (lent e)
+ask-requires c κs =
+    let e = c .before .before .before .before in lent-words (loans (start (e .before))) (lent e)
 
 tell-requires : tie.Need-tell-requires
 tell-requires c κs =
-    let e = c .before .before .before .before .before .before .before .before .before .before .before .before .before .before .before .before .before .before .before in
-    lent-room (loans (start (e .before))) (lent e)
+    let e = c .before .before .before .before .before .before .before .before .before .before .before .before .before .before .before in lent-room (loans (start (e .before))) (lent e)
 
 same-length-3 : tie.Need-same-length-3
 same-length-3 c = search needs
@@ -74,13 +65,10 @@ same-length-7 c = search needs
 returns-2 : tie.Need-returns-2
 returns-2 c =
     let t = c .before .before in
-    let p = t .before .before .before .before .before in
-    let k = p .before .before .before .before .before .before .before .before .before in
-    let i = k .before .before .before .before in
-    let e = i .before .before in
+    let k = t .before .before .before .before .before .before .before .before .before .before .before in
+    let e = k .before .before .before .before .before in
     let s = start (e .before) in
-    serves-with (loans s) (s .args .counters) (k .ask .ensures) (t .tell .ensures .1) (t .tell .ensures .0) (lent e) (i .state-with .ensures)
-    (p .put-kept .ensures)
+    serves-with (loans s) (s .args .counters) (k .ask .ensures .0) (t .tell .ensures .1) (t .tell .ensures .0) (lent e) (k .ask .kept .1 .0) (k .ask .ensures .1)
 
 pub serve-with-spec : {M : Type 1} → statement M
 serve-with-spec =
@@ -90,9 +78,7 @@ serve-with-spec =
     same-length
     same-length-2
     returns
-    state-with-requires
     ask-requires
-    put-kept-requires
     tell-requires
     same-length-3
     same-length-4

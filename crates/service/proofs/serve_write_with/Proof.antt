@@ -1,10 +1,11 @@
--- As `serve_with`, of `write`, which leaves the state as it was: the words stay.
+-- As `serve_with`, of `write`, which only reads the words.
 use mathlib.Core.Bool.{true}
 use mathlib.Core.Path.{_≡_, refl, sym, _∙_}
 use borrow.Author.Needs.{needs}
 use borrow.Author.Tests.{not-true, not-false}
+use Rattle.words.proofs.Words.{beside-same}
 use Rattle.service.specs.Serving.{Lent, isLentKept}
-use Rattle.service.proofs.Serving.{lent-room, lent-words, serves-kept, serves-with-torn}
+use Rattle.service.proofs.Serving.{lent-room, lent-words, serves-with, serves-with-torn}
 use Rattle.service.proofs.serve_write_with.Statement.{statement}
 use Rattle.service.proofs.serve_write_with.Tie as tie
 
@@ -36,16 +37,13 @@ returns c =
     let s = start (c .before) in
     serves-with-torn _ (loans s) (s .args .counters) (sym (c .before .is-lent-kept .ensures) ∙ not-true (c .before .is-lent-kept .result) (c .if1 .taken))
 
-state-with-requires : tie.Need-state-with-requires
-state-with-requires c κs =
-    lent-words (loans (start (c .before))) (lent c)
-
 write-requires : tie.Need-write-requires
-write-requires c κs = search needs
+write-requires c κs =
+    let e = c .before .before in lent-words (loans (start (e .before))) (lent e)
 
 tell-requires : tie.Need-tell-requires
 tell-requires c κs =
-    let e = c .before .before .before .before .before .before .before .before .before in lent-room (loans (start (e .before))) (lent e)
+    let e = c .before .before .before .before .before .before .before .before in lent-room (loans (start (e .before))) (lent e)
 
 same-length-2 : tie.Need-same-length-2
 same-length-2 c = search needs
@@ -60,10 +58,9 @@ returns-2 : tie.Need-returns-2
 returns-2 c =
     let t = c .before .before in
     let k = t .before .before .before .before .before .before in
-    let i = k .before .before .before in
-    let e = i .before in
+    let e = k .before .before .before in
     let s = start (e .before) in
-    serves-kept (loans s) (s .args .counters) (k .write .ensures) (t .tell .ensures .1) (t .tell .ensures .0) (lent e) (i .state-with .ensures) refl
+    serves-with (loans s) (s .args .counters) (k .write .ensures) (t .tell .ensures .1) (t .tell .ensures .0) (lent e) refl beside-same
 
 pub serve-write-with-spec : {M : Type 1} → statement M
 serve-write-with-spec =
@@ -72,7 +69,6 @@ serve-write-with-spec =
     is-lent-kept-requires
     same-length
     returns
-    state-with-requires
     write-requires
     tell-requires
     same-length-2

@@ -19,17 +19,8 @@ is-kept-requires c κs = search needs
 returns-2 : tie.Need-returns-2
 returns-2 c memory queue m q = rw (le-leb _ _ (c .before .before .if1 .left), sym (c .before .is-kept .ensures) ∙ not-true (c .before .is-kept .result) (c .if2 .taken)) refl
 
-rows-in-requires : tie.Need-rows-in-requires
-rows-in-requires c κs = search needs
-
 counters-in-requires : tie.Need-counters-in-requires
 counters-in-requires c κs = search needs
-
-queued-in-requires : tie.Need-queued-in-requires
-queued-in-requires c κs = search needs
-
-pass-in-requires : tie.Need-pass-in-requires
-pass-in-requires c κs = search needs
 
 audit-requires : tie.Need-audit-requires
 audit-requires c κs = search needs
@@ -38,7 +29,7 @@ abbrev refusal : Bool → ℕ
 refusal whole = cond whole 0 6
 
 -- the audit's answer to the state of the words
-counted : (c : tie.After-audit) → let s = c .before .before .before .before .before .before .before .before .before .before in
+counted : (c : tie.After-audit) → let s = c .before .before .before .before .before .before .before in
     (memory queue : List ℕ)
     → length memory ≡ s .args .memory-len
     → length queue ≡ s .args .queue-len
@@ -46,9 +37,9 @@ counted : (c : tie.After-audit) → let s = c .before .before .before .before .b
     → c .audit .result ≡ t
     → refusal t ≡ refusal (isWhole (s .args .words .now) (s .args .records .now) memory queue)
 counted c memory queue m q t e =
-    let i = c .before .before .before .before .before .before in
-    let f = rw (c .before .before .before .before .rows-in .ensures, c .before .before .before .counters-in .ensures, c .before .before .queued-in .ensures, c .before .pass-in .ensures) at (c .audit .ensures memory queue m q) in
-    rw (le-leb _ _ (i .before .if1 .left), sym (i .is-kept .ensures) ∙ not-false (i .is-kept .result) (c .before .before .before .before .before .if2 .left)) (ap refusal (sym e ∙ f))
+    let i = c .before .before .before in
+    let f = rw (c .before .counters-in .ensures) at (c .audit .ensures memory queue m q) in
+    rw (le-leb _ _ (i .before .if1 .left), sym (i .is-kept .ensures) ∙ not-false (i .is-kept .result) (c .before .before .if2 .left)) (ap refusal (sym e ∙ f))
 
 returns-3 : tie.Need-returns-3
 returns-3 c memory queue m q = counted (c .before) memory queue m q true (c .if3 .taken)
@@ -63,10 +54,7 @@ jilakkor-audit-spec =
     returns
     is-kept-requires
     returns-2
-    rows-in-requires
     counters-in-requires
-    queued-in-requires
-    pass-in-requires
     audit-requires
     returns-3
     returns-4)

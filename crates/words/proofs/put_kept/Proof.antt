@@ -33,14 +33,14 @@ mul-row c = search needs
 array-copy-out-row : tie.Need-array-copy-out-row Inv-loop μ-loop
 array-copy-out-row c = search needs
 
-mul-put-row : tie.Need-mul-put-row Inv-loop μ-loop
-mul-put-row c = search needs
+mul-put-row-from : tie.Need-mul-put-row-from Inv-loop μ-loop
+mul-put-row-from c = search needs
 
-add-put-row : tie.Need-add-put-row Inv-loop μ-loop
-add-put-row c = search needs
+add-put-row-from : tie.Need-add-put-row-from Inv-loop μ-loop
+add-put-row-from c = search needs
 
-put-row-requires : tie.Need-put-row-requires Inv-loop μ-loop
-put-row-requires c κs = search needs
+put-row-from-requires : tie.Need-put-row-from-requires Inv-loop μ-loop
+put-row-from-requires c κs = search needs
 
 add-i : tie.Need-add-i Inv-loop μ-loop
 add-i c = search needs
@@ -50,7 +50,7 @@ loop-less c = search needs
 
 loop-again : tie.Need-loop-again Inv-loop μ-loop
 loop-again c =
-    let p = c .before .before .put-row in
+    let p = c .before .before .put-row-from in
     let k = c .before .before .before .before .before .before in
     let s = k .before .before in
     let eight = rows-eight (s .args .t2) _ (s .good .1 .0) in (
@@ -89,9 +89,9 @@ put-kept-spec =
     loop-holds
     mul-row
     array-copy-out-row
-    mul-put-row
-    add-put-row
-    put-row-requires
+    mul-put-row-from
+    add-put-row-from
+    put-row-from-requires
     add-i
     loop-less
     loop-again

@@ -1,83 +1,23 @@
--- `row_at` meets its contract: its six lists are read by `first_at` and `second_at`.
-use Rattle.words.specs.Words.{rowIn}
+-- `row_at` meets its contract: the row i begins at the word 1 + 11 * i.
+use mathlib.Core.Path.{sym, _∙_}
 use borrow.Author.Needs.{needs}
+use Rattle.words.proofs.Places.{row-place}
 use Rattle.words.proofs.row_at.Statement.{statement}
 use Rattle.words.proofs.row_at.Tie as tie
 
-mul-pages : tie.Need-mul-pages
-mul-pages c = search needs
+mul-row-from : tie.Need-mul-row-from
+mul-row-from c = search needs
 
-shared-slice-read-pages : tie.Need-shared-slice-read-pages
-shared-slice-read-pages c = search needs
+add-row-from : tie.Need-add-row-from
+add-row-from c = search needs
 
-add-pages : tie.Need-add-pages
-add-pages c = search needs
-
-mul-pages-2 : tie.Need-mul-pages-2
-mul-pages-2 c = search needs
-
-shared-slice-read-pages-2 : tie.Need-shared-slice-read-pages-2
-shared-slice-read-pages-2 c = search needs
-
-add-first-at : tie.Need-add-first-at
-add-first-at c = search needs
-
-first-at-requires : tie.Need-first-at-requires
-first-at-requires c κs = search needs
-
-add-second-at : tie.Need-add-second-at
-add-second-at c = search needs
-
-second-at-requires : tie.Need-second-at-requires
-second-at-requires c κs = search needs
-
-add-first-at-2 : tie.Need-add-first-at-2
-add-first-at-2 c = search needs
-
-first-at-requires-2 : tie.Need-first-at-requires-2
-first-at-requires-2 c κs = search needs
-
-add-second-at-2 : tie.Need-add-second-at-2
-add-second-at-2 c = search needs
-
-second-at-requires-2 : tie.Need-second-at-requires-2
-second-at-requires-2 c κs = search needs
-
-add-first-at-3 : tie.Need-add-first-at-3
-add-first-at-3 c = search needs
-
-first-at-requires-3 : tie.Need-first-at-requires-3
-first-at-requires-3 c κs = search needs
-
-add-second-at-3 : tie.Need-add-second-at-3
-add-second-at-3 c = search needs
-
-second-at-requires-3 : tie.Need-second-at-requires-3
-second-at-requires-3 c κs = search needs
+row-from-requires : tie.Need-row-from-requires
+row-from-requires c κs = search needs
 
 returns : tie.Need-returns
-unfolding rowIn
-returns c = cc
+returns c =
+    let s = c .before .before in
+    c .row-from .ensures ∙ sym (row-place (s .args .words .now) (s .args .i) (s .pre .1))
 
 pub row-at-spec : {M : Type 1} → statement M
-row-at-spec =
-    tie.close
-    (tie.spec
-    mul-pages
-    shared-slice-read-pages
-    add-pages
-    mul-pages-2
-    shared-slice-read-pages-2
-    add-first-at
-    first-at-requires
-    add-second-at
-    second-at-requires
-    add-first-at-2
-    first-at-requires-2
-    add-second-at-2
-    second-at-requires-2
-    add-first-at-3
-    first-at-requires-3
-    add-second-at-3
-    second-at-requires-3
-    returns)
+row-at-spec = tie.close (tie.spec mul-row-from add-row-from row-from-requires returns)

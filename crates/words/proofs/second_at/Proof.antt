@@ -3,18 +3,6 @@ use borrow.Author.Needs.{needs}
 use Rattle.words.proofs.second_at.Statement.{statement}
 use Rattle.words.proofs.second_at.Tie as tie
 
-add-high-half : tie.Need-add-high-half
-add-high-half c = search needs
-
-mul-high-half : tie.Need-mul-high-half
-mul-high-half c = search needs
-
-shared-slice-read-high-half : tie.Need-shared-slice-read-high-half
-shared-slice-read-high-half c = search needs
-
-high-half-requires : tie.Need-high-half-requires
-high-half-requires c κs = search needs
-
 add-low-half : tie.Need-add-low-half
 add-low-half c = search needs
 
@@ -26,6 +14,18 @@ shared-slice-read-low-half c = search needs
 
 low-half-requires : tie.Need-low-half-requires
 low-half-requires c κs = search needs
+
+add-high-half : tie.Need-add-high-half
+add-high-half c = search needs
+
+mul-high-half : tie.Need-mul-high-half
+mul-high-half c = search needs
+
+shared-slice-read-high-half : tie.Need-shared-slice-read-high-half
+shared-slice-read-high-half c = search needs
+
+high-half-requires : tie.Need-high-half-requires
+high-half-requires c κs = search needs
 
 add-high-half-2 : tie.Need-add-high-half-2
 add-high-half-2 c = search needs
@@ -46,14 +46,14 @@ pub second-at-spec : {M : Type 1} → statement M
 second-at-spec =
     tie.close
     (tie.spec
-    add-high-half
-    mul-high-half
-    shared-slice-read-high-half
-    high-half-requires
     add-low-half
     mul-low-half
     shared-slice-read-low-half
     low-half-requires
+    add-high-half
+    mul-high-half
+    shared-slice-read-high-half
+    high-half-requires
     add-high-half-2
     mul-high-half-2
     shared-slice-read-high-half-2

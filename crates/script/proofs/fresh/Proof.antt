@@ -1,0 +1,23 @@
+-- Words of zeros are eight unused rows, an empty queue and no pass.
+use mathlib.Core.Path.{_≡_, refl}
+use borrow.Author.Needs.{needs}
+use lib.ListN.{replicate}
+use Rattle.definition.specs.Boot.{countersAtBoot}
+use Rattle.exam.specs.Promise.{stateWith}
+use Rattle.words.specs.Words.{rowIn, rowsFrom}
+use Rattle.script.specs.Running.{unbooted}
+use Rattle.script.proofs.fresh.Tie as tie
+use Rattle.script.proofs.fresh.Statement.{statement}
+
+zeros : stateWith (countersAtBoot 0) (replicate 92 0) ≡ unbooted
+unfolding rowsFrom rowIn
+zeros = refl
+
+unbooted-requires : tie.Need-unbooted-requires
+unbooted-requires c κs = search needs
+
+returns : tie.Need-returns
+returns c = record { count = refl; booted = refl; state = rw (c .unbooted .ensures) zeros }
+
+pub fresh-spec : {M : Type 1} → statement M
+fresh-spec = tie.close (tie.spec unbooted-requires returns)

@@ -1,0 +1,99 @@
+-- A row read of words is an unused one just where its eleven words are zeros; and of several rows, one after another.
+use Prim.Native.Nat.{ℕ, zero, suc, _+_, _*_, _-_, _/_, _%_, _≤_, _<_}
+use mathlib.Core.Bool.{Bool, true, _&&_}
+use mathlib.Core.List.{List, [], _∷_}
+use mathlib.Core.Path.{_≡_, refl, sym, ap, _∙_}
+use borrow.Author.Tests.{eqb-true, eq-eqb}
+use native.Mathlib.Nat.{zero-add}
+use native.Mathlib.Omega.{arith}
+use lib.Dec.{eqb}
+use lib.ListN.{length, getD, drop, replicate, length-drop, getD-replicate}
+use lib.Seq.{drop-cons, getD-take, getD-drop}
+use Rattle.definition.specs.declared.Links.{Links}
+use Rattle.definition.specs.declared.Row.{Row}
+use Rattle.definition.specs.Basics.{all, range}
+use Rattle.definition.specs.Torn.{isNoLinks, isNoRow}
+use Rattle.definition.specs.World.{noLinks}
+use Rattle.definition.proofs.Tests.{same-test, and-left, and-right, range-in, in-range}
+use Rattle.words.specs.Words.{wordIn, rowIn, rowsFrom, rowsIn, rowOf, rowWords}
+use Rattle.words.proofs.Reading.{run, run-taken, row-again, row-same}
+use Rattle.words.proofs.Places.{length-rows, row-place}
+
+abbrev pub isZero : List ℕ → ℕ → Bool
+isZero ws q = eqb (wordIn ws q) 0
+
+no-links : (l : Links) → isNoLinks l ≡ true → l ≡ noLinks
+no-links l e =
+    let f : l .front ≡ 0 = eqb-true _ _ (and-left _ _ e) in
+    let r = and-right (eqb (l .front) 0) _ e in
+    let b : l .back ≡ 0 = eqb-true _ _ (and-left _ _ r) in
+    let n : l .count ≡ 0 = eqb-true _ _ (and-right (eqb (l .back) 0) _ r) in
+    rw (f, b, n) refl
+
+no-lists : (ls : List Links) → all isNoLinks ls ≡ true → (k : ℕ) → getD ls k noLinks ≡ noLinks
+unfolding all
+no-lists [] e k = refl
+no-lists (l ∷ ls) e zero = no-links l (and-left _ _ e)
+no-lists (l ∷ ls) e (suc k) = no-lists ls (and-right (isNoLinks l) _ e) k
+
+-- an unused row's words
+no-words : (row : Row) → isNoRow row ≡ true → rowWords row ≡ replicate 11 0
+unfolding rowWords
+no-words row e =
+    let r = and-right (eqb (row .start .0) 0) _ e in
+    let s : row .start .0 ≡ 0 = eqb-true _ _ (and-left _ _ e) in
+    let p : row .pages ≡ 0 = eqb-true _ _ (and-left _ _ r) in
+    let n : (k : ℕ) → getD (row .lists) k noLinks ≡ noLinks = no-lists (row .lists) (and-right (eqb (row .pages) 0) _ r) in
+    rw (s, p, n 0, n 1, n 2, n 3, n 4, n 5) refl
+
+-- no word is read as 0
+no-row-of-none : isNoRow (rowIn [] 0) ≡ true
+unfolding rowIn all
+no-row-of-none = refl
+
+module _ (ws : List ℕ) (at : ℕ) (h : at + 11 ≤ length ws) where
+  abbrev behind : List ℕ
+  behind = drop at ws
+
+  eleven : isNoRow (rowIn ws at) ≡ true → run 0 behind 0 11 ≡ replicate 11 0
+  eleven e =
+      let m : rowIn ws at ≡ rowIn behind 0 = row-same ws behind at 0 (λ k l. rw (zero-add k) (sym (getD-drop at ws k 0))) in
+      sym (row-again behind 0) ∙ no-words (rowIn behind 0) (rw (← m) e)
+
+  word : isNoRow (rowIn ws at) ≡ true → (k : ℕ) → k < 11 → wordIn ws (at + k) ≡ 0
+  word e k l =
+      let n : 0 + 11 ≤ length behind = rw length-drop (omega arith) in
+      sym (getD-drop at ws k 0)
+      ∙ sym (getD-take 11 behind k 0 l)
+      ∙ ap (λ (xs : List ℕ). getD xs k 0) (sym (run-taken 0 behind 0 11 n) ∙ eleven e)
+      ∙ getD-replicate 11 k 0 0 l
+
+  pub unused : all (isZero ws) (range at 11) ≡ isNoRow (rowIn ws at)
+  unused =
+      same-test
+      (λ e. rw (row-same ws [] at 0 (λ k l. eqb-true (wordIn ws (at + k)) 0 (range-in (isZero ws) at 11 e (at + k) (omega arith) (omega arith)))) no-row-of-none)
+      (λ e. in-range (isZero ws) at 11 (λ q l k.
+      let f : at + (q - at) ≡ q = omega arith in eq-eqb (wordIn ws q) 0 (rw f at (word e (q - at) (omega arith)))))
+
+-- ---- the rows from the one whose words begin at a place
+
+abbrev pub unusedFrom : List ℕ → ℕ → Bool
+unusedFrom ws at = all isNoRow (drop (at / 11) (rowsIn ws))
+
+module _ (ws : List ℕ) where
+  pub unused-from : (first : ℕ) → unusedFrom ws (1 + 11 * first) ≡ all isNoRow (drop first (rowsIn ws))
+  unused-from first = let e : (1 + 11 * first) / 11 ≡ first = omega arith in rw e refl
+
+  pub unused-next
+      : (at : ℕ) {t : Bool} → at % 11 ≡ 1 → at < 89 → t ≡ isNoRow (rowIn ws at) → unusedFrom ws at ≡ (t && unusedFrom ws (at + 11))
+  unfolding all
+  unused-next at m h e =
+      let i : ℕ = at / 11 in
+      let p : 1 + 11 * i ≡ at = omega arith in
+      let n : (at + 11) / 11 ≡ suc i = omega arith in
+      let r : rowOf (rowsIn ws) i ≡ rowIn ws at = row-place ws i (omega arith) ∙ rw p refl in
+      rw (e, n, ← r) (ap (all isNoRow) (drop-cons (rowsIn ws) i (rowOf [] 0) (omega (arith, length-rows ws 0 8))))
+
+  pub unused-end : unusedFrom ws 89 ≡ true
+  unfolding all rowsFrom
+  unused-end = refl
