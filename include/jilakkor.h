@@ -35,7 +35,7 @@ extern "C" {
 
 /* ---- sizes */
 
-#define JILAKKOR_VERSION 1       /* of the state's layout, its first word */
+#define JILAKKOR_VERSION 1       /* of the state's layout */
 #define JILAKKOR_WORDS 101       /* of the state */
 #define JILAKKOR_KEPT_WORDS 92   /* of the state without its counters, the last nine */
 #define JILAKKOR_ROWS 8          /* kept regions at most, and entries of a map */
@@ -120,7 +120,7 @@ struct jilakkor_lists {
     uint32_t count[2];
 };
 
-/* A kept region. An unused row is all zeros. */
+/* A kept region. */
 struct jilakkor_row {
     uint64_t start; /* rounded up to a page */
     uint64_t pages; /* tables included */
@@ -132,7 +132,8 @@ struct jilakkor_row {
  * tears it, unless it is one that a call could have made.
  */
 struct jilakkor_state {
-    uint64_t version;
+    uint32_t version;
+    uint32_t used; /* rows; the words of the others are nothing's */
     struct jilakkor_row rows[JILAKKOR_ROWS];
     uint64_t queued; /* places of the queue that are taken */
     uint64_t rounds; /* of the pass of reclaim rounds under way, */

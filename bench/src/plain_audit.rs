@@ -2,7 +2,7 @@
 //! records, with slices indexed as one writes them. The walk of a list is there
 //! twice: from both ends at once, as the store walks, and from one.
 
-const VERSION: u64 = 1;
+const VERSION: u32 = 1;
 const ROW: usize = 11;
 const QUEUED: usize = 1 + 8 * ROW;
 const COUNTERS: usize = QUEUED + 3;
@@ -185,7 +185,7 @@ pub fn audit<const BOTH: bool>(
     memory_len: usize,
     queue_len: usize,
 ) -> u32 {
-    if words.len() < WORDS || words[0] != VERSION {
+    if words.len() < WORDS || words[0] as u32 != VERSION {
         return 6;
     }
     is_whole::<BOTH>(words, records, memory_len, queue_len).map_or(6, |()| 0)
@@ -198,7 +198,8 @@ fn is_whole<const BOTH: bool>(
     queue_len: usize,
 ) -> Option<()> {
     let mut rows = [Row::default(); 8];
-    for (row, words) in rows.iter_mut().zip(words[1..].chunks_exact(ROW)) {
+    let in_use = (words[0] >> 32) as usize;
+    for (row, words) in rows.iter_mut().zip(words[1..].chunks_exact(ROW)).take(in_use) {
         *row = Row::of(words);
     }
     let demand = |holds: bool| holds.then_some(());

@@ -7,9 +7,10 @@ pub struct Store {
     pub queue_len: usize,
 }
 
-/// The words of a state: a version, a row of eleven words for each region, three
-/// for the queue and the pass, and the counters.
+/// The words of a state: a version and how many rows are in use, a row of eleven
+/// words for each region, three for the queue and the pass, and the counters.
 const WORDS: usize = 101;
+const VERSION: u64 = 1;
 const ROW: usize = 1;
 const COUNTERS: usize = 92;
 
@@ -17,7 +18,7 @@ impl Store {
     /// No row.
     pub fn empty() -> Store {
         let mut words = vec![0; WORDS];
-        words[0] = 1;
+        words[0] = VERSION;
         Store { words, records: vec![], memory_len: 0, queue_len: 64 }
     }
 
@@ -59,6 +60,7 @@ impl Store {
         let tables = |pages: usize| pages.div_ceil(128);
         let pages = (managed..).find(|&pages| pages - tables(pages) == managed).unwrap();
         // The first managed page is at 8 GiB.
+        store.words[0] = VERSION | 1 << 32;
         store.words[ROW] = (2 * 512 * 512 * 4 - tables(pages) as u64) * 4096;
         store.words[ROW + 1] = pages as u64;
         store.records = vec![0; managed * 16];

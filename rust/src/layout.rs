@@ -19,7 +19,8 @@ pub const WORDS: usize = 101;
 /// Words of the state without the counters, which are the last nine.
 pub const KEPT_WORDS: usize = 92;
 
-/// The number in the first word: the version of this layout.
+/// The number in the low half of the first word: the version of this layout. The
+/// high half has the number of regions.
 pub const VERSION: u64 = 1;
 
 /// Bytes that the statistics need.

@@ -259,8 +259,9 @@ impl<'a> FrameStore<'a> {
     /// The bytes that the store manages: those of its regions less their tables.
     /// Nothing is tested.
     pub fn managed_bytes(&self) -> usize {
+        let used = (self.word(0) >> 32) as usize;
         let pages = |row: usize| self.word(ROWS_AT + ROW_WORDS * row + 1) as usize;
-        (0..MAX_REGIONS).map(|row| managed_of(pages(row))).fold(0, usize::saturating_add)
+        (0..used.min(MAX_REGIONS)).map(|row| managed_of(pages(row))).fold(0, usize::saturating_add)
     }
 
     fn word(&self, place: usize) -> u64 {

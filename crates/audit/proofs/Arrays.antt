@@ -1,9 +1,9 @@
 -- Rows by value, whatever they are, and rows in words, whatever the words, are eight of six lists each. So the two tests of the sheet that ask for it hold.
-use Prim.Native.Nat.{ℕ}
-use mathlib.Core.Bool.{true, not, _&&_}
+use Prim.Native.Nat.{ℕ, zero, suc, _+_, _*_}
+use mathlib.Core.Bool.{Bool, true, false, cond, not, _&&_}
 use mathlib.Core.List.{List, [], _∷_}
 use mathlib.Core.Path.{_≡_, refl, _∙_}
-use lib.Dec.{leb}
+use lib.Dec.{leb, ltb}
 use lib.ListN.{length, drop}
 use borrow.Author.Tests.{eq-eqb}
 use mir.Val.{Val}
@@ -15,11 +15,11 @@ use Rattle.definition.specs.Board.{standard}
 use Rattle.definition.specs.Basics.{all}
 use Rattle.definition.specs.Allocator.{total}
 use Rattle.definition.specs.Boot.{overlap}
-use Rattle.definition.specs.World.{usedRows}
+use Rattle.definition.specs.World.{noRow, usedRows}
 use Rattle.definition.specs.Torn.{isNoRow, regionsOf, rowAsBoot, sixLists, rowsAsBoot}
 use Rattle.definition.proofs.Tests.{and-true}
 use Rattle.definition.proofs.Row as R
-use Rattle.words.specs.Words.{rowIn, rowsFrom, rowsIn}
+use Rattle.words.specs.Words.{usedIn, rowIn, rowsFrom, rowsIn}
 use Rattle.words.proofs.Owned.{rows-eight, row-narrow}
 use Rattle.audit.proofs.Onward.{and-on}
 
@@ -52,9 +52,14 @@ pub words-eight : (ws : List ℕ) → length (rowsIn ws) ≡ 8
 unfolding rowsFrom
 words-eight ws = refl
 
-words-six : (ws : List ℕ) → all sixLists (rowsIn ws) ≡ true
+words-six : (ws : List ℕ) (i n : ℕ) → all sixLists (rowsFrom ws i n) ≡ true
 unfolding all rowsFrom rowIn
-words-six ws = refl
+words-six ws i zero = refl
+words-six ws i (suc n) = and-true (go (ltb i (usedIn ws))) (words-six ws (i + 1) n)
+  where
+    go : (t : Bool) → sixLists (cond t (rowIn ws (1 + 11 * i)) noRow) ≡ true
+    go true = refl
+    go false = refl
 
 pub words-shaped : (ws : List ℕ) → Shaped (rowsIn ws) (length (usedRows (rowsIn ws)))
-words-shaped ws = shaped (rowsIn ws) (length (usedRows (rowsIn ws))) refl (words-eight ws) (words-six ws)
+words-shaped ws = shaped (rowsIn ws) (length (usedRows (rowsIn ws))) refl (words-eight ws) (words-six ws 0 8)

@@ -28,7 +28,7 @@ ghost use Rattle.definition.specs.Torn.{
   passWithin,
 };
 ghost use Rattle.record.specs.Records.{pagesIn};
-ghost use Rattle.words.specs.Words.{rowsIn, queuedIn, passIn};
+ghost use Rattle.words.specs.Words.{rowsIn, queuedIn, passIn, usedIn};
 ghost use Rattle.audit.specs.Sheet.{rowAt, Few, Visited, Surveys, countsAs, Exact};
 
 // ---- "the rows' starts and pages are such as boot makes"
@@ -179,11 +179,12 @@ fn torn_rows() -> Surveyed
     }
 }
 
-// A row in use, behind those that were seen: that it is as boot makes it, that the loan has its records, and that its region is whole.
-fn visit(records: &[u8], row: Row, seen: Surveyed) -> Surveyed
-    requires { ⌜ Few seen × (seen .used < 8) ⌝ }
-    ensures { λ r. ⌜ Visited (recordAt (now (records .entry))) (pagesIn (now (records .entry))) row seen r ⌝ }
+// The row in use behind those that were seen: that it is as boot makes it, that the loan has its records, and that its region is whole.
+fn visit(records: &[u8], words: &[u64], seen: Surveyed) -> Surveyed
+    requires { ⌜ Few seen × (92 ≤ length (now words)) × (seen .used < 8) × (seen .used < usedIn (now words)) ⌝ }
+    ensures { λ r. ⌜ Visited (recordAt (now (records .entry))) (pagesIn (now (records .entry))) (rowAt (rowsIn (now (words .entry))) (seen .used)) seen r ⌝ }
 {
+    let row = words::row_at(words, seen.used);
     if !row_as_boot(row) {
         return torn_rows();
     }
@@ -199,6 +200,8 @@ fn visit(records: &[u8], row: Row, seen: Surveyed) -> Surveyed
         seen.managed,
         past,
         row,
+        words,
+        seen.used,
     );
     if !whole.ok {
         return torn_rows();
@@ -231,7 +234,7 @@ fn survey(records: &[u8], words: &[u64]) -> Surveyed
             seen.ok = words::is_no_rows(words, seen.used);
             return seen;
         }
-        seen = visit(records, words::row_at(words, seen.used), seen);
+        seen = visit(records, words, seen);
         if !seen.ok {
             return torn_rows();
         }

@@ -113,4 +113,4 @@ BootsAll map count w v y = (ms : List MemoryRegion) → length ms ≡ count → 
 -- and of the words: a boot that is refused leaves them as they are; else they are written whole, from the version to the pass
 pub record BootsOver (ws vs : List ℕ) (y : Answer) : Type 0 where
   pub refused : eqb (y .number) 0 ≡ false → vs ≡ ws
-  pub written : eqb (y .number) 0 ≡ true → vs ≡ withBytes ws 0 (keptOf (rowsIn vs) (queuedIn vs) (passIn vs))
+  pub written : eqb (y .number) 0 ≡ true → vs ≡ withBytes ws 0 (keptOf (length (usedRows (rowsIn vs))) (rowsIn vs) (queuedIn vs) (passIn vs))

@@ -242,7 +242,7 @@ pub fn boot(
         rounds: 0,
         freed: 0,
     };
-    words::put_kept(words, laid, 0, pass);
+    words::put_kept(words, used as u32, laid, 0, pass);
     Outcome {
         counters: started(pages),
         answer: exam::done(0, 4096 * (managed as u64)),

@@ -1,4 +1,4 @@
--- All that a call is given: the rows, the counters, the queue's count and the pass by value, and the loans whole, as lists of bytes and of
+-- All that a call is given: the rows, the counters, the queue's count and the pass, and the loans whole, as lists of bytes and of
 -- addresses. `decode` reads a store out of it, `encode` writes one into it in the format that 01 fixes under "What changes shape".
 use Prim.Native.Nat.{ℕ, zero, suc, _+_, _-_, _*_, _/_, _%_}
 use mathlib.Core.Bool.{Bool, true, false, cond}

@@ -1,14 +1,14 @@
--- The words hold what was written over them. A world whose rows fit is read again as it was, and the loans stay a state's, with room for an answer (`carried`):
--- so it is after a call that leaves a sound world (`served-world`), and after an accepted boot (`booted-world`).
-use Prim.Native.Nat.{ℕ, _≤_}
+-- The words hold what was written over them. A sound world is read again as it was, and the loans stay a state's, with room for an answer (`carried`): so it is
+-- after an accepted boot (`booted-world`), and after a call that leaves a sound world of as many rows in use as the words have (`served-world`).
+use Prim.Native.Nat.{ℕ, _-_, _≤_}
 use mathlib.Core.Bool.{Bool, true, false, cond, false≢true}
 use mathlib.Core.List.{List, [], _∷_}
 use mathlib.Core.Option.{some}
-use mathlib.Core.Path.{_≡_, refl, sym, _∙_}
+use mathlib.Core.Path.{_≡_, refl, sym, ap, _∙_}
 use native.Mathlib.Omega.{arith}
 use borrow.Author.Tests.{eq-eqb, le-leb, leb-true}
 use lib.Dec.{eqb, leb}
-use lib.ListN.{length}
+use lib.ListN.{length, drop, replicate}
 use Rattle.definition.specs.declared.Counters.{Counters}
 use Rattle.definition.specs.declared.MemoryRegion.{MemoryRegion}
 use Rattle.definition.specs.declared.Pass.{Pass}
@@ -19,33 +19,45 @@ use Rattle.definition.specs.Boot.{bootSheet}
 use Rattle.definition.specs.Calls.{Answer as AnswerOf, Call, Refused, Done, Text, Bytes}
 use Rattle.definition.specs.Refusal.{lowest, numberOf}
 use Rattle.definition.specs.Torn.{Left, bootCall, call, sound}
-use Rattle.definition.specs.World.{World}
+use Rattle.definition.specs.World.{World, noRow, usedRows}
 use Rattle.definition.proofs.Tests.{and-left, and-right, and-true}
 use Rattle.record.specs.Records.{withBytes}
 use Rattle.record.proofs.Bytes.{with-length}
 use Rattle.world.specs.Refusals.{numberIf}
 use Rattle.world.proofs.Calling.{none-met}
+use Rattle.world.proofs.Leaving.{sound-sane}
+use Rattle.allocator.proofs.Turning.{used-most}
+use Rattle.audit.proofs.Sheets.{sound-is}
 use Rattle.exam.specs.declared.Answer.{Answer}
 use Rattle.exam.specs.Promise.{told}
 use Rattle.theorems.specs.Demands.{Accepted, worldAfter}
 use Rattle.theorems.proofs.Bookkeeping.{demand-3}
-use Rattle.words.specs.Words.{Narrow, countersIn, counterWords, isKept, keptOf, passIn, queuedIn, rowsIn}
+use Rattle.words.specs.Words.{Narrow, counterWords, highHalf, isKept, keptOf, passIn, queuedIn, rowsIn, usedIn}
 use Rattle.words.proofs.Words.{
   counters-written,
+  first-in,
+  first-kept,
   is-kept-kept,
   kept-written,
   length-counters,
+  length-in,
   length-kept,
+  pass-in,
   pass-kept,
   pass-written,
+  queued-in,
   queued-kept,
   queued-written,
+  rows-in,
   rows-kept,
   rows-written,
+  used-written,
 }
 use Rattle.service.specs.Serving.{
   Lent,
   booted,
+  bootOver,
+  bootStateOver,
   bootWritten,
   hasRoom,
   isLent,
@@ -54,46 +66,58 @@ use Rattle.service.specs.Serving.{
   refusedAs,
   served,
   shortNumber,
-  stateOver,
   tells,
   worldIn,
   written,
 }
-use Rattle.service.proofs.Serving.{lent-kept, lent-long, lent-room}
+use Rattle.service.proofs.Serving.{lent-kept, lent-long, lent-room, lent-words}
 use Rattle.runs.specs.Runs.{Carries}
 use Rattle.runs.proofs.Narrow.{sound-narrow}
 
 -- ---- the words
 
-module _ (w : World) (ws : List ℕ) (long : 101 ≤ length ws) (n : Narrow (w .rows)) where
-  kept-long : length (keptOver w ws) ≡ length ws
-  kept-long =
-      with-length ws 0 (keptOf (w .rows) (w .queued) (w .pass)) (omega (arith, length-kept (w .rows) (w .queued) (w .pass) (n .eight)))
+-- as many words as before hold the world w but for its counters, and so many of their rows are in use
+record Keeps (w : World) (many used : ℕ) (ks : List ℕ) : Type 0 where
+  long : length ks ≡ many
+  kept : isKept ks ≡ true
+  first : usedIn ks ≡ used
+  rows : rowsIn ks ≡ w .rows
+  queued : queuedIn ks ≡ w .queued
+  pass : passIn ks ≡ w .pass
 
-  enough : 101 ≤ length (keptOver w ws)
-  enough = omega (arith, kept-long)
+-- a sound world has no rows behind those in use, which are as many as the words have
+module _ (w : World) (s : sound standard w ≡ true) {used : ℕ} (m : length (usedRows (w .rows)) ≡ used) (ws : List ℕ) (enough : 92 ≤ length ws) where
+  narrow : Narrow (w .rows)
+  narrow = sound-narrow w s
 
-  few : 92 ≤ length ws
-  few = omega arith
+  unused : drop (length (usedRows (w .rows))) (w .rows) ≡ replicate (8 - length (usedRows (w .rows))) noRow
+  unused = sound-sane w (sound-is standard w s) .unused
 
-  rows-again : rowsIn (stateOver w ws) ≡ w .rows
-  rows-again = rows-kept (keptOver w ws) (w .counters) enough ∙ rows-written ws (w .rows) (w .queued) (w .pass) few n
+  call-keeps : isKept ws ≡ true → usedIn ws ≡ used → Keeps w (length ws) used (keptOver w ws)
+  call-keeps k u =
+      let long = length-in ws (w .rows) (w .queued) (w .pass) enough narrow in
+      let first = first-in ws (w .rows) (w .queued) (w .pass) enough narrow in
+      record {
+        long = long;
+        kept = rw (long, first) k;
+        first = ap highHalf first ∙ u;
+        rows = rows-in ws (w .rows) (w .queued) (w .pass) enough narrow (rw (u ∙ sym m) unused);
+        queued = queued-in ws (w .rows) (w .queued) (w .pass) enough narrow;
+        pass = pass-in ws (w .rows) (w .queued) (w .pass) enough narrow;
+      }
 
-  queued-again : queuedIn (stateOver w ws) ≡ w .queued
-  queued-again = queued-kept (keptOver w ws) (w .counters) enough ∙ queued-written ws (w .rows) (w .queued) (w .pass) few (n .eight)
-
-  pass-again : passIn (stateOver w ws) ≡ w .pass
-  pass-again = pass-kept (keptOver w ws) (w .counters) enough ∙ pass-written ws (w .rows) (w .queued) (w .pass) few (n .eight)
-
-  counters-again : countersIn (stateOver w ws) ≡ w .counters
-  counters-again = counters-written (keptOver w ws) (w .counters) enough
-
-  kept-again : isKept (stateOver w ws) ≡ true
-  kept-again = is-kept-kept (keptOver w ws) (w .counters) enough ∙ kept-written ws (w .rows) (w .queued) (w .pass) few (n .eight)
-
-  state-long : length (stateOver w ws) ≡ length ws
-  state-long =
-      with-length (keptOver w ws) 92 (counterWords (w .counters)) (omega (arith, enough, length-counters (w .counters))) ∙ kept-long
+  boot-keeps : Keeps w (length ws) used (bootOver w ws)
+  boot-keeps =
+      let n = length (usedRows (w .rows)) in
+      let eight = narrow .eight in
+      record {
+        long = with-length ws 0 (keptOf n (w .rows) (w .queued) (w .pass)) (omega (arith, length-kept n (w .rows) (w .queued) (w .pass) eight));
+        kept = kept-written ws n (w .rows) (w .queued) (w .pass) enough eight;
+        first = used-written ws n (w .rows) (w .queued) (w .pass) enough eight ∙ m;
+        rows = rows-written ws n (w .rows) (w .queued) (w .pass) enough (omega (arith, used-most (w .rows), eight)) narrow unused;
+        queued = queued-written ws n (w .rows) (w .queued) (w .pass) enough eight;
+        pass = pass-written ws n (w .rows) (w .queued) (w .pass) enough eight;
+      }
 
 -- ---- the answer
 
@@ -112,26 +136,42 @@ same-world : {r t : List Row} {c d : Counters} {m n : ℕ} {p q : Pass} {f g h :
     (record { rows = t; counters = d; queued = n; pass = q; records = f; memory = g; queue = h })
 same-world e0 e1 e2 e3 = cc
 
-carried : (l : Lent) (x : Left) → 101 ≤ length (l .words) → 2 ≤ length (l .answer) → Narrow (x .world .rows) → Carries (written stateOver l x .lent) (x .world)
-carried l x long room n =
-    let w = x .world in
-    let ws = l .words in
+-- the loans hold the world w, in words of which so many rows are in use
+pub record Bears (l : Lent) (w : World) (used : ℕ) : Type 0 where
+  pub carries : Carries l w
+  pub first : usedIn (l .words) ≡ used
+
+carried : (over : World → List ℕ → List ℕ) (l : Lent) (x : Left) {used : ℕ} → 101 ≤ length (l .words) → 2 ≤ length (l .answer)
+    → Keeps (x .world) (length (l .words)) used (over (x .world) (l .words))
+    → Bears (written (λ w ws. withBytes (over w ws) 92 (counterWords (w .counters))) l x .lent) (x .world) used
+carried over l x long room K =
+    let c = x .world .counters in
+    let ks = over (x .world) (l .words) in
     let y = told (x .answer) in
+    let h : 101 ≤ length ks = omega (arith, K .long) in
+    let same = with-length ks 92 (counterWords c) (omega (arith, h, length-counters c)) ∙ K .long in
     record {
-      world = same-world (rows-again w ws long n) (counters-again w ws long n) (queued-again w ws long n) (pass-again w ws long n);
-      lent =
-          and-true (le-leb 101 (length (stateOver w ws)) (omega (arith, state-long w ws long n)))
-          (and-true (kept-again w ws long n) (le-leb 2 (length (tells y (l .answer))) (omega (arith, tells-long y (l .answer) room))));
+      carries =
+          record {
+            world = same-world (rows-kept ks c h ∙ K .rows) (counters-written ks c h) (queued-kept ks c h ∙ K .queued) (pass-kept ks c h ∙ K .pass);
+            lent =
+                and-true (le-leb 101 (length (withBytes ks 92 (counterWords c))) (omega (arith, same)))
+                (and-true (is-kept-kept ks c h ∙ K .kept) (le-leb 2 (length (tells y (l .answer))) (omega (arith, tells-long y (l .answer) room))));
+          };
+      first = ap highHalf (first-kept ks c h) ∙ K .first;
     }
 
 -- ---- a call
 
-pub served-world : (c : Call) (l : Lent) → isLent l ≡ true → sound standard (call standard (worldIn l) c .world) ≡ true
-    → Carries (served c l .lent) (call standard (worldIn l) c .world)
+pub served-world : (c : Call) (l : Lent) {used : ℕ} → isLent l ≡ true → let w = call standard (worldIn l) c .world in sound standard w ≡ true
+    → length (usedRows (w .rows)) ≡ used → usedIn (l .words) ≡ used → Bears (served c l .lent) w used
 unfolding served
-served-world c l e s =
+served-world c l e s m u =
     let x = call standard (worldIn l) c in
-    rw e (carried l x (lent-long l e) (lent-room l (lent-kept l e)) (sound-narrow (x .world) s))
+    let k = lent-kept l e in
+    rw e
+    (carried keptOver l x (lent-long l e) (lent-room l k)
+    (call-keeps (x .world) s m (l .words) (lent-words l k) (and-left (isKept (l .words)) (hasRoom l) k) u))
 
 -- the number that it returns
 pub served-number : (c : Call) (l : Lent) → isLent l ≡ true → served c l .number ≡ told (call standard (worldIn l) c .answer) .number
@@ -150,15 +190,16 @@ boot-sound : (ms : List MemoryRegion) (w : World) → Accepted (bootCall standar
 unfolding worldAfter
 boot-sound ms w ok = demand-3 ms w ok [] .whole
 
-pub booted-world : (ms : List MemoryRegion) (l : Lent) → isRoomy l ≡ true → Accepted (bootCall standard ms (worldIn l) .answer)
-    → Carries (booted ms l .lent) (bootCall standard ms (worldIn l) .world)
+pub booted-world : (ms : List MemoryRegion) (l : Lent) {used : ℕ} → isRoomy l ≡ true → Accepted (bootCall standard ms (worldIn l) .answer)
+    → length (usedRows (bootCall standard ms (worldIn l) .world .rows)) ≡ used
+    → Bears (booted ms l .lent) (bootCall standard ms (worldIn l) .world) used
 unfolding booted
-booted-world ms l e ok =
+booted-world ms l e ok m =
     let x = bootCall standard ms (worldIn l) in
     let long = leb-true 101 (length (l .words)) (and-left _ _ e) in
     let room = leb-true 2 (length (l .answer)) (and-right (leb 101 (length (l .words))) (hasRoom l) e) in
     rw (e, eq-eqb (told (x .answer) .number) 0 (told-accepted (x .answer) ok))
-    (carried l x long room (sound-narrow (x .world) (boot-sound ms (worldIn l) ok)))
+    (carried bootOver l x long room (boot-keeps (x .world) (boot-sound ms (worldIn l) ok) m (l .words) (omega (arith, long))))
 
 -- the two premises, by the number that the boot returns
 never-short : (n : ℕ) → shortNumber n ≡ 0 → ⊥
@@ -171,7 +212,7 @@ never-short n z = go (eqb n 0) refl z
 never-refused : (r : Refusal) → numberOf r ≡ 0 → ⊥
 never-refused r z = let e = none-met (some r) z in let y : _≡_ {A = ℕ} 0 1 = cc in omega arith
 
-boot-number : (l : Lent) (x : Left) (t : Bool) → cond t (written stateOver l x) (refusedAs l (told (x .answer) .number)) .number ≡ told (x .answer) .number
+boot-number : (l : Lent) (x : Left) (t : Bool) → cond t (written bootStateOver l x) (refusedAs l (told (x .answer) .number)) .number ≡ told (x .answer) .number
 boot-number l x true = refl
 boot-number l x false = refl
 

@@ -2,14 +2,18 @@
 -- records: rings and numbers of no page too.
 use Prim.Native.Nat.{ℕ, zero, suc, _-_, _<_}
 use mathlib.Core.Bool.{Bool, true, false, _&&_, and-false, and-comm}
+use mathlib.Core.List.{List}
 use mathlib.Core.Path.{_≡_, refl, sym, ap, _∙_}
 use native.Mathlib.Decide.{ℕ-discrete}
 use native.Mathlib.Omega.{arith}
 use borrow.Author.Tests.{eq-eqb, ne-eqb, eqb-true}
 use lib.Dec.{eqb}
-use Rattle.definition.specs.Torn.{Records}
-use Rattle.definition.proofs.Tests.{same-test}
-use Rattle.scan.specs.Sheet.{onAt, nodeAt, backNodeAt, walksAt}
+use lib.ListN.{getD}
+use Rattle.definition.specs.declared.Links.{Links}
+use Rattle.definition.specs.World.{noLinks}
+use Rattle.definition.specs.Torn.{Records, isNoLinks}
+use Rattle.definition.proofs.Tests.{same-test, and-left, and-right, and-true}
+use Rattle.scan.specs.Sheet.{onAt, nodeAt, backNodeAt, walksAt, listAt}
 use Rattle.scan.proofs.Members.{and-pairs}
 use Rattle.scan.proofs.Nodes.{node-on}
 
@@ -18,7 +22,7 @@ and-swap true b c = refl
 and-swap false true c = refl
 and-swap false false c = refl
 
-pub eqb-swap : (a b : ℕ) → eqb a b ≡ eqb b a
+eqb-swap : (a b : ℕ) → eqb a b ≡ eqb b a
 eqb-swap a b = same-test (λ t. eq-eqb b a (sym (eqb-true a b t))) (λ t. eq-eqb a b (sym (eqb-true b a t)))
 
 -- beside the test that two numbers are one, other tests may be of either
@@ -73,3 +77,19 @@ module _ (f : Records) (base past k : ℕ) where
   between-two (suc (suc n)) prev at next last l =
       let e : suc (suc n) - 2 ≡ n = omega arith in
       rw e (ap (λ (t : Bool). nodeAt f base past k prev at && t) (off-back n at (f (at - 1) .later) next last))
+
+-- the list k of a row's, read out by itself
+module _ (f : Records) (base past : ℕ) (lists : List Links) (k : ℕ) (l : Links) (e : l ≡ getD lists k noLinks) where
+  pub list-walks : walksAt f base past k (l .count) 0 (l .front) (l .back) ≡ listAt f base past lists k
+  list-walks = ap (λ (x : Links). walksAt f base past k (x .count) 0 (x .front) (x .back)) e
+
+  -- an empty one walks
+  pub none-walks : isNoLinks l ≡ true → listAt f base past lists k ≡ true
+  none-walks n =
+      let b = and-right (eqb (l .front) 0) _ n in
+      let front = and-left (eqb (l .front) 0) _ n in
+      let back = and-left (eqb (l .back) 0) _ b in
+      sym list-walks
+      ∙ walks-between f base past k (l .count) 0 (l .front) (l .back)
+      ∙ between-none f base past k (l .count) 0 (l .front) 0 (l .back) (eqb-true (l .count) 0 (and-right (eqb (l .back) 0) _ b))
+      ∙ and-true front (eqb-swap 0 (l .back) ∙ back)

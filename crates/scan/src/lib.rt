@@ -7,12 +7,14 @@ ghost use mathlib.Core.Bool.{false, _&&_};
 ghost use mathlib.Core.Path.{_≡_};
 ghost use Prim.Native.Nat.{_+_, _-_, _≤_, _<_, _^_};
 ghost use lib.Dec.{eqb};
+ghost use lib.ListN.{length};
 ghost use Rattle.definition.specs.Board.{standard};
 ghost use Rattle.definition.specs.Basics.{all, range};
 ghost use Rattle.definition.specs.Allocator.{first};
 ghost use Rattle.definition.specs.World.{recordAt, bareRegion};
-ghost use Rattle.definition.specs.Torn.{past as pastOf, listedPages};
+ghost use Rattle.definition.specs.Torn.{past as pastOf, isNoLinks, listedPages};
 ghost use Rattle.record.specs.Records.{pagesIn};
+ghost use Rattle.words.specs.Words.{rowOf, rowsIn, usedIn};
 ghost use Rattle.scan.specs.Sheet.{
   placedAt,
   headPages,
@@ -241,35 +243,41 @@ fn walk(records: &[u8], base: usize, past: usize, k: usize, links: Links) -> boo
     prev == last
 }
 
-// The same, where an empty list, as most are, is told by its numbers alone.
-fn is_list(records: &[u8], base: usize, past: usize, k: usize, links: Links) -> bool
-    requires { ⌜ (past ≤ pagesIn (now records)) × (k < 6) ⌝ }
-    requires { ⌜ Marked (recordAt (now records)) base past ⌝ }
-    ensures { λ r. ⌜ r ≡ walksAt (recordAt (now (records .entry))) base past k (links .count) 0 (links .front) (links .back) ⌝ }
+// An empty list, which walks.
+fn is_none(links: Links) -> bool
+    ensures { λ r. ⌜ r ≡ isNoLinks links ⌝ }
 {
-    if links.count != 0 {
-        return walk(records, base, past, k, links);
-    }
     if links.front != 0 {
         return false;
     }
-    links.back == 0
+    if links.back != 0 {
+        return false;
+    }
+    links.count == 0
 }
 
-// Whether all six lists walk.
-fn all_walk(records: &[u8], base: usize, past: usize, row: Row) -> bool
+// Whether all six lists of a row in use walk. They are read out of the words, a level at a time, and the empty ones, as most are, are told by their numbers.
+fn all_walk(records: &[u8], base: usize, past: usize, words: &[u64], i: usize) -> bool
     requires { ⌜ past ≤ pagesIn (now records) ⌝ }
     requires { ⌜ Marked (recordAt (now records)) base past ⌝ }
-    ensures { λ r. ⌜ r ≡ all (listAt (recordAt (now (records .entry))) base past (row .lists)) (range 0 6) ⌝ }
+    requires { ⌜ (92 ≤ length (now words)) × (i < 8) × (i < usedIn (now words)) ⌝ }
+    ensures { λ r. ⌜ r ≡ all (listAt (recordAt (now (records .entry))) base past (rowOf (rowsIn (now (words .entry))) i .lists)) (range 0 6) ⌝ }
 {
-    let lists = row.lists;
-    let mut k: usize = 0;
-    while k < 6 {
-        if is_list(records, base, past, k, lists[k]) {
-            k += 1;
-        } else {
-            return false;
+    let mut level: usize = 0;
+    while level < 3 {
+        let dirty = words::dirty_at(words, i, level);
+        if !is_none(dirty) {
+            if !walk(records, base, past, 2 * level, dirty) {
+                return false;
+            }
         }
+        let zeroed = words::zeroed_at(words, i, level);
+        if !is_none(zeroed) {
+            if !walk(records, base, past, 2 * level + 1, zeroed) {
+                return false;
+            }
+        }
+        level += 1;
     }
     true
 }
@@ -297,9 +305,18 @@ pub struct Whole {
     pub kernel: usize,
 }
 
-// Whether a region's heads and lists are as the sheet says, and if so the pages that it holds without KERNEL and with it. The nodes of lists that walk
+// Whether the heads and lists of the region of the row i are as the sheet says, and if so the pages that it holds without KERNEL and with it. The nodes of lists that walk
 // are unheld heads, each once: that they have as many pages as nobody holds says that "every unheld head is on a list".
-pub fn region_whole(records: &[u8], from: usize, base: usize, past: usize, row: Row) -> Whole
+pub fn region_whole(
+    records: &[u8],
+    from: usize,
+    base: usize,
+    past: usize,
+    row: Row,
+    words: &[u64],
+    i: usize,
+) -> Whole
+    requires { ⌜ (92 ≤ length (now words)) × (i < 8) × (i < usedIn (now words)) × (row ≡ rowOf (rowsIn (now words)) i) ⌝ }
     requires { ⌜ (from ≡ first standard (bareRegion standard row)) × (past ≡ pastOf standard (placedAt base row)) ⌝ }
     requires { ⌜ (past ≤ pagesIn (now records)) × (from + (past - base) < 2 ^ 64) ⌝ }
     ensures { λ r. ⌜ Audited (recordAt (now (records .entry))) (placedAt base row) r ⌝ }
@@ -309,7 +326,7 @@ pub fn region_whole(records: &[u8], from: usize, base: usize, past: usize, row: 
     if ok {
         if listed_pages(row) == past - base - scanned.page - scanned.kernel {
             return Whole {
-                ok: all_walk(records, base, past, row),
+                ok: all_walk(records, base, past, words, i),
                 page: scanned.page,
                 kernel: scanned.kernel,
             };

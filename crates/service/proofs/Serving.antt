@@ -5,7 +5,7 @@ use mathlib.Core.List.{List, [], _∷_}
 use mathlib.Core.Option.{Option, none, some}
 use mathlib.Core.Path.{_≡_, refl, sym, ap, _∙_}
 use native.Mathlib.Omega.{arith}
-use borrow.Author.Tests.{leb-true, le-leb, lt-leb, eq-eqb, eqb-true, eqb-false}
+use borrow.Author.Tests.{leb-true, le-leb, lt-leb, eq-eqb, eqb-false}
 use lib.Dec.{eqb, leb}
 use lib.ListN.{length, take, length-take}
 use Rattle.definition.specs.declared.Counters.{Counters}
@@ -20,7 +20,7 @@ use Rattle.definition.specs.World.{World, decode}
 use Rattle.definition.specs.Torn.{bootCall, booted as bootedWorld, call, sound, untouched, unlessRefused as unlessBootRefused, written as writtenWorld}
 use Rattle.definition.proofs.Tests.{and-left, and-right}
 use Rattle.record.specs.Records.{withBytes}
-use Rattle.words.specs.Words.{Beside, wordIn, isKept, countersIn, counterWords}
+use Rattle.words.specs.Words.{Beside, wordIn, lowHalf, isKept, countersIn, counterWords}
 use Rattle.words.proofs.Words.{beside-same, kept-again, kept-from, counters-again}
 use Rattle.world.specs.Refusals.{numberIf}
 use Rattle.exam.specs.declared.Answer.{Answer}
@@ -48,7 +48,6 @@ use Rattle.service.specs.Serving.{
   bootedWith,
   refusedAs,
   stays,
-  countedBy,
   written,
   tells,
   isLent,
@@ -59,14 +58,15 @@ use Rattle.service.specs.Serving.{
   shortNumber,
   worldIn,
   worldWith,
-  stateOver,
   keptOver,
+  bootOver,
+  bootStateOver,
 }
 
 -- ---- the tests of the loans
 
 pub kept-long : (ws : List ℕ) → isKept ws ≡ true → 92 ≤ length ws
-kept-long ws e = leb-true 92 (length ws) (and-left (leb 92 (length ws)) (eqb (wordIn ws 0) 1) e)
+kept-long ws e = leb-true 92 (length ws) (and-left (leb 92 (length ws)) (eqb (lowHalf (wordIn ws 0)) 1) e)
 
 module _ (l : Lent) (e : isLentKept l ≡ true) where
   pub lent-words : 92 ≤ length (l .words)
@@ -75,14 +75,9 @@ module _ (l : Lent) (e : isLentKept l ≡ true) where
   pub lent-room : 2 ≤ length (l .answer)
   lent-room = leb-true 2 (length (l .answer)) (and-right (isKept (l .words)) (hasRoom l) e)
 
-  pub lent-version : wordIn (l .words) 0 ≡ 1
-  lent-version =
-      let ws = l .words in
-      eqb-true (wordIn ws 0) 1 (and-right (leb 92 (length ws)) (eqb (wordIn ws 0) 1) (and-left (isKept ws) (hasRoom l) e))
-
   -- what is read out of the words and written over them again is the words
   pub kept-same : (k : Counters) → keptOver (worldWith k l) (l .words) ≡ l .words
-  kept-same k = kept-again (l .words) lent-words lent-version
+  kept-same k = kept-again (l .words) lent-words
 
 module _ (l : Lent) (e : isLent l ≡ true) where
   pub lent-long : 101 ≤ length (l .words)
@@ -111,7 +106,7 @@ module _ {c : Call} (l : Lent) (k : Counters) {k′ : Counters} {words records m
       → ServesWith c k l k′ (record { words = words; records = records; memory = memory; queue = queue; answer = answer }) r
   unfolding servedWith
   serves-with n b =
-      rw (e, L .world, L .answer, kept-from (l .words) words (lent-words l e) n (lent-version l e) b, told-answer, told-number) refl
+      rw (e, L .world, L .answer, kept-from (l .words) words (lent-words l e) n b, told-answer, told-number) refl
 
 -- ---- the words with the counters: these are read out of the words and written over them
 
@@ -321,8 +316,9 @@ module _ (ms : List MemoryRegion) (l : Lent) where
       stayed n = rw (counters-again (l .words) h) refl
 
       roomy : (t u : Bool) → let x = bootCall standard ms (worldIn l) in let n = told (x .answer) .number in
-          cond t (cond u (written stateOver l x) (refusedAs l n)) (refusedAs l shortBoot)
-          ≡ wordsFrom (cond t (cond u (countedBy l x) (stays (countersIn (l .words)) l n)) (stays (countersIn (l .words)) l shortBoot))
+          let made : Counted = record { counters = x .world .counters; served = written bootOver l x } in
+          cond t (cond u (written bootStateOver l x) (refusedAs l n)) (refusedAs l shortBoot)
+          ≡ wordsFrom (cond t (cond u made (stays (countersIn (l .words)) l n)) (stays (countersIn (l .words)) l shortBoot))
       roomy true true = refl
       roomy true false = stayed (told (bootCall standard ms (worldIn l) .answer) .number)
       roomy false u = stayed shortBoot

@@ -14,7 +14,7 @@ use Rattle.definition.specs.Board.{standard}
 use Rattle.definition.specs.Boot.{bootSheet}
 use Rattle.definition.specs.Refusal.{lowest}
 use Rattle.definition.specs.Calls.{Call, Read, Stats}
-use Rattle.definition.specs.World.{World}
+use Rattle.definition.specs.World.{World, usedRows}
 use Rattle.definition.specs.Torn.{Left, call, bootCall}
 use Rattle.record.specs.Records.{withBytes}
 use Rattle.world.specs.Refusals.{numberIf}
@@ -22,7 +22,7 @@ use Rattle.exam.specs.declared.Answer.{Answer}
 use Rattle.exam.specs.Promise.{told}
 use Rattle.counts.specs.Counting.{textOf}
 use Rattle.copies.specs.Copies.{bytesOf}
-use Rattle.words.specs.Words.{wordIn, keptWords, stateWords, rowsIn, queuedIn, passIn, countersIn, isKept, keptOf, counterWords}
+use Rattle.words.specs.Words.{wordIn, keptWords, stateWords, rowsIn, queuedIn, passIn, countersIn, isKept, keptIn, keptOf, counterWords}
 
 -- the loans of a call, whole
 pub record Lent : Type 0 where
@@ -50,12 +50,19 @@ worldIn l = worldWith (countersIn (l .words)) l
 
 -- ---- what is written
 
--- the words, with a world's state but for its counters, and with all of it
+-- the words, with a world's state but for its counters, and with all of it; the first word and those of unused rows stay
 abbrev pub keptOver : World → List ℕ → List ℕ
-keptOver w ws = withBytes ws 0 (keptOf (w .rows) (w .queued) (w .pass))
+keptOver w ws = keptIn ws (w .rows) (w .queued) (w .pass)
 
 abbrev pub stateOver : World → List ℕ → List ℕ
 stateOver w ws = withBytes (keptOver w ws) 92 (counterWords (w .counters))
+
+-- the same as a boot writes it, the first word and the unused rows included
+abbrev pub bootOver : World → List ℕ → List ℕ
+bootOver w ws = withBytes ws 0 (keptOf (length (usedRows (w .rows))) (w .rows) (w .queued) (w .pass))
+
+abbrev pub bootStateOver : World → List ℕ → List ℕ
+bootStateOver w ws = withBytes (bootOver w ws) 92 (counterWords (w .counters))
 
 -- the address and the bytes of an accepted call stand in front of the answer; a refusal leaves it as it is
 unfoldable pub tells : Answer → List ℕ → List ℕ
@@ -167,7 +174,7 @@ ShortBoots map count records memory r =
     → r ≡ shortNumber (numberIf (lowest (bootSheet standard ms records memory)))
 
 abbrev pub bootWritten : Lent → Left → Served
-bootWritten l x = cond (eqb (told (x .answer) .number) 0) (written stateOver l x) (refusedAs l (told (x .answer) .number))
+bootWritten l x = cond (eqb (told (x .answer) .number) 0) (written bootStateOver l x) (refusedAs l (told (x .answer) .number))
 
 unfoldable pub booted : List MemoryRegion → Lent → Served
 booted ms l =
@@ -185,7 +192,8 @@ abbrev pub isRoomyKept : Lent → Bool
 isRoomyKept l = leb keptWords (length (l .words)) && hasRoom l
 
 abbrev pub bootCounted : Counters → Lent → Left → Counted
-bootCounted k l x = cond (eqb (told (x .answer) .number) 0) (countedBy l x) (stays k l (told (x .answer) .number))
+bootCounted k l x =
+    cond (eqb (told (x .answer) .number) 0) (record { counters = x .world .counters; served = written bootOver l x }) (stays k l (told (x .answer) .number))
 
 unfoldable pub bootedWith : List MemoryRegion → Counters → Lent → Counted
 bootedWith ms k l =

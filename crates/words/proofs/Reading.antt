@@ -1,11 +1,12 @@
 -- What is read of words that were written: halves, lists and rows; and that equal words read equal.
 use Prim.Native.Nat.{ℕ, zero, suc, _+_, _*_, _≤_, _<_}
-use mathlib.Core.List.{List, [], _∷_, _++_, append-assoc}
-use mathlib.Core.Path.{_≡_, refl, ap, ap₂, _∙_}
+use mathlib.Core.List.{List, [], _∷_}
+use mathlib.Core.Path.{_≡_, refl, sym, ap, ap₂, _∙_}
+use borrow.Author.Tests.{lt-ltb, le-ltb}
 use native.Mathlib.Nat.{add-assoc, add-zero, zero-add}
 use native.Mathlib.Omega.{arith}
-use lib.ListN.{length, getD, take, drop, length-append}
-use lib.Seq.{drop-cons, getD-append-add, take-all}
+use lib.ListN.{length, getD, take, drop}
+use lib.Seq.{drop-cons, getD-drop, take-all}
 use Rattle.definition.specs.declared.Links.{Links}
 use Rattle.definition.specs.declared.Row.{Row}
 use Rattle.definition.specs.World.{noLinks, noRow}
@@ -19,13 +20,13 @@ use Rattle.words.specs.Words.{
   firstIn,
   secondIn,
   rowIn,
+  usedIn,
+  rowHere,
   rowsFrom,
   pairWords,
   listIn,
   rowWords,
-  rowsWords,
 }
-use Rattle.words.proofs.Rows.{length-row-words}
 
 -- ---- halves
 
@@ -48,6 +49,13 @@ pub run-taken : {A : Type 0} (d : A) (l : List A) (at n : ℕ) → at + n ≤ le
 run-taken {A} d l at zero h = refl
 run-taken {A} d l at (suc n) h = rw (drop-cons l at d (omega arith)) (ap (λ (xs : List A). getD l at d ∷ xs) (run-taken d l (suc at) n (omega arith)))
 
+pub run-at : {A : Type 0} (d : A) (l : List A) (at n k : ℕ) → k < n → getD (run d l at n) k d ≡ getD l (at + k) d
+run-at d l at zero k h = absurd (omega arith)
+run-at d l at (suc n) zero h = rw (add-zero at) refl
+run-at d l at (suc n) (suc k) h =
+    let e : at + suc k ≡ suc at + k = omega arith in
+    rw e (run-at d l (suc at) n k (omega arith))
+
 -- ---- a row
 
 -- read, and its words again
@@ -68,26 +76,26 @@ pub row-again : (ws : List ℕ) (at : ℕ)
 unfolding rowIn rowWords
 row-again ws at = simp halves
 
-module _ (a b : Links) (rest : List ℕ) (p : NarrowLinks a) (q : NarrowLinks b) where
-  first-read : firstIn (pairWords a b ++ rest) 0 ≡ a
+module _ (a b : Links) (p : NarrowLinks a) (q : NarrowLinks b) where
+  first-read : firstIn (pairWords a b) 0 ≡ a
   first-read = rw (low (a .front) (a .back) (p .front), high (a .front) (a .back) (p .front), low (a .count) (b .count) (p .count)) refl
 
-  second-read : secondIn (pairWords a b ++ rest) 0 ≡ b
+  second-read : secondIn (pairWords a b) 0 ≡ b
   second-read = rw (low (b .front) (b .back) (q .front), high (b .front) (b .back) (q .front), high (a .count) (b .count) (p .count)) refl
 
-pub row-read : (row : Row) (rest : List ℕ) → NarrowRow row → rowIn (rowWords row ++ rest) 0 ≡ row
+pub row-read : (row : Row) → NarrowRow row → rowIn (rowWords row) 0 ≡ row
 unfolding rowIn rowWords
-row-read row rest n =
+row-read row n =
     let l : ℕ → Links = listIn row in
     let m : (k : ℕ) → k < 6 → NarrowLinks (l k) = n .narrow in
     let s : run noLinks (row .lists) 0 6 ≡ row .lists = run-taken noLinks (row .lists) 0 6 (omega (arith, n .six)) ∙ take-all 6 (row .lists) (omega (arith, n .six)) in
     rw (
-      first-read (l 0) (l 1) [] (m 0 (omega arith)) (m 1 (omega arith)),
-      second-read (l 0) (l 1) [] (m 0 (omega arith)) (m 1 (omega arith)),
-      first-read (l 2) (l 3) [] (m 2 (omega arith)) (m 3 (omega arith)),
-      second-read (l 2) (l 3) [] (m 2 (omega arith)) (m 3 (omega arith)),
-      first-read (l 4) (l 5) [] (m 4 (omega arith)) (m 5 (omega arith)),
-      second-read (l 4) (l 5) [] (m 4 (omega arith)) (m 5 (omega arith)),
+      first-read (l 0) (l 1) (m 0 (omega arith)) (m 1 (omega arith)),
+      second-read (l 0) (l 1) (m 0 (omega arith)) (m 1 (omega arith)),
+      first-read (l 2) (l 3) (m 2 (omega arith)) (m 3 (omega arith)),
+      second-read (l 2) (l 3) (m 2 (omega arith)) (m 3 (omega arith)),
+      first-read (l 4) (l 5) (m 4 (omega arith)) (m 5 (omega arith)),
+      second-read (l 4) (l 5) (m 4 (omega arith)) (m 5 (omega arith)),
       s,
     ) refl
 
@@ -111,25 +119,32 @@ row-same ws vs at bt h =
       g 8 2 (omega arith),
     ) refl
 
+-- the words of a row that was read
+pub word-again : (ws : List ℕ) (at k : ℕ) → k < 11 → wordIn (rowWords (rowIn ws at)) k ≡ wordIn ws (at + k)
+word-again ws at k h =
+    let behind : List ℕ = drop at ws in
+    let m : rowIn ws at ≡ rowIn behind 0 = row-same ws behind at 0 (λ j l. rw (zero-add j) (sym (getD-drop at ws j 0))) in
+    ap (λ (row : Row). wordIn (rowWords row) k) m
+    ∙ ap (λ (xs : List ℕ). getD xs k 0) (row-again behind 0)
+    ∙ run-at 0 behind 0 11 k h
+    ∙ rw (zero-add k) (getD-drop at ws k 0)
+
 -- ---- the rows
+
+module _ (ws : List ℕ) (i : ℕ) where
+  pub row-used : i < usedIn ws → rowHere ws i ≡ rowIn ws (1 + 11 * i)
+  row-used h = rw (lt-ltb i (usedIn ws) h) refl
+
+  pub row-unused : usedIn ws ≤ i → rowHere ws i ≡ noRow
+  row-unused h = rw (le-ltb i (usedIn ws) h) refl
+
+pub here-same : (ws vs : List ℕ) (i : ℕ) → wordIn ws 0 ≡ wordIn vs 0 → rowIn ws (1 + 11 * i) ≡ rowIn vs (1 + 11 * i) → rowHere ws i ≡ rowHere vs i
+here-same ws vs i z e = rw (z, e) refl
 
 pub rows-same : (ws vs : List ℕ) (i n : ℕ) → i + n ≤ 8 → ((k : ℕ) → k < 89 → wordIn ws k ≡ wordIn vs k) → rowsFrom ws i n ≡ rowsFrom vs i n
 unfolding rowsFrom
 rows-same ws vs i zero h e = refl
 rows-same ws vs i (suc n) h e =
     ap₂ (λ (r : Row) (rs : List Row). r ∷ rs)
-    (row-same ws vs (1 + 11 * i) (1 + 11 * i) (λ k l. e (1 + 11 * i + k) (omega arith)))
+    (here-same ws vs i (e 0 (omega arith)) (row-same ws vs (1 + 11 * i) (1 + 11 * i) (λ k l. e (1 + 11 * i + k) (omega arith))))
     (rows-same ws vs (i + 1) n (omega arith) e)
-
-pub rows-read : (front : List ℕ) (rows : List Row) (rest : List ℕ) (i : ℕ) → length front ≡ 1 + 11 * i
-    → ((k : ℕ) → k < length rows → NarrowRow (getD rows k noRow))
-    → rowsFrom (front ++ (rowsWords rows ++ rest)) i (length rows) ≡ rows
-unfolding rowsFrom rowsWords
-rows-read front [] rest i e n = refl
-rows-read front (row ∷ rows) rest i e n =
-    let behind : List ℕ = rowWords row ++ (rowsWords rows ++ rest) in
-    let here : rowIn (front ++ behind) (1 + 11 * i) ≡ row =
-    row-same (front ++ behind) behind (1 + 11 * i) 0 (λ k l. rw (← e, zero-add k) (getD-append-add front behind k 0)) ∙ row-read row (rowsWords rows ++ rest) (n 0 (omega arith))
-    in
-    let l : length (front ++ rowWords row) ≡ 1 + 11 * (i + 1) = length-append front (rowWords row) ∙ omega (arith, length-row-words row) in
-    rw append-assoc (rw here (ap (λ (rs : List Row). row ∷ rs) (rw (← append-assoc front (rowWords row) (rowsWords rows ++ rest)) (rows-read (front ++ rowWords row) rows rest (i + 1) l (λ k h. n (suc k) (omega arith))))))

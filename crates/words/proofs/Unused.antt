@@ -1,22 +1,22 @@
--- A row read of words is an unused one just where its eleven words are zeros; and of several rows, one after another.
+-- A row read of words is an unused one just where its eleven words are zeros; of several rows, one after another; and those behind the rows in use are.
 use Prim.Native.Nat.{ℕ, zero, suc, _+_, _*_, _-_, _/_, _%_, _≤_, _<_}
 use mathlib.Core.Bool.{Bool, true, _&&_}
 use mathlib.Core.List.{List, [], _∷_}
 use mathlib.Core.Path.{_≡_, refl, sym, ap, _∙_}
 use borrow.Author.Tests.{eqb-true, eq-eqb}
-use native.Mathlib.Nat.{zero-add}
+use native.Mathlib.Nat.{add-zero, zero-add, sub-zero}
 use native.Mathlib.Omega.{arith}
 use lib.Dec.{eqb}
-use lib.ListN.{length, getD, drop, replicate, length-drop, getD-replicate}
-use lib.Seq.{drop-cons, getD-take, getD-drop}
+use lib.ListN.{getD, drop, replicate, getD-replicate}
+use lib.Seq.{drop-cons}
 use Rattle.definition.specs.declared.Links.{Links}
 use Rattle.definition.specs.declared.Row.{Row}
 use Rattle.definition.specs.Basics.{all, range}
 use Rattle.definition.specs.Torn.{isNoLinks, isNoRow}
-use Rattle.definition.specs.World.{noLinks}
-use Rattle.definition.proofs.Tests.{same-test, and-left, and-right, range-in, in-range}
-use Rattle.words.specs.Words.{wordIn, rowIn, rowsFrom, rowsIn, rowOf, rowWords}
-use Rattle.words.proofs.Reading.{run, run-taken, row-again, row-same}
+use Rattle.definition.specs.World.{noLinks, noRow}
+use Rattle.definition.proofs.Tests.{same-test, and-left, and-right, and-true, range-in, in-range}
+use Rattle.words.specs.Words.{wordIn, rowIn, rowsFrom, rowsIn, rowOf, rowWords, usedIn}
+use Rattle.words.proofs.Reading.{row-same, row-unused, word-again}
 use Rattle.words.proofs.Places.{length-rows, row-place}
 
 abbrev pub isZero : List ℕ → ℕ → Bool
@@ -51,22 +51,9 @@ no-row-of-none : isNoRow (rowIn [] 0) ≡ true
 unfolding rowIn all
 no-row-of-none = refl
 
-module _ (ws : List ℕ) (at : ℕ) (h : at + 11 ≤ length ws) where
-  abbrev behind : List ℕ
-  behind = drop at ws
-
-  eleven : isNoRow (rowIn ws at) ≡ true → run 0 behind 0 11 ≡ replicate 11 0
-  eleven e =
-      let m : rowIn ws at ≡ rowIn behind 0 = row-same ws behind at 0 (λ k l. rw (zero-add k) (sym (getD-drop at ws k 0))) in
-      sym (row-again behind 0) ∙ no-words (rowIn behind 0) (rw (← m) e)
-
+module _ (ws : List ℕ) (at : ℕ) where
   word : isNoRow (rowIn ws at) ≡ true → (k : ℕ) → k < 11 → wordIn ws (at + k) ≡ 0
-  word e k l =
-      let n : 0 + 11 ≤ length behind = rw length-drop (omega arith) in
-      sym (getD-drop at ws k 0)
-      ∙ sym (getD-take 11 behind k 0 l)
-      ∙ ap (λ (xs : List ℕ). getD xs k 0) (sym (run-taken 0 behind 0 11 n) ∙ eleven e)
-      ∙ getD-replicate 11 k 0 0 l
+  word e k l = sym (word-again ws at k l) ∙ ap (λ (xs : List ℕ). getD xs k 0) (no-words (rowIn ws at) e) ∙ getD-replicate 11 k 0 0 l
 
   pub unused : all (isZero ws) (range at 11) ≡ isNoRow (rowIn ws at)
   unused =
@@ -80,20 +67,43 @@ module _ (ws : List ℕ) (at : ℕ) (h : at + 11 ≤ length ws) where
 abbrev pub unusedFrom : List ℕ → ℕ → Bool
 unusedFrom ws at = all isNoRow (drop (at / 11) (rowsIn ws))
 
+no-row : isNoRow noRow ≡ true
+unfolding all
+no-row = refl
+
 module _ (ws : List ℕ) where
+  rows-behind : (i n k : ℕ) → drop k (rowsFrom ws i n) ≡ rowsFrom ws (i + k) (n - k)
+  unfolding rowsFrom
+  rows-behind i n zero = rw (add-zero i, sub-zero n) refl
+  rows-behind i zero (suc k) = let e : 0 - suc k ≡ 0 = omega arith in rw e refl
+  rows-behind i (suc n) (suc k) =
+      let e : i + suc k ≡ i + 1 + k = omega arith in
+      let m : suc n - suc k ≡ n - k = omega arith in
+      rw (e, m) (rows-behind (i + 1) n k)
+
+  -- none of them is in use
+  rows-unused : (i n : ℕ) → (0 < n → usedIn ws ≤ i) → all isNoRow (rowsFrom ws i n) ≡ true
+  unfolding rowsFrom all
+  rows-unused i zero h = refl
+  rows-unused i (suc n) h =
+      let u : usedIn ws ≤ i = h (omega arith) in
+      rw (row-unused ws i u) (and-true no-row (rows-unused (i + 1) n (λ l. omega arith)))
+
   pub unused-from : (first : ℕ) → unusedFrom ws (1 + 11 * first) ≡ all isNoRow (drop first (rowsIn ws))
   unused-from first = let e : (1 + 11 * first) / 11 ≡ first = omega arith in rw e refl
 
   pub unused-next
-      : (at : ℕ) {t : Bool} → at % 11 ≡ 1 → at < 89 → t ≡ isNoRow (rowIn ws at) → unusedFrom ws at ≡ (t && unusedFrom ws (at + 11))
+      : (at : ℕ) {t : Bool} → at % 11 ≡ 1 → at < 89 → at < 1 + 11 * usedIn ws → t ≡ isNoRow (rowIn ws at)
+      → unusedFrom ws at ≡ (t && unusedFrom ws (at + 11))
   unfolding all
-  unused-next at m h e =
+  unused-next at m h u e =
       let i : ℕ = at / 11 in
       let p : 1 + 11 * i ≡ at = omega arith in
       let n : (at + 11) / 11 ≡ suc i = omega arith in
-      let r : rowOf (rowsIn ws) i ≡ rowIn ws at = row-place ws i (omega arith) ∙ rw p refl in
+      let r : rowOf (rowsIn ws) i ≡ rowIn ws at = row-place ws i (omega arith) (omega arith) ∙ rw p refl in
       rw (e, n, ← r) (ap (all isNoRow) (drop-cons (rowsIn ws) i (rowOf [] 0) (omega (arith, length-rows ws 0 8))))
 
-  pub unused-end : unusedFrom ws 89 ≡ true
-  unfolding all rowsFrom
-  unused-end = refl
+  pub unused-end : (at : ℕ) → at % 11 ≡ 1 → (at < 89 → 1 + 11 * usedIn ws ≤ at) → unusedFrom ws at ≡ true
+  unused-end at m h =
+      let i : ℕ = at / 11 in
+      rw (rows-behind 0 8 i, zero-add i) (rows-unused i (8 - i) (λ l. let u : 1 + 11 * usedIn ws ≤ at = h (omega arith) in omega arith))

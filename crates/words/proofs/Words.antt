@@ -1,29 +1,47 @@
 -- Laws of the words: how many there are; that what stays through each of two changes stays through both; that what was read and is written again leaves them
 -- as they were; and that what was written is read.
-use Prim.Native.Nat.{ℕ, suc, _+_, _≤_, _<_}
+use Prim.Native.Nat.{ℕ, suc, _+_, _-_, _*_, _/_, _%_, _≤_, _<_}
 use mathlib.Core.List.{List, [], _∷_, _++_, append-assoc}
-use mathlib.Core.Path.{_≡_, refl, ap, _∙_}
+use mathlib.Core.Path.{_≡_, refl, sym, ap, _∙_}
 use mathlib.Core.Bool.{true}
 use borrow.Author.Tests.{le-leb}
+use native.Mathlib.Decide.{ℕ-discrete, decLt}
 use native.Mathlib.Omega.{arith}
-use lib.ListN.{length, getD, take, drop, length-append, length-drop, take-append-drop}
-use lib.Seq.{getD-append-add, length-take-le, take-add}
+use lib.ListN.{length, getD, take, drop, replicate, length-append, length-take, length-drop, take-append-drop, List·getD-append}
+use lib.Seq.{ext-getD, getD-append-add, getD-take, getD-drop, length-take-le, take-add}
 use Rattle.definition.specs.declared.Counters.{Counters}
 use Rattle.definition.specs.declared.Pass.{Pass}
 use Rattle.definition.specs.declared.Row.{Row}
 use Rattle.definition.specs.World.{noRow}
 use Rattle.record.specs.Records.{withBytes}
 use Rattle.record.proofs.Bytes.{with-length, with-in, with-out}
-use Rattle.words.specs.Words.{Beside, RowsBeside, Narrow, NarrowRow, wordIn, rowsIn, rowsFrom, queuedIn, passIn, countersIn, isKept, rowsWords, keptOf, counterWords}
-use Rattle.words.proofs.Reading.{run, run-taken, row-again, rows-same, rows-read}
-use Rattle.words.proofs.Rows.{length-rows-words}
-use Rattle.words.proofs.Places.{length-rows}
+use Rattle.words.specs.Words.{
+  Beside,
+  RowsBeside,
+  Narrow,
+  wordIn,
+  rowsIn,
+  usedIn,
+  queuedIn,
+  passIn,
+  countersIn,
+  isKept,
+  joined,
+  rowWords,
+  rowsWords,
+  keptOf,
+  keptIn,
+  counterWords,
+}
+use Rattle.words.proofs.Reading.{run, run-taken, run-at, word-again, row-used, rows-same}
+use Rattle.words.proofs.Rows.{length-rows-words, row-word}
+use Rattle.words.proofs.Places.{length-rows, row-numbered, rows-stand}
 
 -- ---- lengths
 
-pub length-kept : (rows : List Row) (queued : ℕ) (pass : Pass) → length rows ≡ 8 → length (keptOf rows queued pass) ≡ 92
+pub length-kept : (used : ℕ) (rows : List Row) (queued : ℕ) (pass : Pass) → length rows ≡ 8 → length (keptOf used rows queued pass) ≡ 92
 unfolding keptOf
-length-kept rows queued pass e =
+length-kept used rows queued pass e =
     ap suc (length-append (rowsWords rows) (queued ∷ pass .rounds ∷ pass .freed ∷ [])) ∙ omega (arith, length-rows-words rows)
 
 pub length-counters : (c : Counters) → length (counterWords c) ≡ 9
@@ -33,10 +51,15 @@ length-counters c = refl
 -- ---- what stays, of changes one after another
 
 pub beside-same : {ws : List ℕ} → Beside ws ws
-beside-same = record { version = refl; behind = refl }
+beside-same = record { version = refl; unused = λ k a b. refl; behind = refl }
 
 pub beside-then : {ws vs us : List ℕ} → Beside ws vs → Beside vs us → Beside ws us
-beside-then b d = record { version = d .version ∙ b .version; behind = d .behind ∙ b .behind }
+beside-then b d =
+    record {
+      version = d .version ∙ b .version;
+      unused = λ k h l. d .unused k (rw (b .version) h) l ∙ b .unused k h l;
+      behind = d .behind ∙ b .behind;
+    }
 
 pub rows-beside-same : {ws : List ℕ} → RowsBeside ws ws
 rows-beside-same = record { beside = beside-same; queued = refl; pass = refl }
@@ -49,7 +72,163 @@ rows-beside-then b d =
       pass = d .pass ∙ b .pass;
     }
 
+-- ---- all written, as a boot does, and read
+module _ (ws : List ℕ) (used : ℕ) (rows : List Row) (queued : ℕ) (pass : Pass) (h : 92 ≤ length ws) where
+  abbrev behind : List ℕ
+  behind = queued ∷ pass .rounds ∷ pass .freed ∷ drop 92 ws
+
+  split : length rows ≡ 8 → withBytes ws 0 (keptOf used rows queued pass) ≡ joined 1 used ∷ (rowsWords rows ++ behind)
+  unfolding withBytes keptOf
+  split e = rw (length-kept used rows queued pass e, append-assoc (rowsWords rows) (queued ∷ pass .rounds ∷ pass .freed ∷ []) (drop 92 ws)) refl
+
+  -- the three words behind the rows
+  tail : length rows ≡ 8 → (k : ℕ) → wordIn (withBytes ws 0 (keptOf used rows queued pass)) (89 + k) ≡ wordIn behind k
+  tail e k =
+      let n : length (joined 1 used ∷ rowsWords rows) ≡ 89 = ap suc (length-rows-words rows) ∙ omega arith in
+      rw (split e) (rw n at (getD-append-add (joined 1 used ∷ rowsWords rows) behind k 0))
+
+  first : length rows ≡ 8 → wordIn (withBytes ws 0 (keptOf used rows queued pass)) 0 ≡ joined 1 used
+  first e = rw (split e) refl
+
+  pub used-written : length rows ≡ 8 → usedIn (withBytes ws 0 (keptOf used rows queued pass)) ≡ used
+  used-written e = rw (first e) (omega arith)
+
+  pub rows-written : used ≤ 8 → Narrow rows → drop used rows ≡ replicate (8 - used) noRow → rowsIn (withBytes ws 0 (keptOf used rows queued pass)) ≡ rows
+  rows-written u n e =
+      rows-stand (withBytes ws 0 (keptOf used rows queued pass)) rows n (rw (used-written (n .eight)) e)
+      (λ i k l m j.
+      let s : 1 + 11 * i + k ≡ 1 + (11 * i + k) = omega arith in
+      rw (s, split (n .eight))
+      (getD-append-add (joined 1 used ∷ []) (rowsWords rows ++ behind) (11 * i + k) 0
+      ∙ List·getD-append (rowsWords rows) behind 0 (11 * i + k) (omega (arith, length-rows-words rows, n .eight))
+      ∙ row-word rows i k noRow (omega (arith, n .eight)) j))
+
+  pub queued-written : length rows ≡ 8 → queuedIn (withBytes ws 0 (keptOf used rows queued pass)) ≡ queued
+  queued-written e = tail e 0
+
+  pub pass-written : length rows ≡ 8 → passIn (withBytes ws 0 (keptOf used rows queued pass)) ≡ pass
+  pass-written e = rw (tail e 1, tail e 2) refl
+
+  pub kept-written : length rows ≡ 8 → isKept (withBytes ws 0 (keptOf used rows queued pass)) ≡ true
+  kept-written e =
+      let n : length (keptOf used rows queued pass) ≡ 92 = length-kept used rows queued pass e in
+      let o : joined 1 used % 4294967296 ≡ 1 = omega arith in
+      rw (with-length ws 0 (keptOf used rows queued pass) (omega arith), le-leb 92 (length ws) h, first e, o) refl
+
+-- ---- written over the rows in use: word by word
+module _ (ws : List ℕ) (rows : List Row) (queued : ℕ) (pass : Pass) (h : 92 ≤ length ws) (e : length rows ≡ 8) where
+  abbrev front : List ℕ
+  front = rowsWords (take (usedIn ws) rows)
+
+  abbrev three : List ℕ
+  three = queued ∷ pass .rounds ∷ pass .freed ∷ []
+
+  -- as many rows as are in use, of the eight
+  taken : (n : ℕ) → n < 8 → n < usedIn ws → n < length (take (usedIn ws) rows)
+  taken n l u = rw length-take (omega arith)
+
+  long : (length front ≤ 88) × (length front ≤ 11 * usedIn ws)
+  long =
+      let t : length (take (usedIn ws) rows) ≤ 8 = rw length-take (omega arith) in
+      let u : length (take (usedIn ws) rows) ≤ usedIn ws = rw length-take (omega arith) in
+      (omega (arith, length-rows-words (take (usedIn ws) rows)), omega (arith, length-rows-words (take (usedIn ws) rows)))
+
+  middle : length (withBytes ws 1 front) ≡ length ws
+  middle = with-length ws 1 front (omega (arith, long .0))
+
+  all-words : length (keptIn ws rows queued pass) ≡ length ws
+  unfolding keptIn
+  all-words = with-length (withBytes ws 1 front) 89 three (omega (arith, middle)) ∙ middle
+
+  word-behind : (k : ℕ) → k < 3 → wordIn (keptIn ws rows queued pass) (89 + k) ≡ wordIn three k
+  unfolding keptIn
+  word-behind k l = with-in (withBytes ws 1 front) 89 three (omega (arith, middle)) k l
+
+  word-row : (i k : ℕ) → i < 8 → i < usedIn ws → k < 11 → wordIn (keptIn ws rows queued pass) (1 + 11 * i + k) ≡ wordIn (rowWords (getD rows i noRow)) k
+  unfolding keptIn
+  word-row i k l u m =
+      let s : 1 + 11 * i + k ≡ 1 + (11 * i + k) = omega arith in
+      let t : i < length (take (usedIn ws) rows) = taken i l u in
+      with-out (withBytes ws 1 front) 89 three (omega (arith, middle)) (1 + 11 * i + k) (λ a b. omega arith)
+      ∙ rw s (with-in ws 1 front (omega (arith, long .0)) (11 * i + k) (omega (arith, length-rows-words (take (usedIn ws) rows))))
+      ∙ row-word (take (usedIn ws) rows) i k noRow t m
+      ∙ ap (λ (row : Row). wordIn (rowWords row) k) (getD-take (usedIn ws) rows i noRow u)
+
+  word-else : (k : ℕ) → (89 ≤ k → k < 92 → ⊥) → (1 ≤ k → k < 89 → k < 1 + 11 * usedIn ws → ⊥) → wordIn (keptIn ws rows queued pass) k ≡ wordIn ws k
+  unfolding keptIn
+  word-else k m o =
+      with-out (withBytes ws 1 front) 89 three (omega (arith, middle)) k (λ a b. m a b)
+      ∙ with-out ws 1 front (omega (arith, long .0)) k (λ a b. o a (omega (arith, long .0)) (omega (arith, long .1)))
+
+-- ---- and read
+module _ (ws : List ℕ) (rows : List Row) (queued : ℕ) (pass : Pass) (h : 92 ≤ length ws) (n : Narrow rows) where
+  pub length-in : length (keptIn ws rows queued pass) ≡ length ws
+  length-in = all-words ws rows queued pass h (n .eight)
+
+  pub first-in : wordIn (keptIn ws rows queued pass) 0 ≡ wordIn ws 0
+  first-in = word-else ws rows queued pass h (n .eight) 0 (λ a b. omega arith) (λ a b c. omega arith)
+
+  pub rows-in : drop (usedIn ws) rows ≡ replicate (8 - usedIn ws) noRow → rowsIn (keptIn ws rows queued pass) ≡ rows
+  rows-in e =
+      rows-stand (keptIn ws rows queued pass) rows n (rw first-in e)
+      (λ i k l u m. word-row ws rows queued pass h (n .eight) i k l (rw (← first-in) u) m)
+
+  pub queued-in : queuedIn (keptIn ws rows queued pass) ≡ queued
+  queued-in = word-behind ws rows queued pass h (n .eight) 0 (omega arith)
+
+  pub pass-in : passIn (keptIn ws rows queued pass) ≡ pass
+  pass-in =
+      let w : (k : ℕ) → k < 3 → wordIn (keptIn ws rows queued pass) (89 + k) ≡ wordIn (queued ∷ pass .rounds ∷ pass .freed ∷ []) k =
+      word-behind ws rows queued pass h (n .eight)
+      in
+      rw (w 1 (omega arith), w 2 (omega arith)) refl
+
 -- ---- read and written again
+
+module _ (ws vs : List ℕ) (h : 92 ≤ length ws) (b : Beside ws vs) where
+  abbrev kept : List ℕ
+  kept = keptIn ws (rowsIn vs) (queuedIn vs) (passIn vs)
+
+  eight : length (rowsIn vs) ≡ 8
+  eight = length-rows vs 0 8
+
+  -- a word that is not written is one that stays
+  stays : (k : ℕ) → (89 ≤ k → k < 92 → ⊥) → (1 ≤ k → k < 89 → k < 1 + 11 * usedIn ws → ⊥) → wordIn vs k ≡ wordIn ws k → wordIn kept k ≡ wordIn vs k
+  stays k m o e = word-else ws (rowsIn vs) (queuedIn vs) (passIn vs) h eight k m o ∙ sym e
+
+  in-row : (i k : ℕ) → i < 8 → i < usedIn ws → k < 11 → wordIn kept (1 + 11 * i + k) ≡ wordIn vs (1 + 11 * i + k)
+  in-row i k j u m =
+      word-row ws (rowsIn vs) (queuedIn vs) (passIn vs) h eight i k j u m
+      ∙ ap (λ (row : Row). wordIn (rowWords row) k) (row-numbered vs noRow i j ∙ row-used vs i (rw (b .version) u))
+      ∙ word-again vs (1 + 11 * i) k m
+
+  word : (k : ℕ) → Dec (k < 92) → Dec (k < 89) → Dec (k < 1 + 11 * usedIn ws) → Dec (k ≡ 0) → wordIn kept k ≡ wordIn vs k
+  word k (no m) d u z =
+      let e : 92 + (k - 92) ≡ k = omega arith in
+      let s : wordIn vs (92 + (k - 92)) ≡ wordIn ws (92 + (k - 92)) =
+      sym (getD-drop 92 vs (k - 92) 0) ∙ ap (λ (xs : List ℕ). getD xs (k - 92) 0) (b .behind) ∙ getD-drop 92 ws (k - 92) 0
+      in
+      stays k (λ x y. omega arith) (λ x y t. omega arith) (rw e at s)
+  word k (yes m) (no d) u z =
+      let e : 89 + (k - 89) ≡ k = omega arith in
+      rw e at (word-behind ws (rowsIn vs) (queuedIn vs) (passIn vs) h eight (k - 89) (omega arith) ∙ run-at 0 vs 89 3 (k - 89) (omega arith))
+  word k (yes m) (yes d) (no u) z = stays k (λ x y. omega arith) (λ x y t. omega arith) (b .unused k (omega arith) d)
+  word k (yes m) (yes d) (yes u) (yes z) = stays k (λ x y. omega arith) (λ x y t. omega arith) (rw z (b .version))
+  word k (yes m) (yes d) (yes u) (no z) =
+      let e : 1 + 11 * ((k - 1) / 11) + (k - 1) % 11 ≡ k = omega arith in
+      rw e at (in-row ((k - 1) / 11) ((k - 1) % 11) (omega arith) (omega arith) (omega arith))
+
+-- what is kept of the words vs, written over words that they stand beside
+pub kept-from : (ws vs : List ℕ) → 92 ≤ length ws → length vs ≡ length ws → Beside ws vs → keptIn ws (rowsIn vs) (queuedIn vs) (passIn vs) ≡ vs
+kept-from ws vs h l b =
+    ext-getD 0 (keptIn ws (rowsIn vs) (queuedIn vs) (passIn vs)) vs
+    (all-words ws (rowsIn vs) (queuedIn vs) (passIn vs) h (length-rows vs 0 8) ∙ sym l)
+    (λ k m. word ws vs h b k (decLt k 92) (decLt k 89) (decLt k (1 + 11 * usedIn ws)) (ℕ-discrete k 0))
+
+pub kept-again : (ws : List ℕ) → 92 ≤ length ws → keptIn ws (rowsIn ws) (queuedIn ws) (passIn ws) ≡ ws
+kept-again ws h = kept-from ws ws h refl beside-same
+
+-- ---- the counters
 
 again : (ws : List ℕ) (at n : ℕ) → at + n ≤ length ws → withBytes ws at (run 0 ws at n) ≡ ws
 unfolding withBytes
@@ -57,82 +236,9 @@ again ws at n h =
     let l : length (take n (drop at ws)) ≡ n = length-take-le n (drop at ws) (rw length-drop (omega arith)) in
     rw (run-taken 0 ws at n h, l, ← take-add at n ws) (take-append-drop (at + n) ws)
 
-kept-run : (ws : List ℕ) → wordIn ws 0 ≡ 1 → keptOf (rowsIn ws) (queuedIn ws) (passIn ws) ≡ run 0 ws 0 92
-unfolding keptOf rowsWords rowsFrom
-kept-run ws e = rw (e, row-again ws 1, row-again ws 12, row-again ws 23, row-again ws 34, row-again ws 45, row-again ws 56, row-again ws 67, row-again ws 78) refl
-
-pub kept-again : (ws : List ℕ) → 92 ≤ length ws → wordIn ws 0 ≡ 1 → withBytes ws 0 (keptOf (rowsIn ws) (queuedIn ws) (passIn ws)) ≡ ws
-kept-again ws h e = rw (kept-run ws e) (again ws 0 92 h)
-
--- 92 words take the place of 92
-kept-same : (ws vs xs : List ℕ) → length xs ≡ 92 → Beside ws vs → withBytes ws 0 xs ≡ withBytes vs 0 xs
-unfolding withBytes
-kept-same ws vs xs n b = rw (n, b .behind) refl
-
--- what is kept of the words vs, written over words that they stand beside
-pub kept-from : (ws vs : List ℕ) → 92 ≤ length ws → length vs ≡ length ws → wordIn ws 0 ≡ 1 → Beside ws vs
-    → withBytes ws 0 (keptOf (rowsIn vs) (queuedIn vs) (passIn vs)) ≡ vs
-kept-from ws vs h l e b =
-    let v : wordIn vs 0 ≡ 1 = b .version ∙ e in
-    kept-same ws vs (keptOf (rowsIn vs) (queuedIn vs) (passIn vs)) (length-kept (rowsIn vs) (queuedIn vs) (passIn vs) (length-rows vs 0 8)) b
-    ∙ kept-again vs (omega arith) v
-
 pub counters-again : (ws : List ℕ) → 101 ≤ length ws → withBytes ws 92 (counterWords (countersIn ws)) ≡ ws
 unfolding countersIn counterWords
 counters-again ws h = again ws 92 9 h
-
--- ---- written and read
-
-counters-same : (ws vs : List ℕ) → ((k : ℕ) → k < 9 → wordIn ws (92 + k) ≡ wordIn vs (92 + k)) → countersIn ws ≡ countersIn vs
-unfolding countersIn
-counters-same ws vs w =
-    rw (
-      w 0 (omega arith),
-      w 1 (omega arith),
-      w 2 (omega arith),
-      w 3 (omega arith),
-      w 4 (omega arith),
-      w 5 (omega arith),
-      w 6 (omega arith),
-      w 7 (omega arith),
-      w 8 (omega arith),
-    ) refl
-
-module _ (ws : List ℕ) (rows : List Row) (queued : ℕ) (pass : Pass) (h : 92 ≤ length ws) where
-  abbrev behind : List ℕ
-  behind = queued ∷ pass .rounds ∷ pass .freed ∷ drop 92 ws
-
-  split : length rows ≡ 8 → withBytes ws 0 (keptOf rows queued pass) ≡ 1 ∷ (rowsWords rows ++ behind)
-  unfolding withBytes keptOf
-  split e = rw (length-kept rows queued pass e, append-assoc (rowsWords rows) (queued ∷ pass .rounds ∷ pass .freed ∷ []) (drop 92 ws)) refl
-
-  -- the three words behind the rows
-  tail : length rows ≡ 8 → (k : ℕ) → wordIn (withBytes ws 0 (keptOf rows queued pass)) (89 + k) ≡ wordIn behind k
-  tail e k =
-      let n : length (1 ∷ rowsWords rows) ≡ 89 = ap suc (length-rows-words rows) ∙ omega arith in
-      rw (split e) (rw n at (getD-append-add (1 ∷ rowsWords rows) behind k 0))
-
-  pub rows-written : Narrow rows → rowsIn (withBytes ws 0 (keptOf rows queued pass)) ≡ rows
-  rows-written n =
-      let f : (k : ℕ) → k < length rows → NarrowRow (getD rows k noRow) = λ k l. n .narrow k (omega (arith, n .eight)) in
-      rw (split (n .eight)) (rw (n .eight) at (rows-read (1 ∷ []) rows behind 0 refl f))
-
-  pub queued-written : length rows ≡ 8 → queuedIn (withBytes ws 0 (keptOf rows queued pass)) ≡ queued
-  queued-written e = tail e 0
-
-  pub pass-written : length rows ≡ 8 → passIn (withBytes ws 0 (keptOf rows queued pass)) ≡ pass
-  pass-written e = rw (tail e 1, tail e 2) refl
-
-  pub kept-written : length rows ≡ 8 → isKept (withBytes ws 0 (keptOf rows queued pass)) ≡ true
-  kept-written e =
-      let n : length (keptOf rows queued pass) ≡ 92 = length-kept rows queued pass e in
-      rw (with-length ws 0 (keptOf rows queued pass) (omega arith), le-leb 92 (length ws) h, split e) refl
-
-  -- the counters stay
-  pub counters-kept : length rows ≡ 8 → countersIn (withBytes ws 0 (keptOf rows queued pass)) ≡ countersIn ws
-  counters-kept e =
-      let n : length (keptOf rows queued pass) ≡ 92 = length-kept rows queued pass e in
-      counters-same (withBytes ws 0 (keptOf rows queued pass)) ws (λ k l. with-out ws 0 (keptOf rows queued pass) (omega arith) (92 + k) (λ a b. omega arith))
 
 module _ (ws : List ℕ) (c : Counters) (h : 101 ≤ length ws) where
   pub counters-written : countersIn (withBytes ws 92 (counterWords c)) ≡ c
@@ -155,6 +261,9 @@ module _ (ws : List ℕ) (c : Counters) (h : 101 ≤ length ws) where
   same : (k : ℕ) → k < 92 → wordIn (withBytes ws 92 (counterWords c)) k ≡ wordIn ws k
   same k l = with-out ws 92 (counterWords c) (omega (arith, length-counters c)) k (λ a b. omega arith)
 
+  pub first-kept : wordIn (withBytes ws 92 (counterWords c)) 0 ≡ wordIn ws 0
+  first-kept = same 0 (omega arith)
+
   pub rows-kept : rowsIn (withBytes ws 92 (counterWords c)) ≡ rowsIn ws
   rows-kept = rows-same (withBytes ws 92 (counterWords c)) ws 0 8 (omega arith) (λ k l. same k (omega arith))
 
@@ -165,4 +274,4 @@ module _ (ws : List ℕ) (c : Counters) (h : 101 ≤ length ws) where
   pass-kept = rw (same 90 (omega arith), same 91 (omega arith)) refl
 
   pub is-kept-kept : isKept (withBytes ws 92 (counterWords c)) ≡ isKept ws
-  is-kept-kept = rw (same 0 (omega arith), with-length ws 92 (counterWords c) (omega (arith, length-counters c))) refl
+  is-kept-kept = rw (first-kept, with-length ws 92 (counterWords c) (omega (arith, length-counters c))) refl

@@ -1,18 +1,20 @@
--- The state of a store as 101 words of 64 bits, in which a kernel lends it. In this order: the version of this layout; the eight rows, eleven words each; how
--- many places of the queue are taken; the pass's rounds and freed; and, from the word 92 on, the nine counters. A row is its start, its pages, and its six lists
--- as eighteen 32-bit numbers, two to a word, the first in the low half: of each level the dirty list's front and back, the zeroed list's, and the two counts.
-use Prim.Native.Nat.{ℕ, zero, suc, _+_, _*_, _/_, _%_, _<_}
-use mathlib.Core.Bool.{Bool, _&&_}
+-- The state of a store as 101 words of 64 bits, in which a kernel lends it. In this order: the version of this layout, in the low half of its word, and how many rows
+-- are in use, in the high half; the eight rows, eleven words each; how many places of the queue are taken; the pass's rounds and freed; and, from the word 92 on, the
+-- nine counters. A row is its start, its pages, and its six lists as eighteen 32-bit numbers, two to a word, the first in the low half: of each level the dirty
+-- list's front and back, the zeroed list's, and the two counts. The words of the rows that are not in use are nothing's: no call reads them or writes them.
+use Prim.Native.Nat.{ℕ, zero, suc, _+_, _*_, _/_, _%_, _≤_, _<_}
+use mathlib.Core.Bool.{Bool, cond, _&&_}
 use mathlib.Core.List.{List, [], _∷_, _++_}
 use mathlib.Core.Path.{_≡_}
-use lib.Dec.{eqb, leb}
-use lib.ListN.{getD, length, drop}
+use lib.Dec.{eqb, leb, ltb}
+use lib.ListN.{getD, length, take, drop}
 use Rattle.definition.specs.declared.Links.{Links}
 use Rattle.definition.specs.declared.Row.{Row}
 use Rattle.definition.specs.declared.Counters.{Counters}
 use Rattle.definition.specs.declared.Pass.{Pass}
 use Rattle.definition.specs.Boot.{mostRows}
 use Rattle.definition.specs.World.{noLinks, noRow}
+use Rattle.record.specs.Records.{withBytes}
 
 abbrev pub wordIn : List ℕ → ℕ → ℕ
 wordIn ws i = getD ws i 0
@@ -59,10 +61,18 @@ rowIn ws at =
           ∷ [];
     }
 
+-- how many rows are in use: the high half of the first word
+abbrev pub usedIn : List ℕ → ℕ
+usedIn ws = highHalf (wordIn ws 0)
+
+-- the row i: behind those in use it is an unused one, whatever its words are
+abbrev pub rowHere : List ℕ → ℕ → Row
+rowHere ws i = cond (ltb i (usedIn ws)) (rowIn ws (1 + 11 * i)) noRow
+
 -- so many rows, the first of which is the i-th
 unfoldable pub rowsFrom : List ℕ → ℕ → ℕ → List Row
 rowsFrom ws i zero = []
-rowsFrom ws i (suc n) = rowIn ws (1 + 11 * i) ∷ rowsFrom ws (i + 1) n
+rowsFrom ws i (suc n) = rowHere ws i ∷ rowsFrom ws (i + 1) n
 
 abbrev pub rowsIn : List ℕ → List Row
 rowsIn ws = rowsFrom ws 0 mostRows
@@ -93,7 +103,7 @@ countersIn ws =
 
 -- enough words for what is kept beside the counters, and of this version
 abbrev pub isKept : List ℕ → Bool
-isKept ws = leb keptWords (length ws) && eqb (wordIn ws 0) version
+isKept ws = leb keptWords (length ws) && eqb (lowHalf (wordIn ws 0)) version
 
 -- ---- written
 
@@ -116,8 +126,14 @@ unfoldable pub rowsWords : List Row → List ℕ
 rowsWords [] = []
 rowsWords (row ∷ rows) = rowWords row ++ rowsWords rows
 
-unfoldable pub keptOf : List Row → ℕ → Pass → List ℕ
-keptOf rows queued pass = version ∷ (rowsWords rows ++ (queued ∷ pass .rounds ∷ pass .freed ∷ []))
+-- all that is kept beside the counters, where so many rows are in use
+unfoldable pub keptOf : ℕ → List Row → ℕ → Pass → List ℕ
+keptOf used rows queued pass = joined version used ∷ (rowsWords rows ++ (queued ∷ pass .rounds ∷ pass .freed ∷ []))
+
+-- the same over words of which so many rows are in use already: the first word stays, and so do the words of the unused rows
+unfoldable pub keptIn : List ℕ → List Row → ℕ → Pass → List ℕ
+keptIn ws rows queued pass =
+    withBytes (withBytes ws 1 (rowsWords (take (usedIn ws) rows))) 89 (queued ∷ pass .rounds ∷ pass .freed ∷ [])
 
 unfoldable pub counterWords : Counters → List ℕ
 counterWords c =
@@ -134,9 +150,10 @@ counterWords c =
 
 -- ---- what stays
 
--- from the words ws on, the state's own may have changed; the version and all that stands behind them have not
+-- from the words ws on, the state's own may have changed; the first word, those of the unused rows and all that stand behind the state's have not
 pub record Beside (ws vs : List ℕ) : Type 0 where
   pub version : wordIn vs 0 ≡ wordIn ws 0
+  pub unused : (k : ℕ) → 1 + 11 * usedIn ws ≤ k → k < 89 → wordIn vs k ≡ wordIn ws k
   pub behind : drop keptWords vs ≡ drop keptWords ws
 
 -- nothing has changed but rows

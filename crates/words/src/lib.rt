@@ -10,6 +10,7 @@ ghost use Prim.Native.Nat.{_+_, _*_, _%_, _/_, _≤_, _<_};
 ghost use lib.ListN.{length, drop, set};
 ghost use Rattle.definition.specs.Basics.{all};
 ghost use Rattle.definition.specs.Torn.{isNoRow};
+ghost use Rattle.definition.specs.World.{noRow};
 ghost use Rattle.record.specs.Records.{withBytes};
 ghost use Rattle.words.specs.Words.{
   lowHalf,
@@ -19,6 +20,7 @@ ghost use Rattle.words.specs.Words.{
   rowIn,
   rowOf,
   rowsIn,
+  usedIn,
   countersIn,
   queuedIn,
   passIn,
@@ -26,6 +28,7 @@ ghost use Rattle.words.specs.Words.{
   joined as «joined_def»,
   pairWords,
   rowWords,
+  listIn,
   keptOf,
   counterWords,
   RowsBeside,
@@ -92,12 +95,54 @@ fn row_from(words: &[u64], at: usize) -> Row
     }
 }
 
+// How many rows are in use.
+pub fn used_in(words: &[u64]) -> usize
+    requires { ⌜ 92 ≤ length (now words) ⌝ }
+    ensures { λ r. ⌜ (r ≡ usedIn (now (words .entry))) × (r < 4294967296) ⌝ }
+{
+    high_half(words[0]) as usize
+}
+
+fn no_row() -> Row
+    ensures { λ r. ⌜ r ≡ noRow ⌝ }
+{
+    let none = Links {
+        front: 0,
+        back: 0,
+        count: 0,
+    };
+    let lists = [none; 6];
+    Row {
+        start: PhysAddr(0),
+        pages: 0,
+        lists,
+    }
+}
+
 // The row i of the eight.
 pub fn row_at(words: &[u64], i: usize) -> Row
     requires { ⌜ (92 ≤ length (now words)) × (i < 8) ⌝ }
     ensures { λ r. ⌜ r ≡ rowOf (rowsIn (now (words .entry))) i ⌝ }
 {
-    row_from(words, 1 + 11 * i)
+    if i < used_in(words) {
+        return row_from(words, 1 + 11 * i);
+    }
+    no_row()
+}
+
+// The dirty list and the zeroed list of a level, of a row in use.
+pub fn dirty_at(words: &[u64], i: usize, level: usize) -> Links
+    requires { ⌜ (92 ≤ length (now words)) × (i < 8) × (i < usedIn (now words)) × (level < 3) ⌝ }
+    ensures { λ r. ⌜ r ≡ listIn (rowOf (rowsIn (now (words .entry))) i) (2 * level) ⌝ }
+{
+    first_at(words, 3 + 11 * i + 3 * level)
+}
+
+pub fn zeroed_at(words: &[u64], i: usize, level: usize) -> Links
+    requires { ⌜ (92 ≤ length (now words)) × (i < 8) × (i < usedIn (now words)) × (level < 3) ⌝ }
+    ensures { λ r. ⌜ r ≡ listIn (rowOf (rowsIn (now (words .entry))) i) (2 * level + 1) ⌝ }
+{
+    second_at(words, 3 + 11 * i + 3 * level)
 }
 
 // How many pages the row i has: 0 where it is not in use.
@@ -105,7 +150,10 @@ pub fn pages_at(words: &[u64], i: usize) -> usize
     requires { ⌜ (92 ≤ length (now words)) × (i < 8) ⌝ }
     ensures { λ r. ⌜ r ≡ rowOf (rowsIn (now (words .entry))) i .pages ⌝ }
 {
-    words[2 + 11 * i] as usize
+    if i < used_in(words) {
+        return words[2 + 11 * i] as usize;
+    }
+    0
 }
 
 // Whether eleven words are zeros, as those of an unused row are. All are looked at before any is judged, so that they are read as vectors.
@@ -124,13 +172,20 @@ fn is_no_row(words: &[u64], at: usize) -> bool
     none
 }
 
-// Whether the rows from `first` on are unused ones.
+fn at_most(n: usize, most: usize) -> usize
+    ensures { λ r. ⌜ (r ≤ n) × (r ≤ most) × (r < most → r ≡ n) ⌝ }
+{
+    if n < most { n } else { most }
+}
+
+// Whether the rows from `first` on are unused ones. Behind those in use they are.
 pub fn is_no_rows(words: &[u64], first: usize) -> bool
     requires { ⌜ (92 ≤ length (now words)) × (first ≤ 8) ⌝ }
     ensures { λ r. ⌜ r ≡ all isNoRow (drop first (rowsIn (now (words .entry)))) ⌝ }
 {
+    let end = at_most(1 + 11 * used_in(words), 89);
     let mut at = 1 + 11 * first;
-    while at < 89 {
+    while at < end {
         if !is_no_row(words, at) {
             return false;
         }
@@ -145,14 +200,14 @@ pub fn rows_in(words: &[u64]) -> [Row; 8]
     ensures { λ r. ⌜ r ≡ rowsIn (now (words .entry)) ⌝ }
 {
     [
-        row_from(words, 1),
-        row_from(words, 12),
-        row_from(words, 23),
-        row_from(words, 34),
-        row_from(words, 45),
-        row_from(words, 56),
-        row_from(words, 67),
-        row_from(words, 78),
+        row_at(words, 0),
+        row_at(words, 1),
+        row_at(words, 2),
+        row_at(words, 3),
+        row_at(words, 4),
+        row_at(words, 5),
+        row_at(words, 6),
+        row_at(words, 7),
     ]
 }
 
@@ -197,7 +252,7 @@ pub fn is_kept(words: &[u64]) -> bool
     if words.len() < 92 {
         return false;
     }
-    words[0] == 1
+    low_half(words[0]) == 1
 }
 
 // ---- written
@@ -229,9 +284,9 @@ fn put_row_from(words: &mut [u64], at: usize, row: Row)
     put_pair(words, at + 8, row.lists[4], row.lists[5]);
 }
 
-// The row i of the eight becomes `row`.
+// The row i of those in use becomes `row`.
 pub fn put_row(words: &mut [u64], i: usize, row: Row)
-    requires { ⌜ (92 ≤ length (now words)) × (i < 8) ⌝ }
+    requires { ⌜ (92 ≤ length (now words)) × (i < 8) × (i < usedIn (now words)) ⌝ }
     ensures rows { λ _. ⌜ rowsIn (now (words .exit)) ≡ set (rowsIn (now (words .entry))) i row ⌝ }
     ensures rest { λ _. ⌜ RowsBeside (now (words .entry)) (now (words .exit)) ⌝ }
 {
@@ -253,12 +308,12 @@ pub fn put_pass(words: &mut [u64], pass: Pass)
     words[91] = pass.freed as u64;
 }
 
-// What is kept beside the counters, with the version.
-pub fn put_kept(words: &mut [u64], rows: [Row; 8], queued: usize, pass: Pass)
+// All that is kept beside the counters, with the version.
+pub fn put_kept(words: &mut [u64], used: u32, rows: [Row; 8], queued: usize, pass: Pass)
     requires { ⌜ 92 ≤ length (now words) ⌝ }
-    ensures { λ _. ⌜ now (words .exit) ≡ withBytes (now (words .entry)) 0 (keptOf rows queued pass) ⌝ }
+    ensures { λ _. ⌜ now (words .exit) ≡ withBytes (now (words .entry)) 0 (keptOf used rows queued pass) ⌝ }
 {
-    words[0] = 1;
+    words[0] = joined(1, used);
     let mut i: usize = 0;
     while i < 8 {
         let row = rows[i];

@@ -62,7 +62,7 @@ static void boot(void)
     memset(&store, 0xA5, sizeof store);
     memset(memory, 0xA5, sizeof memory);
     ANSWERED(jilakkor_boot(map, 2, LENT), 0, PAGES * page);
-    HOLDS(store.state.version == JILAKKOR_VERSION);
+    HOLDS(store.state.version == JILAKKOR_VERSION && store.state.used == 1);
     HOLDS(row->start == 0x100000 && row->pages == 16);
     HOLDS(small->ends[0].front == 1 && small->ends[0].back == 15 && small->count[0] == 15);
     HOLDS(small->ends[1].front == 0 && small->count[1] == 0);

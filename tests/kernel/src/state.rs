@@ -10,7 +10,7 @@ const ROW: usize = 11;
 /// The words of a store.
 pub fn words(store: &Store) -> [u64; WORDS] {
     let mut words = [0; WORDS];
-    words[0] = VERSION;
+    words[0] = VERSION | (store.regions.len() as u64) << 32;
     for (row, region) in store.regions.iter().enumerate() {
         words[1 + ROW * row..][..ROW].copy_from_slice(&row_words(region));
     }

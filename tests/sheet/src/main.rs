@@ -17,7 +17,7 @@ use std::process::ExitCode;
 
 use damage::{Damage, Damager};
 use random::Random;
-use state::{Table, VERSION, WORDS};
+use state::{version, Table, ROWS, VERSION, WORDS};
 use tables::{Extent, Shape};
 use tally::Tally;
 
@@ -25,6 +25,9 @@ const USAGE: &str = "usage: sheet [--seed S] [--rounds N] [--kinds]
   --seed S    what the first round's tables are made from (1); each round adds 1
   --rounds N  tables of each shape, but for the largest, of which there is one (8)
   --kinds     print how often each kind of damage tore";
+
+/// The words of a row.
+const ROW: usize = 11;
 
 struct Options {
     seed: u64,
@@ -130,13 +133,35 @@ fn other_words(table: &Table) -> Result<(), String> {
             return Err(format!("{few} words are taken for a state"));
         }
     }
-    for version in [0, VERSION + 1, VERSION | 1 << 32, u64::MAX] {
+    for other in [0, VERSION + 1, (VERSION + 1) | 8 << 32, u64::MAX] {
         let mut words = words;
-        words[0] = version;
+        words[0] = other;
         if store::audit(&words, table) != 6 {
-            return Err(format!("words of the version {version} are taken for a state"));
+            return Err(format!("words of the version {other} are taken for a state"));
         }
     }
+    let used = table.state.rows.iter().take_while(|row| row.pages != 0).count();
+    for rows in [used, ROWS, ROWS + 1, u32::MAX as usize] {
+        let mut words = words;
+        words[0] = version(rows);
+        if store::audit(&words, table) != 0 {
+            return Err(format!("with {rows} rows in use the store says that it is torn"));
+        }
+    }
+    // Of the rows that are not in use no word is read.
+    let mut words = words;
+    words[0] = version(used);
+    words[1 + ROW * used..1 + ROW * ROWS].fill(u64::MAX);
+    if store::audit(&words, table) != 0 {
+        return Err("words of rows that are not in use are read".into());
+    }
+    if used > 0 {
+        words[0] = version(used - 1);
+        if store::audit(&words, table) != 6 {
+            return Err("a row less is in use, and the counters still hold".into());
+        }
+    }
+    let words = table.state.words();
     let longer = [&words[..], &[u64::MAX]].concat();
     match store::audit(&longer, table) {
         0 => Ok(()),

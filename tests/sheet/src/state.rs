@@ -131,6 +131,11 @@ impl Table {
     }
 }
 
+/// The first word: the version, and how many rows are in use.
+pub fn version(used: usize) -> u64 {
+    VERSION | (used as u64) << 32
+}
+
 impl State {
     /// The managed pages of the rows.
     pub fn managed(&self) -> u64 {
@@ -156,9 +161,9 @@ impl State {
         numbers
     }
 
-    /// The state as it is lent.
+    /// The state as it is lent, all rows in use.
     pub fn words(&self) -> [u64; WORDS] {
-        let mut words = [VERSION; WORDS];
+        let mut words = [version(ROWS); WORDS];
         let mut rest = words[1..].iter_mut();
         let mut put = |word: u64| *rest.next().unwrap() = word;
         let numbers = self.numbers();

@@ -1,5 +1,7 @@
 -- The freed page's region is one of a sane table; its changed row goes back to the row's place.
+use native.Mathlib.Omega.{arith}
 use borrow.Author.Needs.{needs}
+use Rattle.words.proofs.Places.{in-use}
 use Rattle.allocator.proofs.Turning.{spot-good, spot-index, free-turns}
 use Rattle.allocator.proofs.free.Statement.{statement}
 use Rattle.allocator.proofs.free.Tie as tie
@@ -16,7 +18,9 @@ free-requires c κs =
 put-row-requires : tie.Need-put-row-requires
 put-row-requires c κs =
     let s = c .before .before .before .before .before .before .before .before .before in
-    (s .pre .0 .0, spot-index (s .pre .0 .1) (s .pre .1 .0))
+    let i = spot-index (s .pre .0 .1) (s .pre .1 .0) in
+    let G = spot-good (s .pre .0 .1) (s .pre .1 .0) in
+    (s .pre .0 .0, i, in-use (s .args .words .now) (s .args .spot .index) i (λ z. omega (arith, z, G .tables)))
 
 same-length : tie.Need-same-length
 same-length c = search needs

@@ -10,6 +10,7 @@ use Rattle.definition.specs.World.{recordAt, usedRows}
 use Rattle.record.specs.Records.{pagesIn}
 use Rattle.region.specs.Rep.{managed}
 use Rattle.words.specs.Words.{rowsIn}
+use Rattle.words.proofs.Places.{in-use}
 use Rattle.words.proofs.Words.{rows-beside-same}
 use Rattle.world.specs.Stands.{Good, rowAt}
 use Rattle.allocator.proofs.Picking.{Gone, gone-none, gone-here, gone-past, gone-eight, gone-all, gone-good, gone-on, gone-found}
@@ -70,14 +71,19 @@ returns c =
       rw e rows-beside-same,
     )
 
--- the row of a turn is in use
+-- the row of a turn has pages, by the words that were given
+paged : (c : tie.Else1 Inv-loop μ-loop) → let k = c .before .before .before .before .before in
+    rowAt (rowsIn (k .before .before .before .args .words .now)) (k .loop .i) .pages ≡ 0 → ⊥
+paged c = rw (row-is (c .before .before)) at (c .if1 .left)
+
+-- so it is in use
 used : (c : tie.Else1 Inv-loop μ-loop) → let k = c .before .before .before .before .before in k .loop .i < length (usedRows (rowsIn (k .before .before .before .args .words .now)))
 used c =
     let k = c .before .before .before .before .before in
     let s = k .before .before .before in
     let a = s .args in
     gone-here _ _ (rowsIn (a .words .now)) (a .level) (a .try-zero) (a .only-zero) (s .pre .0 .1) (s .pre .1) (k .loop .inv .gone)
-    (c .before .before .before .before .loop-test .taken) (rw (row-is (c .before .before)) at (c .if1 .left))
+    (c .before .before .before .before .loop-test .taken) (paged c)
 
 good
     : (c : tie.Else1 Inv-loop μ-loop)
@@ -99,9 +105,10 @@ enum-known-found c = search needs
 
 put-row-requires : tie.Need-put-row-requires Inv-loop μ-loop
 put-row-requires c κs =
-    let k = c .before .before .before .before .before .before .before .before .before .before .before .before .before in
+    let e = c .before .before .before .before .before .before .before .before in
+    let k = e .before .before .before .before .before in
     let s = k .before .before .before in
-    rw (k .loop .inv .same) (s .pre .0 .0, omega arith)
+    rw (k .loop .inv .same) (s .pre .0 .0, omega arith, in-use (s .args .words .now) (k .loop .i) (omega arith) (paged e))
 
 same-length-3 : tie.Need-same-length-3 Inv-loop μ-loop
 same-length-3 c = c .before .before .put-row .kept .0 ∙ ap length (c .before .before .before .before .before .before .before .before .before .before .before .before .before .before .before .before .loop .inv .same)

@@ -1,12 +1,14 @@
 -- `survey` meets its contract. The loop's invariant is `Surveying`: what is left decides as the whole does.
 use Prim.Native.Nat.{_-_, _/_}
-use mathlib.Core.Path.{sym, _∙_}
+use mathlib.Core.Path.{_≡_, sym, _∙_}
 use native.Mathlib.Omega.{arith}
 use borrow.Author.Needs.{needs}
 use borrow.Author.Tests.{not-false, not-true}
 use lib.ListN.{length}
 use Rattle.definition.specs.World.{recordAt}
 use Rattle.words.specs.Words.{rowsIn}
+use Rattle.words.proofs.Places.{in-use}
+use Rattle.audit.specs.Sheet.{rowAt}
 use Rattle.audit.proofs.Arrays.{words-eight}
 use Rattle.audit.proofs.Surveying.{Surveying, survey-none, torn-row, past-row, survey-ended, survey-all}
 use Rattle.audit.proofs.survey.Statement.{statement}
@@ -37,11 +39,16 @@ returns c =
     survey-ended (recordAt (a .records .now)) (length (a .records .now) / 16) (rowsIn (a .words .now)) (k .loop .seen) (k .loop .inv) (omega arith)
     (sym (u .pages-at .ensures) ∙ c .before .if2 .taken) (c .is-no-rows .result) (c .is-no-rows .ensures)
 
-row-at-requires : tie.Need-row-at-requires Inv-loop μ-loop
-row-at-requires c κs = search needs
+-- the row has pages
+has-pages : (c : tie.Else2 Inv-loop μ-loop) → let k = c .before .before .before .before in
+    rowAt (rowsIn (k .before .before .before .args .words .now)) (k .loop .seen .used) .pages ≡ 0 → ⊥
+has-pages c = rw (c .before .pages-at .ensures) at (c .if2 .left)
 
 visit-requires : tie.Need-visit-requires Inv-loop μ-loop
-visit-requires c κs = (c .before .before .before .before .before .loop .inv .few, omega arith)
+visit-requires c κs =
+    let k = c .before .before .before .before in
+    let a = k .before .before .before .args in
+    (k .loop .inv .few, omega arith, omega arith, in-use (a .words .now) (k .loop .seen .used) (omega arith) (has-pages c))
 
 torn-rows-requires : tie.Need-torn-rows-requires Inv-loop μ-loop
 torn-rows-requires c κs = search needs
@@ -49,11 +56,10 @@ torn-rows-requires c κs = search needs
 returns-2 : tie.Need-returns-2 Inv-loop μ-loop
 returns-2 c =
     let d = c .before .before .before in
-    let u = d .before .before .before in
-    let k = u .before .before .before in
+    let k = d .before .before .before .before .before in
     let a = k .before .before .before .args in
     torn-row (recordAt (a .records .now)) (length (a .records .now) / 16) (rowsIn (a .words .now)) (k .loop .seen) (k .loop .inv) (omega arith)
-    (rw (u .pages-at .ensures) at (d .before .before .if2 .left)) (d .visit .result) (rw (d .before .row-at .ensures) at (d .visit .ensures))
+    (has-pages (d .before)) (d .visit .result) (d .visit .ensures)
     (not-true _ (c .before .if3 .taken)) (c .torn-rows .result) (c .torn-rows .ensures)
 
 loop-less : tie.Need-loop-less Inv-loop μ-loop
@@ -64,11 +70,10 @@ loop-less c =
 loop-again : tie.Need-loop-again Inv-loop μ-loop
 loop-again c =
     let d = c .before .before in
-    let u = d .before .before .before in
-    let k = u .before .before .before in
+    let k = d .before .before .before .before .before in
     let a = k .before .before .before .args in
     past-row (recordAt (a .records .now)) (length (a .records .now) / 16) (rowsIn (a .words .now)) (k .loop .seen) (k .loop .inv) (omega arith)
-    (rw (u .pages-at .ensures) at (d .before .before .if2 .left)) (d .visit .result) (rw (d .before .row-at .ensures) at (d .visit .ensures))
+    (has-pages (d .before)) (d .visit .result) (d .visit .ensures)
     (not-false _ (c .if3 .left))
 
 returns-3 : tie.Need-returns-3 Inv-loop μ-loop
@@ -87,7 +92,6 @@ survey-spec =
     pages-at-requires
     is-no-rows-requires
     returns
-    row-at-requires
     visit-requires
     torn-rows-requires
     returns-2

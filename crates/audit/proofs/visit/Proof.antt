@@ -1,17 +1,21 @@
 -- `visit` meets its contract. Its tests are `rowTest`, in the same order, and what it adds is what the test of the region found.
-use Prim.Native.Nat.{_+_, _-_, _/_, _≤_, _<_}
+use Prim.Native.Nat.{_+_, _-_, _/_, _<_}
 use mathlib.Core.Bool.{true}
-use mathlib.Core.Path.{_≡_, refl, sym, _∙_}
+use mathlib.Core.Path.{_≡_, refl, sym, _∙_, subst}
 use native.Mathlib.Omega.{arith}
 use borrow.Author.Needs.{needs}
 use borrow.Author.Tests.{le-leb, lt-leb, not-false, not-true}
 use lib.Dec.{leb}
 use lib.ListN.{length}
+use Rattle.definition.specs.declared.Row.{Row}
 use Rattle.definition.specs.Board.{standard}
 use Rattle.definition.specs.World.{recordAt}
 use Rattle.definition.specs.Torn.{rowAsBoot}
 use Rattle.definition.proofs.Tests.{and-true}
 use Rattle.scan.specs.Sheet.{placedAt, Audited}
+use Rattle.words.specs.Words.{rowsIn}
+use Rattle.audit.specs.declared.Surveyed.{Surveyed}
+use Rattle.audit.specs.Sheet.{rowAt, Visited}
 use Rattle.audit.proofs.Onward.{and-off, and-on}
 use Rattle.audit.proofs.Booted.{Booted, booted}
 use Rattle.audit.proofs.Counting.{managedRow}
@@ -19,24 +23,40 @@ use Rattle.audit.proofs.Surveying.{visited-torn}
 use Rattle.audit.proofs.visit.Statement.{statement}
 use Rattle.audit.proofs.visit.Tie as tie
 
+-- what is found of the row that was read is found of the row behind those that were seen
+of-row : (c : tie.After-row-at) → let a = c .before .before .before .args in
+    let f = recordAt (a .records .now) in
+    (r : Surveyed) → Visited f (length (a .records .now) / 16) (c .row-at .result) (a .seen) r
+    → Visited f (length (a .records .now) / 16) (rowAt (rowsIn (a .words .now)) (a .seen .used)) (a .seen) r
+of-row c r v =
+    let a = c .before .before .before .args in
+    subst (λ (row : Row). Visited (recordAt (a .records .now)) (length (a .records .now) / 16) row (a .seen) r) (c .row-at .ensures) v
+
 -- the row is as boot makes it
-is-booted : (c : tie.Else1) → rowAsBoot standard (c .before .before .before .args .row) ≡ true
+is-booted : (c : tie.Else1) → rowAsBoot standard (c .before .before .row-at .result) ≡ true
 is-booted c = sym (c .before .row-as-boot .ensures) ∙ not-false _ (c .if1 .left)
 
-numbers : (c : tie.Else1) → Booted (c .before .before .before .args .row)
-numbers c = booted (c .before .before .before .args .row) (is-booted c)
+numbers : (c : tie.Else1) → Booted (c .before .before .row-at .result)
+numbers c = booted (c .before .before .row-at .result) (is-booted c)
 
 -- where its pages end
-ends : (c : tie.After-table-pages) → let a = c .before .before .before .before .before .args in
-    a .seen .managed + (a .row .pages - c .table-pages .result) ≡ a .seen .managed + managedRow (a .row)
+ends : (c : tie.After-table-pages) → let d = c .before .before .before .before in
+    let a = d .before .before .before .args in
+    a .seen .managed + (d .row-at .result .pages - c .table-pages .result) ≡ a .seen .managed + managedRow (d .row-at .result)
 ends c = rw (c .table-pages .ensures)
 
 -- the loan has its records
-room : (c : tie.Else2) → let a = c .before .before .before .before .before .before .before .before .args in
-    leb (a .seen .managed + managedRow (a .row)) (length (a .records .now) / 16) ≡ true
+room : (c : tie.Else2) → let d = c .before .before .before .before .before .before .before in
+    let a = d .before .before .before .args in
+    leb (a .seen .managed + managedRow (d .row-at .result)) (length (a .records .now) / 16) ≡ true
 room c =
-    let a = c .before .before .before .before .before .before .before .before .args in
-    le-leb (a .seen .managed + managedRow (a .row)) (length (a .records .now) / 16) (omega (arith, ends (c .before .before .before), c .if2 .left))
+    let d = c .before .before .before .before .before .before .before in
+    let a = d .before .before .before .args in
+    le-leb (a .seen .managed + managedRow (d .row-at .result)) (length (a .records .now) / 16)
+    (omega (arith, ends (c .before .before .before), c .if2 .left))
+
+row-at-requires : tie.Need-row-at-requires
+row-at-requires c κs = search needs
 
 row-as-boot-requires : tie.Need-row-as-boot-requires
 row-as-boot-requires c κs = search needs
@@ -46,7 +66,8 @@ torn-rows-requires c κs = search needs
 
 returns : tie.Need-returns
 returns c =
-    visited-torn (c .torn-rows .ensures) (and-off _ (sym (c .before .before .row-as-boot .ensures) ∙ not-true _ (c .before .if1 .taken)))
+    let b = c .before .before in
+    of-row (b .before) _ (visited-torn (c .torn-rows .ensures) (and-off _ (sym (b .row-as-boot .ensures) ∙ not-true _ (c .before .if1 .taken))))
 
 table-pages-requires : tie.Need-table-pages-requires
 table-pages-requires c κs = let b = numbers (c .before) in omega arith
@@ -62,12 +83,14 @@ torn-rows-requires-2 c κs = search needs
 
 returns-2 : tie.Need-returns-2
 returns-2 c =
-    let a = c .before .before .before .before .before .before .before .before .before .args in
-    let l : length (a .records .now) / 16 < a .seen .managed + managedRow (a .row) =
-    omega (arith, ends (c .before .before .before .before), c .before .if2 .taken) in
-    visited-torn (c .torn-rows2 .ensures)
-    (and-on _ (is-booted (c .before .before .before .before .before .before))
-    ∙ and-off _ (lt-leb (a .seen .managed + managedRow (a .row)) (length (a .records .now) / 16) l))
+    let t = c .before .before .before .before in
+    let d = t .before .before .before .before in
+    let a = d .before .before .before .args in
+    let l : length (a .records .now) / 16 < a .seen .managed + managedRow (d .row-at .result) = omega (arith, ends t, c .before .if2 .taken) in
+    of-row d _
+    (visited-torn (c .torn-rows2 .ensures)
+    (and-on _ (is-booted (t .before .before))
+    ∙ and-off _ (lt-leb (a .seen .managed + managedRow (d .row-at .result)) (length (a .records .now) / 16) l)))
 
 page-number-requires : tie.Need-page-number-requires
 page-number-requires c κs = search needs
@@ -82,61 +105,67 @@ torn-rows-requires-3 : tie.Need-torn-rows-requires-3
 torn-rows-requires-3 c κs = search needs
 
 -- the region, whose first managed page is behind those that were seen
-region : (c : tie.After-region-whole) → let a = c .before .before .before .before .before .before .before .before .before .before .args in
-    Audited (recordAt (a .records .now)) (placedAt (a .seen .managed) (a .row)) (c .region-whole .result)
+region : (c : tie.After-region-whole) → let d = c .before .before .before .before .before .before .before .before .before in
+    let a = d .before .before .before .args in
+    Audited (recordAt (a .records .now)) (placedAt (a .seen .managed) (d .row-at .result)) (c .region-whole .result)
 region c = c .region-whole .ensures
 
 returns-3 : tie.Need-returns-3
 returns-3 c =
     let w = c .before .before .before in
-    visited-torn (c .torn-rows3 .ensures)
-    (and-on _ (is-booted (w .before .before .before .before .before .before .before))
+    let e = w .before .before .before .before .before .before .before in
+    of-row (e .before .before) _
+    (visited-torn (c .torn-rows3 .ensures)
+    (and-on _ (is-booted e)
     ∙ and-on _ (room (w .before .before))
     ∙ sym (region w .exact)
-    ∙ not-true _ (c .before .if3 .taken))
+    ∙ not-true _ (c .before .if3 .taken)))
 
 -- the region is whole, and its pages are those held and those listed
 whole : (c : tie.Else3) → c .before .before .region-whole .result .ok ≡ true
 whole c = not-false _ (c .if3 .left)
 
-held : (c : tie.Else3) → let w = c .before .before in
-    let a = w .before .before .before .before .before .before .before .before .before .before .args in
-    w .region-whole .result .page + w .region-whole .result .kernel ≤ managedRow (a .row)
-held c = omega (arith, region (c .before .before) .pages (whole c))
-
-add-t11 : tie.Need-add-t11
-add-t11 c = search needs
-
-add-t10 : tie.Need-add-t10
-add-t10 c = search needs
+-- the sums stay small
+small : (c : tie.Else3) → let w = c .before .before in
+    let d = w .before .before .before .before .before .before .before .before .before in
+    let a = d .before .before .before .args in
+    (a .seen .total + d .row-at .result .pages < 4294967296)
+    × (a .seen .page + w .region-whole .result .page < 4294967296)
+    × (a .seen .kernel + w .region-whole .result .kernel < 4294967296)
+small c =
+    let w = c .before .before in
+    let e = w .before .before .before .before .before .before .before in
+    let s = e .before .before .before .before .before in
+    let b = numbers e in
+    let p = region w .pages (whole c) in
+    let few = s .pre .0 in (
+      omega (arith, few .totals, s .pre .2, b .ends),
+      omega (arith, p, few .holds, few .manages, few .totals, s .pre .2),
+      omega (arith, p, few .holds, few .manages, few .totals, s .pre .2),
+    )
 
 add-t12 : tie.Need-add-t12
-add-t12 c =
-    let d = c .before .before .before .before .before in
-    let s = d .before .before .before .before .before .before .before .before .before .before .before .before in
-    let b = numbers (d .before .before .before .before .before .before .before .before .before) in
-    omega (arith, held d, s .pre .0 .holds, s .pre .0 .manages, s .pre .0 .totals, s .pre .1)
+add-t12 c = search needs
+
+add-t11 : tie.Need-add-t11
+add-t11 c = let h = small (c .before .before .before) in omega arith
 
 add-t13 : tie.Need-add-t13
-add-t13 c =
-    let d = c .before .before .before .before .before .before .before in
-    let s = d .before .before .before .before .before .before .before .before .before .before .before .before in
-    let b = numbers (d .before .before .before .before .before .before .before .before .before) in
-    omega (arith, held d, s .pre .0 .holds, s .pre .0 .manages, s .pre .0 .totals, s .pre .1)
+add-t13 c = let h = small (c .before .before .before .before .before) in omega arith
+
+add-t14 : tie.Need-add-t14
+add-t14 c = let h = small (c .before .before .before .before .before .before .before) in omega arith
 
 returns-4 : tie.Need-returns-4
 returns-4 c =
     let d = c .before .before .before .before .before .before .before in
     let w = d .before .before in
+    let e = w .before .before .before .before .before .before .before in
     let a = region w in
     let p = a .page (whole d) in
     let k = a .kernel (whole d) in
-    record {
-      exact =
-          sym
-          (and-true
-          (is-booted (w .before .before .before .before .before .before .before))
-          (and-true (room (w .before .before)) (sym (a .exact) ∙ whole d)));
+    of-row (e .before .before) _ record {
+      exact = sym (and-true (is-booted e) (and-true (room (w .before .before)) (sym (a .exact) ∙ whole d)));
       added = λ t. record {
         used = refl;
         total = refl;
@@ -151,6 +180,7 @@ pub visit-spec : {M : Type 1} → statement M
 visit-spec =
     tie.close
     (tie.spec
+    row-at-requires
     row-as-boot-requires
     torn-rows-requires
     returns
@@ -164,8 +194,8 @@ visit-spec =
     region-whole-requires
     torn-rows-requires-3
     returns-3
-    add-t11
-    add-t10
     add-t12
+    add-t11
     add-t13
+    add-t14
     returns-4)

@@ -3,13 +3,15 @@
 use mathlib.Core.Path.{_≡_, sym, _∙_}
 use native.Mathlib.Omega.{arith}
 use lib.ListN.{length}
+use Rattle.definition.specs.World.{usedRows}
 use Rattle.words.proofs.Owned.{rows-narrow}
+use Rattle.allocator.proofs.Turning.{used-most}
 use Rattle.exam.specs.Promise.{stateWith, worldOf}
 use Rattle.boot.specs.Booting.{Mapped}
 use Rattle.boot.proofs.KeptRows.{map-eight}
 use Rattle.boot.proofs.Refusing.{accepted-admitted, accepted-boot, accepted-kept, accepted-ready, given-kept, given-near}
 use Rattle.boot.proofs.Leaving.{boots-done, boots-refused}
-use Rattle.boot.proofs.Writing.{boots-written, over-done, over-refused}
+use Rattle.boot.proofs.Writing.{boots-written, laid-used, over-done, over-refused}
 use borrow.Author.Needs.{needs}
 use Rattle.boot.proofs.boot.Statement.{statement}
 use Rattle.boot.proofs.boot.Tie as tie
@@ -64,6 +66,20 @@ lay-out-requires c κs =
     let k = c .before .before .before .before .kept-rows in
     accepted-ready (s .args .map) (s .args .count) _ _ _ (long s) (d .refusal-of-map .ensures) (c .before .before .before .before .before .if1 .left) (k .result) (k .ensures)
 
+-- the rows laid out are as many as were kept
+many : (c : tie.After-lay-out) → c .before .before .before .before .before .kept-rows .result .used ≡ length (usedRows (c .lay-out .result))
+many c =
+    let k = c .before .before .before .before .before in
+    let d = k .before .before in
+    let s = d .before .before .before .before .before in
+    let R = accepted-kept (s .args .map) (s .args .count) _ _ _ (long s) (d .refusal-of-map .ensures) (k .before .if1 .left) (k .kept-rows .result) (k .kept-rows .ensures) in
+    R .many ∙ sym (laid-used (c .lay-out .ensures))
+
+cast-put-kept : tie.Need-cast-put-kept
+cast-put-kept c =
+    let l = c .before .before .before in
+    omega (arith, many l, used-most (l .lay-out .result), l .lay-out .ensures .eight)
+
 put-kept-requires : tie.Need-put-kept-requires
 put-kept-requires c κs = search needs
 
@@ -97,10 +113,11 @@ returns-2 c =
     let z = i .if1 .left in
     let w = worldOf (stateWith (a .counters) (a .words .now)) (a .records .now) (a .memory .now) (a .queue .now) in
     let N = rows-narrow (l .lay-out .result) _ (l .lay-out .ok) in
+    let U = l .lay-out .ensures .unused in
     rw (c .done .ensures, c .before .started .ensures, p .put-kept .ensures) (
       λ ms e f.
           let M : Mapped (a .map) (a .count) ms = record { long = e; front = f } in
-          boots-written (a .words .now) (l .lay-out .result) (s .pre) N (t .total-pages .result) (l .lay-out .last .0) (a .memory .now) (a .queue .now)
+          boots-written (a .words .now) (l .lay-out .result) (s .pre) N _ (many l) U (t .total-pages .result) (l .lay-out .last .0) (a .memory .now) (a .queue .now)
           (boots-done w (k .kept-rows .result .rows) (l .lay-out .result) (l .lay-out .last .0) (t .total-pages .result)
           (accepted-admitted (a .map) (a .count) _ _ _ (long s) E z (k .kept-rows .result) (k .kept-rows .ensures))
           (l .lay-out .ensures)
@@ -114,7 +131,7 @@ returns-2 c =
           (g .managed-pages .result)
           (g .managed-pages .ensures .0)
           (sym z ∙ E .number ms M)),
-      over-done (a .words .now) (l .lay-out .result) (s .pre) N _,
+      over-done (a .words .now) (l .lay-out .result) (s .pre) N _ (many l) U _,
     )
 
 pub boot-spec : {M : Type 1} → statement M
@@ -128,6 +145,7 @@ boot-spec =
     total-pages-requires
     managed-pages-requires
     lay-out-requires
+    cast-put-kept
     put-kept-requires
     started-requires
     mul-done

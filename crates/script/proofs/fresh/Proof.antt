@@ -1,16 +1,16 @@
--- Words of zeros are eight unused rows, an empty queue and no pass.
+-- Words of zeros have no row in use: they are eight unused rows, an empty queue and no pass.
 use mathlib.Core.Path.{_≡_, refl}
 use borrow.Author.Needs.{needs}
 use lib.ListN.{replicate}
 use Rattle.definition.specs.Boot.{countersAtBoot}
 use Rattle.exam.specs.Promise.{stateWith}
-use Rattle.words.specs.Words.{rowIn, rowsFrom}
+use Rattle.words.specs.Words.{rowsFrom}
 use Rattle.script.specs.Running.{unbooted}
 use Rattle.script.proofs.fresh.Tie as tie
 use Rattle.script.proofs.fresh.Statement.{statement}
 
 zeros : stateWith (countersAtBoot 0) (replicate 92 0) ≡ unbooted
-unfolding rowsFrom rowIn
+unfolding rowsFrom
 zeros = refl
 
 unbooted-requires : tie.Need-unbooted-requires

@@ -7,13 +7,17 @@ use Rattle.words.proofs.is_kept.Statement.{statement}
 use Rattle.words.proofs.is_kept.Tie as tie
 
 returns : tie.Need-returns
-returns c = rw (lt-leb 92 (length (c .before .args .words .now)) (c .if1 .taken)) refl
+returns c = rw (lt-leb 92 (length (c .before .before .args .words .now)) (c .if1 .taken)) refl
 
-shared-slice-read-result : tie.Need-shared-slice-read-result
-shared-slice-read-result c = search needs
+shared-slice-read-low-half : tie.Need-shared-slice-read-low-half
+shared-slice-read-low-half c = search needs
+
+low-half-requires : tie.Need-low-half-requires
+low-half-requires c κs = search needs
 
 returns-2 : tie.Need-returns-2
-returns-2 c = rw (le-leb 92 (length (c .before .before .args .words .now)) (c .before .if1 .left)) refl
+returns-2 c =
+    rw (le-leb 92 (length (c .before .before .before .before .args .words .now)) (c .before .before .if1 .left), c .low-half .ensures) refl
 
 pub is-kept-spec : {M : Type 1} → statement M
-is-kept-spec = tie.close (tie.spec returns shared-slice-read-result returns-2)
+is-kept-spec = tie.close (tie.spec returns shared-slice-read-low-half low-half-requires returns-2)

@@ -57,7 +57,7 @@ returns c =
     let s = c .before .before in
     let k = c .before .loop in
     let e : k .k ≡ 11 = omega arith in
-    (rw e at (k .inv .1)) ∙ unused (s .args .words .now) (s .args .at) (s .pre)
+    (rw e at (k .inv .1)) ∙ unused (s .args .words .now) (s .args .at)
 
 pub is-no-row-spec : {M : Type 1} → statement M
 is-no-row-spec =

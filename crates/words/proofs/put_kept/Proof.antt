@@ -1,4 +1,4 @@
--- `put_kept` meets its contract. The loop's invariant: behind the version stand the words of the rows passed, and there are as many words as before.
+-- `put_kept` meets its contract. The loop's invariant: behind the first word stand the words of the rows passed, and there are as many words as before.
 use Prim.Native.Nat.{_-_, _≤_}
 use mathlib.Core.Path.{_≡_, refl, _∙_}
 use native.Mathlib.Omega.{arith}
@@ -14,11 +14,14 @@ use Rattle.words.proofs.put_kept.Statement.{statement}
 use Rattle.words.proofs.put_kept.Tie as tie
 
 abbrev Inv-loop : tie.InvT-loop
-Inv-loop words₀ queued pass rows i₀ words i =
+Inv-loop words₀ used queued pass rows i₀ words i =
     (i ≤ 8) × (92 ≤ length words₀) × (length words ≡ length words₀) × (words ≡ withBytes words₀ 1 (rowsWords (take i rows)))
 
 abbrev μ-loop : tie.MeasureT-loop
-μ-loop words₀ queued pass rows i₀ words i = 8 - i
+μ-loop words₀ used queued pass rows i₀ words i = 8 - i
+
+joined-requires : tie.Need-joined-requires Inv-loop μ-loop
+joined-requires c κs = search needs
 
 slice-write-words : tie.Need-slice-write-words Inv-loop μ-loop
 slice-write-words c = search needs
@@ -52,12 +55,12 @@ loop-again : tie.Need-loop-again Inv-loop μ-loop
 loop-again c =
     let p = c .before .before .put-row-from in
     let k = c .before .before .before .before .before .before in
-    let s = k .before .before in
-    let eight = rows-eight (s .args .t2) _ (s .good .1 .0) in (
+    let s = k .before .before .before in
+    let eight = rows-eight (s .args .t3) _ (s .good .1 .1 .0) in (
       omega arith,
       omega arith,
       p .kept .0 ∙ k .loop .inv .2,
-      rw (p .ensures, k .loop .inv .3) (row-more _ (s .args .t2) (k .loop .i) _ (omega arith) (omega arith)),
+      rw (p .ensures, k .loop .inv .3) (row-more _ (s .args .t3) (k .loop .i) _ (omega arith) (omega arith)),
     )
 
 slice-write-words-2 : tie.Need-slice-write-words-2 Inv-loop μ-loop
@@ -74,10 +77,11 @@ same-length c = simp length-set (c .before .loop .inv .2 ∙ simp length-set)
 
 returns : tie.Need-returns Inv-loop μ-loop
 returns c =
-    let s = c .before .before .before in
+    let s = c .before .before .before .before in
     let k = c .before .loop in
-    let eight = rows-eight (s .args .t2) _ (s .good .1 .0) in
-    rw (k .inv .3, take-all (k .i) (s .args .t2) (omega arith)) (kept-stores (s .args .words .now) (s .args .t2) (s .args .queued) (s .args .pass) eight (s .pre))
+    let eight = rows-eight (s .args .t3) _ (s .good .1 .1 .0) in
+    rw (k .inv .3, take-all (k .i) (s .args .t3) (omega arith), c .before .before .joined .ensures)
+    (kept-stores (s .args .words .now) (s .args .used) (s .args .t3) (s .args .queued) (s .args .pass) eight (s .pre))
 
 pub put-kept-spec : {M : Type 1} → statement M
 put-kept-spec =
@@ -85,6 +89,7 @@ put-kept-spec =
     (tie.spec
     Inv-loop
     μ-loop
+    joined-requires
     slice-write-words
     loop-holds
     mul-row

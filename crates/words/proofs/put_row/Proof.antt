@@ -24,8 +24,8 @@ returns c =
     let ws = s .args .words .now in
     let n = row-narrow (s .args .row) _ (s .good .1 .1 .0) in
     rw (c .before .before .put-row-from .ensures) (
-      row-written ws (s .args .i) (s .args .row) (s .pre .0) (s .pre .1) n,
-      row-beside ws (s .args .i) (s .args .row) (s .pre .0) (s .pre .1),
+      row-written ws (s .args .i) (s .args .row) (s .pre .0) (s .pre .1) (s .pre .2) n,
+      row-beside ws (s .args .i) (s .args .row) (s .pre .0) (s .pre .1) (s .pre .2),
     )
 
 pub put-row-spec : {M : Type 1} → statement M

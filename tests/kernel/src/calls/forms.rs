@@ -73,7 +73,7 @@ fn short() -> Checked {
 }
 
 fn versions() -> Checked {
-    for version in [0, 2, 1 << 32 | 1, u64::MAX] {
+    for version in [0, 2, 1 << 32 | 2, u64::MAX] {
         let change = |lot: &mut Lot| lot.words[MARGIN] = version;
         each(|exported, _| {
             let number = if exported.0 == "boot" { 0 } else { 6 };
@@ -101,11 +101,15 @@ fn torn() -> Checked {
 }
 
 /// Every word of the state, one bit changed. Those that may be anything are the
-/// queue's count and the pass's rounds, for which there is room, and the counters
-/// of what was granted, freed, reclaimed and lent.
+/// words of rows that are not in use, the queue's count and the pass's rounds, for
+/// which there is room, and the counters of what was granted, freed, reclaimed and
+/// lent.
 fn every_word() -> Checked {
+    let used = (prepared()?.0.words[MARGIN] >> 32) as usize;
     for place in 0..101 {
-        let number = if [89, 90, 96, 97, 98, 100].contains(&place) { 0 } else { 6 };
+        let unused = (1 + 11 * used..89).contains(&place);
+        let any = unused || [89, 90, 96, 97, 98, 100].contains(&place);
+        let number = if any { 0 } else { 6 };
         let change = |lot: &mut Lot| lot.words[MARGIN + place] ^= 1;
         on_changed(CALLS[0], number, &change).map_err(|error| format!("word {place}: {error}"))?;
     }
