@@ -8,16 +8,14 @@ use mathlib.Core.Path.{_≡_, refl, sym, ap, _∙_, subst}
 use native.Mathlib.Decide.{ℕ-discrete}
 use native.Mathlib.Omega.{arith}
 use lib.ListN.{length, set, length-set}
-use lib.Seq.{getD-set-same}
+use lib.Seq.{getD-set-same, set-getD}
 use Rattle.definition.specs.declared.Record.{Record}
 use Rattle.definition.specs.declared.Row.{Row}
 use Rattle.definition.specs.Frame.{Found, Levels, allocate}
 use Rattle.definition.specs.Allocator.{PhysicalFrameAllocator, levelsOf}
 use Rattle.definition.specs.World.{usedRows}
-use Rattle.region.specs.Rep.{Answers, Becomes, WholeRow, fromOf, managed, pageOf, stateOf}
-use Rattle.region.specs.declared.FoundPage.the-variants.{At, Nothing}
-use Rattle.region.specs.declared.Got.{Got}
-use Rattle.region.proofs.Laws.{rep-state}
+use Rattle.region.specs.Rep.{Answers, Becomes, Search, WholeRow, fromOf, managed, stateOf}
+use Rattle.region.proofs.Laws.{rep-state, page-in, none-in}
 use Rattle.region.proofs.Searching.{from-same}
 use Rattle.world.specs.Stands.{Alike, Good, baseAt, regionAt, rowAt, shift, shifted}
 use Rattle.world.specs.Tables.{Sane, Table}
@@ -56,12 +54,13 @@ module _ {f : ℕ → Record} {n : ℕ} {rows : List Row} (S : Sane f n rows) (l
   region-none : {a : PhysicalFrameAllocator} → Table f n rows a → HasNone f rows l t o i → given l t o (a .frames) (a .regions) i .page ≡ none
   region-none T e = region-alike T .page ∙ ap (shifted (fromOf row) base) e
 
-  module _ {g : ℕ → Record} {m : ℕ} {r : Got} (A : Answers f base row g m r has) where
+  module _ {g : ℕ → Record} {m : ℕ} {r : Search} (A : Answers f base row g m r has) where
     -- a region that has nothing stays as it was
-    none-here : r .found ≡ Nothing → (g ≡ f) × HasNone f rows l t o i
+    none-here : r .found ≡ false → (g ≡ f) × (r .row ≡ row) × HasNone f rows l t o i
     none-here e =
-        let p : has .page ≡ none = sym (A .found) ∙ ap pageOf e in
-        (unchanged (row-good S i h .sound) (subst (λ (s : Levels). Becomes f base row g m (r .row) s) (nothing-granted (row-tiled S i h) l few t o p) (A .became)) .0, p)
+        let p : has .page ≡ none = sym (A .found) ∙ none-in r e in
+        let u = unchanged (row-good S i h .sound) (subst (λ (s : Levels). Becomes f base row g m (r .row) s) (nothing-granted (row-tiled S i h) l few t o p) (A .became)) in
+        (u .0, u .1, p)
 
 -- ---- the first row that has a frame
 
@@ -70,18 +69,21 @@ module _ {f : ℕ → Record} {n : ℕ} {rows : List Row} (S : Sane f n rows) (l
       → (j : ℕ) → j < i → given l t o (a .frames) (a .regions) j .page ≡ none
   none-before T i u b j k = region-none S l few t o j (omega arith) T (b j k)
 
-  module _ (i : ℕ) (h : i < length (usedRows rows)) (before : (j : ℕ) → j < i → HasNone f rows l t o j) {g : ℕ → Record} {r : Got}
+  module _ (i : ℕ) (h : i < length (usedRows rows)) (before : (j : ℕ) → j < i → HasNone f rows l t o j) {g : ℕ → Record} {r : Search}
       (A : Answers f (baseAt 0 (usedRows rows) i) (rowAt rows i) g n r (allocate l (stateOf f (rowAt rows i)) t o))
-      (W : WholeRow g (baseAt 0 (usedRows rows) i) (r .row)) (p : ℕ) (e : r .found ≡ At p)
+      (W : WholeRow g (baseAt 0 (usedRows rows) i) (r .row)) (e : r .found ≡ true)
     where
       abbrev first : ℕ
       first = baseAt 0 (usedRows rows) i
+
+      abbrev p : ℕ
+      p = r .page
 
       abbrev picked : Picked
       picked = record { rows = set rows i (r .row); found = true; spot = record { index = i; base = first; page = p } }
 
       paged : allocate l (stateOf f (rowAt rows i)) t o .page ≡ some p
-      paged = sym (A .found) ∙ ap pageOf e
+      paged = sym (A .found) ∙ page-in r e
 
       row-is : rowAt (set rows i (r .row)) i ≡ r .row
       row-is = getD-set-same rows i (r .row) _ (omega (arith, used-most rows))
@@ -137,54 +139,70 @@ module _ {f : ℕ → Record} {n : ℕ} {rows : List Row} (S : Sane f n rows) (l
 
 -- ---- the loop
 
-module _ (f : ℕ → Record) (n : ℕ) (rows : List Row) (l : ℕ) (t o : Bool) where
-  -- the pass is at the row i, whose first managed page has the number base, and the records are g, of m pages
-  pub record Gone (g : ℕ → Record) (m base i : ℕ) : Type 0 where
-    pub same : g ≡ f
-    pub size : m ≡ n
-    pub used : i ≤ length (usedRows rows)
-    pub based : base ≡ baseAt 0 (usedRows rows) i
-    pub before : (j : ℕ) → j < i → HasNone f rows l t o j
+-- the pass is at the row i, whose first managed page has the number base, and the records are g, of m pages
+pub record Gone (f : ℕ → Record) (n : ℕ) (rows : List Row) (l : ℕ) (t o : Bool) (g : ℕ → Record) (m base i : ℕ) : Type 0 where
+  pub sane : Sane f n rows
+  pub few : l < 3
+  pub same : g ≡ f
+  pub size : m ≡ n
+  pub used : i ≤ length (usedRows rows)
+  pub based : base ≡ baseAt 0 (usedRows rows) i
+  pub before : (j : ℕ) → j < i → HasNone f rows l t o j
 
-  pub gone-none : Gone f n 0 0
-  gone-none =
-      record { same = refl; size = refl; used = omega arith; based = sym (base-first 0 (usedRows rows)); before = λ j k. absurd (omega arith) }
+module _ {f : ℕ → Record} {n : ℕ} {rows : List Row} {l : ℕ} {t o : Bool} where
+  pub gone-none : Sane f n rows → l < 3 → Gone f n rows l t o f n 0 0
+  gone-none S h =
+      record {
+        sane = S;
+        few = h;
+        same = refl;
+        size = refl;
+        used = omega arith;
+        based = sym (base-first 0 (usedRows rows));
+        before = λ j k. absurd (omega arith);
+      }
 
-  module _ (S : Sane f n rows) (few : l < 3) {g : ℕ → Record} {m base i : ℕ} (G : Gone g m base i) where
+  module _ {g : ℕ → Record} {m base i : ℕ} (G : Gone f n rows l t o g m base i) where
     -- a row with pages is in use, and one without is behind those in use
     pub gone-here : i < 8 → (rowAt rows i .pages ≡ 0 → ⊥) → i < length (usedRows rows)
-    gone-here h p = used-more rows i (G .used) (omega (arith, S .eight)) p
+    gone-here h p = used-more rows i (G .used) (omega (arith, G .sane .eight)) p
 
     pub gone-past : rowAt rows i .pages ≡ 0 → i ≡ length (usedRows rows)
     gone-past p = go (ℕ-discrete i (length (usedRows rows)))
       where
         go : Dec (i ≡ length (usedRows rows)) → i ≡ length (usedRows rows)
         go (yes e) = e
-        go (no d) = absurd (omega (arith, G .used, row-good S i (omega (arith, G .used)) .tables))
+        go (no d) = absurd (omega (arith, G .used, row-good (G .sane) i (omega (arith, G .used)) .tables))
 
     pub gone-eight : 8 ≤ i → i ≡ length (usedRows rows)
-    gone-eight h = omega (arith, G .used, S .eight, used-most rows)
+    gone-eight h = omega (arith, G .used, G .sane .eight, used-most rows)
 
     pub gone-all : i ≡ length (usedRows rows) → {r : Picked} → r .rows ≡ rows → r .found ≡ false → PicksBy (passBy l t o) f rows g m r
-    gone-all e d k = rw (G .same, G .size) (picks-none S l few t o (λ j u. G .before j (omega arith)) d k)
+    gone-all e d k = rw (G .same, G .size) (picks-none (G .sane) l (G .few) t o (λ j u. G .before j (omega arith)) d k)
 
     module _ (h : i < length (usedRows rows)) where
       pub gone-good : Good g m base (rowAt rows i)
-      gone-good = rw (G .same, G .size, G .based) (row-good S i h)
+      gone-good = rw (G .same, G .size, G .based) (row-good (G .sane) i h)
 
-      module _ {g2 : ℕ → Record} {m2 : ℕ} {r : Got} (A : Answers g base (rowAt rows i) g2 m2 r (allocate l (stateOf g (rowAt rows i)) t o)) (k : m2 ≡ m) where
+      module _ {g2 : ℕ → Record} {m2 : ℕ} {r : Search} (A : Answers g base (rowAt rows i) g2 m2 r (allocate l (stateOf g (rowAt rows i)) t o)) (k : m2 ≡ m) where
         answered : Answers f (baseAt 0 (usedRows rows) i) (rowAt rows i) g2 n r (allocate l (stateOf f (rowAt rows i)) t o)
         answered = rw (k, G .same, G .size, G .based) at A
 
-        pub gone-on : r .found ≡ Nothing → Gone g2 m2 (base + managed (rowAt rows i .pages)) (i + 1)
+        -- the region had nothing, so its row is as it was
+        pub gone-row : r .found ≡ false → set rows i (r .row) ≡ rows
+        gone-row e = ap (set rows i) (none-here (G .sane) l (G .few) t o i h answered e .1) ∙ set-getD rows i _
+
+        pub gone-on : r .found ≡ false → Gone f n rows l t o g2 m2 (base + managed (rowAt rows i .pages)) (i + 1)
         gone-on e =
-            let N = none-here S l few t o i h answered e in
+            let N = none-here (G .sane) l (G .few) t o i h answered e in
             record {
+              sane = G .sane;
+              few = G .few;
               same = N .0;
               size = k ∙ G .size;
               used = omega arith;
               based = ap (λ (b : ℕ). b + managed (rowAt rows i .pages)) (G .based) ∙ sym (base-row rows i h);
-              before = λ j u. up-to (N .1) j u (ℕ-discrete j i);
+              before = λ j u. up-to (N .2) j u (ℕ-discrete j i);
             }
           where
             up-to : HasNone f rows l t o i → (j : ℕ) → j < i + 1 → Dec (j ≡ i) → HasNone f rows l t o j
@@ -192,6 +210,6 @@ module _ (f : ℕ → Record) (n : ℕ) (rows : List Row) (l : ℕ) (t o : Bool)
             up-to b j u (no d) = G .before j (omega arith)
 
         pub gone-found
-            : WholeRow g2 base (r .row) → (p : ℕ) → r .found ≡ At p
-            → PicksBy (passBy l t o) f rows g2 m2 (record { rows = set rows i (r .row); found = true; spot = record { index = i; base = base; page = p } })
-        gone-found W p e = rw (k, G .size, G .based) (picks-found S l few t o i h (G .before) answered (rw (G .based) at W) p e)
+            : WholeRow g2 base (r .row) → r .found ≡ true
+            → PicksBy (passBy l t o) f rows g2 m2 (record { rows = set rows i (r .row); found = true; spot = record { index = i; base = base; page = r .page } })
+        gone-found W e = rw (k, G .size, G .based) (picks-found (G .sane) l (G .few) t o i h (G .before) answered (rw (G .based) at W) e)

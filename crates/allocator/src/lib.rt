@@ -1,5 +1,5 @@
 // The allocator over all regions, after frame.rs's PhysicalFrameAllocator: which region manages an address, and the free, the split and the grant that change one
-// of them. The regions' rows stand in the lent words; a function reads the one that it wants, and writes it back there. Where a function has a `requires`, that is what the audit establishes (`Sane`), or what an earlier look at an address did.
+// of them. The regions' rows stand in the lent words; a function reads the one that it wants there. Where a function has a `requires`, that is what the audit establishes (`Sane`), or what an earlier look at an address did.
 use address::PhysAddr;
 use definition::Row;
 use region::FoundPage;
@@ -135,9 +135,7 @@ pub fn free(words: &mut [u64], records: &mut [u8], spot: Spot)
     ensures { λ _. ⌜ TurnsBy (freeAt (numberAt (rowsIn (now (words .entry))) spot)) (recordAt (now (records .entry))) (rowsIn (now (words .entry))) (recordAt (now (records .exit))) (pagesIn (now (records .exit))) (rowsIn (now (words .exit))) ⌝ }
     ensures { λ _. ⌜ RowsBeside (now (words .entry)) (now (words .exit)) ⌝ }
 {
-    let row = words::row_at(words, spot.index);
-    let next = region::free(records, spot.base, row, spot.page);
-    words::put_row(words, spot.index, next);
+    region::free(records, spot.base, words, spot.index, spot.page);
 }
 
 // split_frame, frame.rs 753, of a held frame.
@@ -182,27 +180,22 @@ fn pass(
     let mut base: usize = 0;
     let mut i: usize = 0;
     while i < 8 {
-        let row = words::row_at(words, i);
-        if row.pages == 0 {
+        let pages = words::pages_at(words, i);
+        if pages == 0 {
             return nothing_picked();
         }
-        let got = region::allocate(records, base, row, level, try_zero, only_zero);
-        let found = got.found;
-        match found {
-            FoundPage::At(page) => {
-                words::put_row(words, i, got.row);
-                return Picked {
-                    found: true,
-                    spot: Spot {
-                        index: i,
-                        base,
-                        page,
-                    },
-                };
-            }
-            FoundPage::Nothing => {}
+        let got = region::allocate(records, base, words, i, level, try_zero, only_zero);
+        if got.found {
+            return Picked {
+                found: true,
+                spot: Spot {
+                    index: i,
+                    base,
+                    page: got.page,
+                },
+            };
         }
-        base += row.pages - region::table_pages(row.pages);
+        base += pages - region::table_pages(pages);
         i += 1;
     }
     nothing_picked()

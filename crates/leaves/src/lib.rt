@@ -2,18 +2,20 @@
 // calls them. Each tests what it was lent and answers 0 where the loan does not fit; a loan of records that fits has one for each page, and at most 1,048,576.
 use address::PhysAddr;
 use definition::Links;
+use definition::Pass;
 use definition::Record;
 use definition::Row;
 use list::Popped;
-use region::FoundPage;
 ghost use mathlib.Core.Path.{_≡_};
 ghost use Prim.Native.Nat.{_+_, _≤_, _<_, _^_};
 ghost use mathlib.Core.Bool.{_&&_};
 ghost use lib.Dec.{leb};
+ghost use lib.ListN.{length};
 ghost use Rattle.definition.specs.World.{recordAt};
 ghost use Rattle.record.specs.Records.{pagesIn};
 ghost use Rattle.list.specs.Linked.{Sound};
-ghost use Rattle.region.specs.Rep.{SoundRow, WholeRow};
+ghost use Rattle.words.specs.Words.{InUse, rowOf, rowsIn};
+ghost use Rattle.region.specs.Rep.{SoundAt, WholeAt};
 ghost use Rattle.leaves.specs.Contents.{inside, turnsIf, filled, copied};
 
 fn wide(x: u32) -> u64
@@ -155,23 +157,45 @@ pub extern "C" fn leaves_push_pop(records: &mut [u8], count: usize) -> usize
     pop_all(records, l, count)
 }
 
-fn grant_all(records: &mut [u8], row: Row, level: usize, times: usize) -> usize
-    requires { ⌜ SoundRow (recordAt (now records)) (pagesIn (now records)) 0 row ⌝ }
-    requires { ⌜ (WholeRow (recordAt (now records)) 0 row) × (level < 3) ⌝ }
+// Makes the words those of a state whose one row is `row`.
+fn keep(words: &mut [u64], row: Row)
+    requires { ⌜ 92 ≤ length (now words) ⌝ }
+    ensures { λ _. ⌜ InUse (now (words .exit)) 0 × (rowOf (rowsIn (now (words .exit))) 0 ≡ row) ⌝ }
+{
+    let none = Links {
+        front: 0,
+        back: 0,
+        count: 0,
+    };
+    let unused = Row {
+        start: PhysAddr::new(0),
+        pages: 0,
+        lists: [none; 6],
+    };
+    let mut rows = [unused; 8];
+    rows[0] = row;
+    words::put_kept(
+        words,
+        1,
+        rows,
+        0,
+        Pass {
+            rounds: 0,
+            freed: 0,
+        },
+    );
+}
+
+fn grant_all(records: &mut [u8], words: &mut [u64], level: usize, times: usize) -> usize
+    requires { ⌜ SoundAt (now records) 0 (now words) 0 ⌝ }
+    requires { ⌜ (WholeAt (now records) 0 (now words) 0) × (level < 3) ⌝ }
     ensures { λ r. ⌜ r ≤ times ⌝ }
 {
-    let mut r = row;
     let mut i: usize = 0;
     while i < times {
-        let got = region::allocate(records, 0, r, level, false, false);
-        let found = got.found;
-        match found {
-            FoundPage::Nothing => {
-                return i;
-            }
-            FoundPage::At(_) => {
-                r = got.row;
-            }
+        let got = region::allocate(records, 0, words, 0, level, false, false);
+        if !got.found {
+            return i;
         }
         i += 1;
     }
@@ -204,7 +228,9 @@ pub extern "C" fn leaves_grants(
         return 0;
     }
     let row = region::new(records, 0, PhysAddr::new(start), pages);
-    grant_all(records, row, level, times)
+    let mut words = [0u64; 92];
+    keep(&mut words, row);
+    grant_all(records, &mut words, level, times)
 }
 
 // Lays a region out, and answers how many of its frames are small.

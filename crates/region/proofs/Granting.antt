@@ -10,10 +10,8 @@ use Rattle.definition.specs.World.{levelOf, marksOf}
 use Rattle.definition.specs.declared.Record.{Record}
 use Rattle.definition.specs.declared.Row.{Row}
 use Rattle.record.specs.Records.{withMarks}
-use Rattle.region.specs.Rep.{Answers, Inside, Rep, Whole, fromOf, holdAt, pageOf}
-use Rattle.region.specs.declared.FoundPage.the-variants.{At, Nothing}
-use Rattle.region.specs.declared.Got.{Got}
-use Rattle.region.proofs.Laws.{then, marked-as}
+use Rattle.region.specs.Rep.{Answers, Inside, Rep, Search, Whole, fromOf, holdAt}
+use Rattle.region.proofs.Laws.{then, page-in, none-in, marked-as}
 use Rattle.region.proofs.Tiling.{Ready, rep-kept, fine-do}
 
 bit-small : (b : Bool) → bit b ≤ 1
@@ -26,20 +24,29 @@ granted-none a e = rw e refl
 pub granted-page : (a : Found) (p : ℕ) → a .page ≡ some p → setAllocated a ≡ record { levels = holdAt (a .levels) p; page = some p }
 granted-page a p e = rw e refl
 
+-- what it takes to hold the page that a search found, and what then is answered
+pub record Grants (f : ℕ → Record) (first : ℕ) (row : Row) (g : ℕ → Record) (m : ℕ) (r : Search) (a : Found) : Type 0 where
+  pub inside : r .page < m
+  pub small : g (r .page) .marks < 16
+  pub answers : Answers f first row (withMarks g (r .page) (g (r .page) .marks + 2)) m r a
+
 module _
-    {f g : ℕ → Record} {n m first : ℕ} {row : Row} {r : Got} (s : Levels) (l : ℕ) (t o : Bool) (R : Rep f n first row s) (T : Whole s none (fromOf row) first (row .pages))
+    {f g : ℕ → Record} {n m first : ℕ} {row : Row} {r : Search} {s : Levels} {l : ℕ} (t o : Bool) (R : Rep f n first row s) (T : Whole s none (fromOf row) first (row .pages))
     (h : l < 3) (A : Answers f first row g m r (doAllocate (3 - l) l s t o))
   where
     abbrev a : Found
     a = doAllocate (3 - l) l s t o
 
-    pub not-granted : r .found ≡ Nothing → Answers f first row g m r (allocate l s t o)
+    pub not-granted : r .found ≡ false → Answers f first row g m r (allocate l s t o)
     unfolding allocate
-    not-granted e = rw (granted-none a (sym (A .found) ∙ ap pageOf e)) A
+    not-granted e = rw (granted-none a (sym (A .found) ∙ none-in r e)) A
 
-    module _ (p : ℕ) (e : r .found ≡ At p) where
+    module _ (e : r .found ≡ true) where
+      abbrev p : ℕ
+      p = r .page
+
       paged : a .page ≡ some p
-      paged = sym (A .found) ∙ ap pageOf e
+      paged = sym (A .found) ∙ page-in r e
 
       y : Ready (a .levels) first (row .pages) l p false
       y = fine-do (3 - l) l t o (record { kept = rep-kept R; whole = T }) (omega arith) .ready p paged
@@ -47,18 +54,12 @@ module _
       inside : Inside first (r .row .pages) p
       inside = rw (A .became .pages) (y .inside)
 
-      pub grant-inside : p < m
-      grant-inside = omega (arith, inside .high, A .became .rep .fits)
-
       marks : g p .marks ≡ 1 + 2 * 0 + 4 * bit (y .frame .zeroed) + 8 * bit (y .frame .kernel)
       marks = A .became .rep .marks p inside ∙ ap marksOf (y .here) ∙ rw (y .held-so) refl
 
-      pub grant-small : g p .marks < 16
-      grant-small = omega (arith, marks, bit-small (y .frame .zeroed), bit-small (y .frame .kernel))
-
-      pub grant : Answers f first row (withMarks g p (g p .marks + 2)) m r (allocate l s t o)
+      answered : Answers f first row (withMarks g p (g p .marks + 2)) m r (allocate l s t o)
       unfolding allocate
-      grant =
+      answered =
           rw (granted-page a p paged)
           (record {
             became =
@@ -67,5 +68,13 @@ module _
                 (marked-as (changed (withAllocated true) (some (y .frame))) (A .became .rep) inside (y .out) (omega (arith, marks))
                 (A .became .rep .level p inside ∙ ap levelOf (y .here))
                 (let z = A .became .rep .loose p inside (y .out) in record { earlier = z .earlier; later = z .later })));
-            found = ap pageOf e;
+            found = page-in r e;
           })
+
+      pub grants : Grants f first row g m r (allocate l s t o)
+      grants =
+          record {
+            inside = omega (arith, inside .high, A .became .rep .fits);
+            small = omega (arith, marks, bit-small (y .frame .zeroed), bit-small (y .frame .kernel));
+            answers = answered;
+          }

@@ -1,5 +1,5 @@
 -- What stands for a state, and how it changes.
-use Prim.Native.Nat.{ℕ, zero, suc, _+_, _*_, _<_, _^_}
+use Prim.Native.Nat.{ℕ, _+_, _*_, _<_, _^_}
 use mathlib.Core.Bool.{Bool, true, false}
 use mathlib.Core.List.{List, [], _∷_, _++_}
 use mathlib.Core.Logic.{_≢_}
@@ -8,7 +8,7 @@ use mathlib.Core.Path.{_≡_, refl, sym, ap, _∙_, subst, fun-ext}
 use native.Mathlib.Decide.{ℕ-discrete, decLt}
 use native.Mathlib.Omega.{arith}
 use lib.ListN.{getD, set, length-set, List·getD-eq-default}
-use lib.Seq.{getD-set-same, getD-set-other, set-getD}
+use lib.Seq.{getD-set-same, getD-set-other, set-getD, set-set}
 use Rattle.definition.proofs.Basics.{upd-all, upd-other, upd-same}
 use Rattle.definition.specs.Basics.{Popped, behind, popBack, upd}
 use Rattle.definition.specs.Frame.{Found, Frame, Levels, free, levelAllocate, nothing, orElse, popFrom, popped, slot}
@@ -20,9 +20,8 @@ use Rattle.list.proofs.Count.{push-fits}
 use Rattle.list.proofs.Laws.{all-append, all-head, all-left, all-map, all-right, all-zip, linked-frame, linked-pages, linked-sound, out-last, pushed-linked}
 use Rattle.list.specs.Linked.{All, Apart, Linked, Out, Pushed, Sound, Taken}
 use Rattle.list.specs.Linked.All.{all-more, all-none}
-use Rattle.region.specs.Rep.{Answers, Becomes, Inside, Listed, Loose, Rep, SoundRow, freeRecord, listUp, managed, pageOf, stateOf, withList}
-use Rattle.region.specs.declared.FoundPage.the-variants.{At, Nothing}
-use Rattle.region.specs.declared.Got.{Got}
+use Rattle.words.specs.Words.{withList}
+use Rattle.region.specs.Rep.{Answers, Becomes, Inside, Listed, Loose, Rep, Search, SoundRow, freeRecord, listUp, managed, pageIn, stateOf}
 
 -- ---- the state is what the records and the row say
 
@@ -161,9 +160,10 @@ pub stays : {f : ℕ → Record} {n first : ℕ} {row : Row} {s : Levels} → Re
 stays R = record { rep = R; start = refl; pages = refl; outside = λ q b. refl }
 
 module _ {f : ℕ → Record} {n first : ℕ} {row : Row} {s : Levels} {k : ℕ} (R : Rep f n first row s) (h : k < 6) where
-  pub pop-nothing : pagesOf f (getD (row .lists) k noLinks) ≡ [] → Answers f first row f n (record { row = row; found = Nothing }) (popFrom s k)
-  pop-nothing e =
-      rw (popFrom-none s k (sym (linked-pages (R .lists k h)) ∙ e)) (record { became = stays R; found = refl })
+  pub pop-nothing
+      : {found : Bool} {page : ℕ} → found ≡ false → pagesOf f (getD (row .lists) k noLinks) ≡ []
+      → Answers f first row f n (record { row = row; found = found; page = page }) (popFrom s k)
+  pop-nothing d e = rw (popFrom-none s k (sym (linked-pages (R .lists k h)) ∙ e)) (record { became = stays R; found = rw d refl })
 
   module _ {g : ℕ → Record} {p : ℕ} {r : Links} (T : Taken f (getD (row .lists) k noLinks) p g n r) where
     abbrev rest : List ℕ
@@ -181,7 +181,7 @@ module _ {f : ℕ → Record} {n first : ℕ} {row : Row} {s : Levels} {k : ℕ}
     left-alone : (q : ℕ) → Out q (s .free k) → q ≢ p → g q ≡ f q
     left-alone q o m = T .others q (subst (λ (xs : List ℕ). Out q xs) (sym (linked-pages (R .lists k h))) o)
 
-    pub pop-page : Answers f first row g n (record { row = withList row k r; found = At p }) (popFrom s k)
+    pub pop-page : Answers f first row g n (record { row = withList row k r; found = true; page = p }) (popFrom s k)
     pop-page =
         rw (popFrom-some s k rest p ends)
         (record {
@@ -208,6 +208,13 @@ module _ {f g h : ℕ → Record} {first n m : ℕ} {row r t : Row} {s u : Level
 
 -- ---- a level's search
 
+-- the page that a search tells of, by its flag alone: the number beside a false flag is never read
+pub page-in : (r : Search) → r .found ≡ true → pageIn r ≡ some (r .page)
+page-in r e = rw e refl
+
+pub none-in : (r : Search) → r .found ≡ false → pageIn r ≡ none
+none-in r e = rw e refl
+
 pub or-page : (a b : Found) (p : ℕ) → a .page ≡ some p → orElse a b ≡ a
 or-page a b p e = rw e refl
 
@@ -223,31 +230,31 @@ popFrom-nothing s k e = go (popBack (s .free k)) e
     go (some x) e = let z : _≡_ {A = ℕ} 0 1 = cc in absurd (omega arith)
 
 module _
-    {f g : ℕ → Record} {first n : ℕ} {row : Row} {r : Got} (s : Levels) (l : ℕ)
+    {f g : ℕ → Record} {first n : ℕ} {row : Row} {r : Search} (s : Levels) (l : ℕ)
     (A : Answers f first row g n r (popFrom s (l * 2)))
   where
-    pub level-page : (t : Bool) (p : ℕ) → r .found ≡ At p → Answers f first row g n r (levelAllocate s l t false)
+    pub level-page : (t : Bool) → r .found ≡ true → Answers f first row g n r (levelAllocate s l t false)
     unfolding levelAllocate
-    level-page t p e = rw (or-page (popFrom s (l * 2)) _ p (sym (A .found) ∙ ap pageOf e)) A
+    level-page t e = rw (or-page (popFrom s (l * 2)) _ (r .page) (sym (A .found) ∙ page-in r e)) A
 
-    none-here : r .found ≡ Nothing → popFrom s (l * 2) ≡ nothing s
-    none-here e = popFrom-nothing s (l * 2) (sym (A .found) ∙ ap pageOf e)
+    none-here : r .found ≡ false → popFrom s (l * 2) ≡ nothing s
+    none-here e = popFrom-nothing s (l * 2) (sym (A .found) ∙ none-in r e)
 
-    pub level-none : r .found ≡ Nothing → Answers f first row g n r (levelAllocate s l false false)
+    pub level-none : r .found ≡ false → Answers f first row g n r (levelAllocate s l false false)
     unfolding levelAllocate
-    level-none e = rw (or-none (popFrom s (l * 2)) (nothing s) (sym (A .found) ∙ ap pageOf e)) (subst (λ (a : Found). Answers f first row g n r a) (none-here e) A)
+    level-none e = rw (or-none (popFrom s (l * 2)) (nothing s) (sym (A .found) ∙ none-in r e)) (subst (λ (a : Found). Answers f first row g n r a) (none-here e) A)
 
-    pub after-none : r .found ≡ Nothing → Becomes f first row g n (r .row) s
+    pub after-none : r .found ≡ false → Becomes f first row g n (r .row) s
     after-none e = subst (λ (a : Found). Becomes f first row g n (r .row) (a .levels)) (none-here e) (A .became)
 
     pub level-zeroed
-        : {h : ℕ → Record} {m : ℕ} {r2 : Got} → r .found ≡ Nothing → Answers g first (r .row) h m r2 (popFrom (stateOf g (r .row)) (l * 2 + 1))
+        : {h : ℕ → Record} {m : ℕ} {r2 : Search} → r .found ≡ false → Answers g first (r .row) h m r2 (popFrom (stateOf g (r .row)) (l * 2 + 1))
         → Answers f first row h m r2 (levelAllocate s l true false)
     unfolding levelAllocate
     level-zeroed {h} {m} {r2} e B =
         let a = after-none e in
         let B1 : Answers g first (r .row) h m r2 (popFrom s (l * 2 + 1)) = rw (rep-state (a .rep)) at B in
-        rw (or-none (popFrom s (l * 2)) (popFrom s (l * 2 + 1)) (sym (A .found) ∙ ap pageOf e)) (record { became = then a (B1 .became); found = B1 .found })
+        rw (or-none (popFrom s (l * 2)) (popFrom s (l * 2 + 1)) (sym (A .found) ∙ none-in r e)) (record { became = then a (B1 .became); found = B1 .found })
 
 -- ---- a frame is listed
 
@@ -319,11 +326,6 @@ module _
           (λ q m b. all-left (s .free (slot l z)) _ b)
 
 -- ---- the list k is out of the row, and is put back once it has changed
-
-set-set : (xs : List Links) (k : ℕ) (a b : Links) → set (set xs k a) k b ≡ set xs k b
-set-set [] k a b = refl
-set-set (x ∷ xs) zero a b = refl
-set-set (x ∷ xs) (suc k) a b = ap (λ (ys : List Links). x ∷ ys) (set-set xs k a b)
 
 pub taken-out
     : {f : ℕ → Record} {n first : ℕ} {row : Row} {s : Levels} (k : ℕ) → Rep f n first row s

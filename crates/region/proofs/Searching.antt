@@ -1,16 +1,19 @@
--- The search over the levels, a step at a time.
+-- The search over the levels: what the definition says of it, a step at a time, and what the calls that make it up reach, one after another.
 use Prim.Native.Nat.{ℕ, suc, _+_, _-_, _≤_, _<_}
 use mathlib.Core.Bool.{Bool, true, false}
+use mathlib.Core.List.{List}
 use mathlib.Core.Option.{Option, none, some}
 use mathlib.Core.Path.{_≡_, refl, sym, ap, _∙_, subst}
 use native.Mathlib.Omega.{arith}
-use Rattle.definition.specs.Frame.{Found, Levels, doAllocate, kept, levelAllocate, nothing, orElse, popFrom, slot, split, thenSplit}
+use lib.ListN.{length}
+use Rattle.definition.specs.Frame.{Found, Levels, doAllocate, levelAllocate, nothing, orElse, popFrom, slot, split, thenSplit}
 use Rattle.definition.specs.declared.Record.{Record}
 use Rattle.definition.specs.declared.Row.{Row}
-use Rattle.region.specs.Rep.{Answers, Becomes, Rep, SoundRow, Splits, Whole, WholeRow, fromOf, pageOf, stateOf}
-use Rattle.region.specs.declared.FoundPage.the-variants.{At, Nothing}
+use Rattle.words.specs.Words.{InUse, RowBeside, rowOf, rowsIn}
+use Rattle.words.proofs.Words.{in-use-then, row-beside-same, row-beside-then}
 use Rattle.region.specs.declared.Got.{Got}
-use Rattle.region.proofs.Laws.{rep-state, rep-sound, then, stays, or-page, or-none, popFrom-nothing}
+use Rattle.region.specs.Rep.{Answers, Becomes, Rep, SoundRow, Splits, Whole, fromOf, pageIn, searched, stateOf}
+use Rattle.region.proofs.Laws.{rep-state, rep-sound, then, stays, or-page, or-none, page-in, none-in, popFrom-nothing}
 use Rattle.region.proofs.Tiling.{Good, rep-kept, fine-do, splits, parted-page, parted-none}
 
 pub from-same : {f g : ℕ → Record} {first m : ℕ} {row r : Row} {s : Levels} → Becomes f first row g m r s → fromOf r ≡ fromOf row
@@ -30,69 +33,115 @@ level-nothing s l t true e = popFrom-nothing s (slot l true) e
 level-nothing s l true false e = or-nothing s (popFrom s (slot l false)) (popFrom s (slot l true)) (popFrom-nothing s (slot l true)) e
 level-nothing s l false false e = or-nothing s (popFrom s (slot l false)) (nothing s) (λ d. refl) e
 
-module _ (s : Levels) (l : ℕ) (t o : Bool) where
-  past : 3 ≤ l → doAllocate (3 - l) l s t o ≡ nothing s
+-- what a search asks for: a level, and which of its lists
+pub record Wanted : Type 0 where
+  pub level : ℕ
+  pub tryZero : Bool
+  pub onlyZero : Bool
+
+-- what the level has, what the next larger one has to say, and what both do
+abbrev pub here : Wanted → Levels → Found
+here w s = levelAllocate s (w .level) (w .tryZero) (w .onlyZero)
+
+abbrev pub above : Wanted → Levels → Found
+above w s = doAllocate (3 - (w .level + 1)) (w .level + 1) s (w .tryZero) (w .onlyZero)
+
+abbrev pub answer : Wanted → Levels → Found
+answer w s = doAllocate (3 - w .level) (w .level) s (w .tryZero) (w .onlyZero)
+
+module _ (w : Wanted) (s : Levels) where
+  pub past : 3 ≤ w .level → answer w s ≡ nothing s
   unfolding doAllocate
-  past h = let e : 3 - l ≡ 0 = omega arith in rw e refl
+  past h = let e : 3 - w .level ≡ 0 = omega arith in rw e refl
 
-  abbrev above : Found
-  above = doAllocate (3 - (l + 1)) (l + 1) s t o
+  abbrev parts : Found → Found
+  parts a = thenSplit (w .level) (w .tryZero) (w .onlyZero) a
 
-  step : l < 3 → doAllocate (3 - l) l s t o ≡ orElse (levelAllocate s l t o) (thenSplit l t o above)
-  unfolding doAllocate
-  step h = let e : 3 - l ≡ suc (3 - (l + 1)) = omega arith in rw e refl
+  module _ (h : w .level < 3) where
+    step : answer w s ≡ orElse (here w s) (parts (above w s))
+    unfolding doAllocate
+    step = let e : 3 - w .level ≡ suc (3 - (w .level + 1)) = omega arith in rw e refl
 
-  -- what a level and those above it have to say where the level has none
-  climbs : l < 3 → levelAllocate s l t o .page ≡ none → doAllocate (3 - l) l s t o ≡ thenSplit l t o above
-  climbs h e = step h ∙ or-none (levelAllocate s l t o) (thenSplit l t o above) e
+    pub found-here : {p : ℕ} → here w s .page ≡ some p → answer w s ≡ here w s
+    found-here {p} e = step ∙ or-page (here w s) (parts (above w s)) p e
 
-module _ {f : ℕ → Record} {first : ℕ} {row : Row} (s : Levels) (l : ℕ) (t o : Bool) where
-  pub none-left : {n : ℕ} → Rep f n first row s → 3 ≤ l → Answers f first row f n (record { row = row; found = Nothing }) (doAllocate (3 - l) l s t o)
-  none-left R h = rw (past s l t o h) (record { became = stays R; found = refl })
+    module _ (e : here w s .page ≡ none) where
+      climbs : answer w s ≡ parts (above w s)
+      climbs = step ∙ or-none (here w s) (parts (above w s)) e
 
-  module _ {g : ℕ → Record} {m : ℕ} {r : Got} (h : l < 3) (A : Answers f first row g m r (levelAllocate s l t o)) where
-    pub found-here : (p : ℕ) → r .found ≡ At p → Answers f first row g m r (doAllocate (3 - l) l s t o)
-    found-here p e = rw (step s l t o h, or-page (levelAllocate s l t o) _ p (sym (A .found) ∙ ap pageOf e)) A
+      pub none-above : above w s .page ≡ none → answer w s ≡ above w s
+      none-above d = climbs ∙ parted-none (w .level) (w .tryZero) (w .onlyZero) (above w s) d
 
-    module _ (e : r .found ≡ Nothing) where
-      nil : levelAllocate s l t o .page ≡ none
-      nil = sym (A .found) ∙ ap pageOf e
+      pub found-above : {p : ℕ} → above w s .page ≡ some p → answer w s ≡ here w (split (above w s .levels) p (w .level))
+      found-above {p} d = climbs ∙ parted-page (w .level) (w .tryZero) (w .onlyZero) (above w s) p d
 
-      same : Becomes f first row g m (r .row) s
-      same = subst (λ (a : Found). Becomes f first row g m (r .row) (a .levels)) (level-nothing s l t o nil) (A .became)
+    -- what the split of a page found above asks
+    pub split-asks
+        : {f g : ℕ → Record} {n m first p : ℕ} {row r : Row} → Rep f n first row s → Whole s none (fromOf row) first (row .pages)
+        → above w s .page ≡ some p → Becomes f first row g m r (above w s .levels) → Splits (stateOf g r) first (r .pages) p (w .level)
+    split-asks {first = first} {p = p} {row = row} R T e B =
+        let F = fine-do (3 - (w .level + 1)) (w .level + 1) (w .tryZero) (w .onlyZero) (record { kept = rep-kept R; whole = T }) (omega arith) in
+        rw (rep-state (B .rep), B .pages)
+        (splits (w .level) (subst (λ (x : Option ℕ). Good (above w s .levels) x (fromOf row) first (row .pages)) e (F .good)) (F .ready p e))
 
-      pub climb-asks : Whole s none (fromOf row) first (row .pages) → SoundRow g m first (r .row) × WholeRow g first (r .row)
-      climb-asks T = (rep-sound (same .rep), rw (rep-state (same .rep), from-same same, same .pages) T)
+-- ---- one call after another
 
-      module _ {h1 : ℕ → Record} {m1 : ℕ} {u : Got} (U : Answers g first (r .row) h1 m1 u (doAllocate (3 - (l + 1)) (l + 1) (stateOf g (r .row)) t o)) where
-        Y : Answers g first (r .row) h1 m1 u (above s l t o)
-        Y = subst (λ (x : Levels). Answers g first (r .row) h1 m1 u (doAllocate (3 - (l + 1)) (l + 1) x t o)) (rep-state (same .rep)) U
+-- the records f and the words ws became g and vs, whose row i is in use and stands for s
+pub record Reached (f : ℕ → Record) (first : ℕ) (ws : List ℕ) (i : ℕ) (g : ℕ → Record) (n : ℕ) (vs : List ℕ) (s : Levels) : Type 0 where
+  pub used : InUse vs i
+  pub became : Becomes f first (rowOf (rowsIn ws) i) g n (rowOf (rowsIn vs) i) s
+  pub beside : RowBeside ws i vs
 
-        W : Becomes f first row h1 m1 (u .row) (above s l t o .levels)
-        W = then same (Y .became)
+-- the same after a search, with what it found
+pub record Sought (f : ℕ → Record) (first : ℕ) (ws : List ℕ) (i : ℕ) (g : ℕ → Record) (n : ℕ) (vs : List ℕ) (r : Got) (a : Found) : Type 0 where
+  pub reached : Reached f first ws i g n vs (a .levels)
+  pub found : pageIn (searched vs i r) ≡ a .page
 
-        pub none-above : u .found ≡ Nothing → Answers f first row h1 m1 u (doAllocate (3 - l) l s t o)
-        none-above d =
-            rw (climbs s l t o h nil, parted-none l t o (above s l t o) (sym (Y .found) ∙ ap pageOf d)) (record { became = W; found = Y .found })
+module _ {f : ℕ → Record} {first i : ℕ} {ws : List ℕ} where
+  pub begun : {n : ℕ} → InUse ws i × SoundRow f n first (rowOf (rowsIn ws) i) → Reached f first ws i f n ws (stateOf f (rowOf (rowsIn ws) i))
+  begun u = record { used = u .0; became = stays (u .1); beside = row-beside-same }
 
-        module _ (p : ℕ) (d : u .found ≡ At p) where
-          pub split-asks : {n : ℕ} → Rep f n first row s → Whole s none (fromOf row) first (row .pages) → SoundRow h1 m1 first (u .row) × Splits (stateOf h1 (u .row)) first (u .row .pages) p l
-          split-asks R T =
-              let F = fine-do (3 - (l + 1)) (l + 1) t o (record { kept = rep-kept R; whole = T }) (omega arith) in
-              (rep-sound (W .rep), rw (rep-state (W .rep), W .pages) (splits l (subst (λ (x : Option ℕ). Good (above s l t o .levels) x (fromOf row) first (row .pages)) (sym (Y .found) ∙ ap pageOf d) (F .good)) (F .ready p (sym (Y .found) ∙ ap pageOf d))))
+  module _ {g : ℕ → Record} {m : ℕ} {vs : List ℕ} where
+    module _ {s : Levels} (A : Reached f first ws i g m vs s) where
+      -- what the next call asks
+      pub asks : InUse vs i × SoundRow g m first (rowOf (rowsIn vs) i)
+      asks = (A .used, rep-sound (A .became .rep))
 
-          module _ {h2 : ℕ → Record} {m2 : ℕ} {q : Row} (P : Becomes h1 first (u .row) h2 m2 q (split (stateOf h1 (u .row)) p l)) where
-            Q : Becomes f first row h2 m2 q (split (above s l t o .levels) p l)
-            Q = then W (subst (λ (x : Levels). Becomes h1 first (u .row) h2 m2 q (split x p l)) (rep-state (W .rep)) P)
+      module _ {h : ℕ → Record} {k : ℕ} {us : List ℕ} (e : length us ≡ length vs) where
+        pub changed
+            : (op : Levels → Levels)
+            → Becomes g first (rowOf (rowsIn vs) i) h k (rowOf (rowsIn us) i) (op (stateOf g (rowOf (rowsIn vs) i))) × RowBeside vs i us
+            → Reached f first ws i h k us (op s)
+        changed op c =
+            record {
+              used = in-use-then e (c .1 .rest) (A .used);
+              became =
+                  then (A .became)
+                  (subst (λ (x : Levels). Becomes g first (rowOf (rowsIn vs) i) h k (rowOf (rowsIn us) i) (op x)) (rep-state (A .became .rep)) (c .0));
+              beside = row-beside-then (A .beside) (c .1);
+            }
 
-            pub again-asks : SoundRow h2 m2 first q × (l < 3)
-            again-asks = (rep-sound (Q .rep), h)
+        pub sought
+            : {r : Got} (op : Levels → Found)
+            → Answers g first (rowOf (rowsIn vs) i) h k (searched us i r) (op (stateOf g (rowOf (rowsIn vs) i))) × RowBeside vs i us
+            → Sought f first ws i h k us r (op s)
+        sought {r} op c =
+            record {
+              reached = changed (λ x. op x .levels) (c .0 .became, c .1);
+              found = subst (λ (x : Levels). pageIn (searched us i r) ≡ op x .page) (rep-state (A .became .rep)) (c .0 .found);
+            }
 
-            pub found-part
-                : {h3 : ℕ → Record} {m3 : ℕ} {v : Got} → Answers h2 first q h3 m3 v (levelAllocate (stateOf h2 q) l t o)
-                → Answers f first row h3 m3 v (doAllocate (3 - l) l s t o)
-            found-part {h3} {m3} {v} L =
-                let N : Answers h2 first q h3 m3 v (levelAllocate (split (above s l t o .levels) p l) l t o) =
-                subst (λ (x : Levels). Answers h2 first q h3 m3 v (levelAllocate x l t o)) (rep-state (Q .rep)) L in
-                rw (climbs s l t o h nil, parted-page l t o (above s l t o) p (sym (Y .found) ∙ ap pageOf d))
-                (record { became = then Q (N .became); found = N .found })
+    module _ {r : Got} {a : Found} (A : Sought f first ws i g m vs r a) where
+      pub told : Answers f first (rowOf (rowsIn ws) i) g m (searched vs i r) a × RowBeside ws i vs
+      told = (record { became = A .reached .became; found = A .found }, A .reached .beside)
+
+      pub some-told : r .found ≡ true → a .page ≡ some (r .page)
+      some-told e = sym (A .found) ∙ page-in (searched vs i r) e
+
+      pub none-told : r .found ≡ false → a .page ≡ none
+      none-told e = sym (A .found) ∙ none-in (searched vs i r) e
+
+    -- a level that has none leaves all as it was
+    pub none-here : (w : Wanted) (s : Levels) {r : Got} → Sought f first ws i g m vs r (here w s) → r .found ≡ false → Reached f first ws i g m vs s
+    none-here w s A e =
+        subst (λ (a : Found). Reached f first ws i g m vs (a .levels)) (level-nothing s (w .level) (w .tryZero) (w .onlyZero) (none-told A e)) (A .reached)

@@ -99,9 +99,8 @@ module _ {s : Levels} {first pages page l : ℕ} (S : Splits s first pages page 
       (S .out page (omega arith) (omega (arith, size-positive l)))
 
 -- all children, and then the first
-pub whole
-    : {f g : ℕ → Record} {first n : ℕ} {row r : Row} (s : Levels) (page l : ℕ) (z : Bool) (i : ℕ)
-    → Becomes f first row g n r (listUp (children i s page l z) page l z false) → i ≡ 511 → z ≡ isZeroed (s .frames page)
-    → Becomes f first row g n r (split s page l)
+pub split-is
+    : (s : Levels) (page l : ℕ) (z : Bool) (i : ℕ) → i ≡ 511 → z ≡ isZeroed (s .frames page)
+    → listUp (children i s page l z) page l z false ≡ split s page l
 unfolding split
-whole s page l z i B e d = rw (← e, ← d) B
+split-is s page l z i e d = rw (← d, e) refl

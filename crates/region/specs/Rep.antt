@@ -16,8 +16,9 @@ use Rattle.definition.specs.Basics.{bit, upd}
 use Rattle.definition.specs.Board.{standard}
 use Rattle.definition.specs.Frame.{Frame, Levels, Found, size, push, change, withAllocated, isAllocated, splitAndKeep, highest, organize}
 use Rattle.definition.specs.Allocator.{tablePages, contains}
-use Rattle.definition.specs.World.{noLinks, pagesOf, frameOf, marksOf, levelOf, slotOf, earlierIn, laterIn, linksOf, bareRegion, pageNumber}
-use Rattle.record.specs.Records.{cleared}
+use Rattle.definition.specs.World.{recordAt, noLinks, pagesOf, frameOf, marksOf, levelOf, slotOf, earlierIn, laterIn, linksOf, bareRegion, pageNumber}
+use Rattle.record.specs.Records.{cleared, pagesIn}
+use Rattle.words.specs.Words.{InUse, RowBeside, rowOf, rowsIn}
 use Rattle.list.specs.Linked.{All, Out, In, Linked}
 use Rattle.region.specs.declared.FoundPage.{FoundPage}
 use Rattle.region.specs.declared.FoundPage.the-variants.{Nothing, At}
@@ -75,13 +76,23 @@ abbrev pub pageOf : FoundPage → Option ℕ
 pageOf Nothing = none
 pageOf (At p) = some p
 
-pub record Answers (f : ℕ → Record) (first : ℕ) (row : Row) (g : ℕ → Record) (n : ℕ) (r : Got) (a : Found) : Type 0 where
-  pub became : Becomes f first row g n (r .row) (a .levels)
-  pub found : pageOf (r .found) ≡ a .page
+-- what a search leaves of the row, and what it found
+pub record Search : Type 0 where
+  pub row : Row
+  pub found : Bool
+  pub page : ℕ
 
--- a row with another list k
-abbrev pub withList : Row → ℕ → Links → Row
-withList row k l = record { start = row .start; pages = row .pages; lists = set (row .lists) k l }
+-- the same of a search that leaves the row i in words
+abbrev pub searched : List ℕ → ℕ → Got → Search
+searched ws i r = record { row = rowOf (rowsIn ws) i; found = r .found; page = r .page }
+
+-- the page of a search, none where it found nothing
+abbrev pub pageIn : Search → Option ℕ
+pageIn r = cond (r .found) (some (r .page)) none
+
+pub record Answers (f : ℕ → Record) (first : ℕ) (row : Row) (g : ℕ → Record) (n : ℕ) (r : Search) (a : Found) : Type 0 where
+  pub became : Becomes f first row g n (r .row) (a .levels)
+  pub found : pageIn r ≡ a .page
 
 -- the record of a free frame that is on no list yet
 abbrev pub freeRecord : (level : ℕ) → (zeroed kernel : Bool) → Record
@@ -150,6 +161,29 @@ pub record Best (pfn left l : ℕ) : Type 0 where
 -- no frame starts in the region yet
 abbrev pub Blank : Levels → ℕ → ℕ → Type 0
 Blank s first pages = (q : ℕ) → Inside first pages q → s .frames q ≡ none
+
+-- ---- a region whose row is the row i of words
+
+-- its row is in use, and stands with the records for frames and lists
+abbrev pub SoundAt : (bytes : List ℕ) (first : ℕ) (ws : List ℕ) (i : ℕ) → Type 0
+SoundAt bytes first ws i = InUse ws i × SoundRow (recordAt bytes) (pagesIn bytes) first (rowOf (rowsIn ws) i)
+
+abbrev pub WholeAt : (bytes : List ℕ) (first : ℕ) (ws : List ℕ) (i : ℕ) → Type 0
+WholeAt bytes first ws i = WholeRow (recordAt bytes) first (rowOf (rowsIn ws) i)
+
+-- what they stand for
+abbrev pub levelsAt : (bytes ws : List ℕ) (i : ℕ) → Levels
+levelsAt bytes ws i = stateOf (recordAt bytes) (rowOf (rowsIn ws) i)
+
+-- the records and the row became others, which stand for s, and no other word changed
+abbrev pub LeavesAt : (bytes : List ℕ) (first : ℕ) (ws : List ℕ) (i : ℕ) (bytes' ws' : List ℕ) (s : Levels) → Type 0
+LeavesAt bytes first ws i bytes' ws' s =
+    Becomes (recordAt bytes) first (rowOf (rowsIn ws) i) (recordAt bytes') (pagesIn bytes') (rowOf (rowsIn ws') i) s × RowBeside ws i ws'
+
+-- the same of a search, with what it found
+abbrev pub FindsAt : (bytes : List ℕ) (first : ℕ) (ws : List ℕ) (i : ℕ) (bytes' ws' : List ℕ) (r : Got) (a : Found) → Type 0
+FindsAt bytes first ws i bytes' ws' r a =
+    Answers (recordAt bytes) first (rowOf (rowsIn ws) i) (recordAt bytes') (pagesIn bytes') (searched ws' i r) a × RowBeside ws i ws'
 
 -- ---- the records and the lists that a state has
 

@@ -1,11 +1,12 @@
-// One region's allocator, after frame.rs's AllocationRegion: its frames stand in the lent records, its six lists of free frames in its row. `first` is the
-// page number of the region's first record. Where a function has a `requires`, that is what the audit establishes of every region of a store:
+// One region's allocator, after frame.rs's AllocationRegion: its frames stand in the lent records, its six lists of free frames in its row, the row `index` of the
+// lent words. `first` is the page number of the region's first record. Where a function has a `requires`, that is what the audit establishes of every region of a store:
 // `SoundRow` (the records and the row stand for frames and lists) and `WholeRow` (the frames tile the region, each free one is listed).
 use address::PhysAddr;
 use definition::Links;
 use definition::Record;
 use definition::Row;
 use list::Popped;
+ghost use mathlib.Core.Bool.{false};
 ghost use mathlib.Core.List.{[], _∷_};
 ghost use mathlib.Core.Path.{_≡_};
 ghost use Prim.Native.Nat.{ℕ, _+_, _-_, _*_, _/_, _%_, _≤_, _<_, _^_};
@@ -25,6 +26,7 @@ ghost use Rattle.definition.specs.Frame.{
 };
 ghost use Rattle.record.specs.Records.{pagesIn};
 ghost use Rattle.list.specs.Linked.{Out, Pushed, Sound};
+ghost use Rattle.words.specs.Words.{rowOf, rowsIn};
 ghost use Rattle.region.specs.Rep.{
   Inside,
   managed,
@@ -35,7 +37,11 @@ ghost use Rattle.region.specs.Rep.{
   Blank,
   fromOf,
   Becomes,
-  Answers,
+  SoundAt,
+  WholeAt,
+  levelsAt,
+  LeavesAt,
+  FindsAt,
   stateOf,
   freeRecord,
   listUp,
@@ -53,31 +59,33 @@ pub enum FoundPage {
     At(usize),
 }
 
-// What a search leaves of the row, and what it found.
+// What a search found: Option<FrameRef> again, in a shape that a caller reads without a branch.
 pub struct Got {
-    pub row: Row,
-    pub found: FoundPage,
+    pub found: bool,
+    pub page: usize,
+}
+
+fn nothing() -> Got
+    ensures { λ r. ⌜ r .found ≡ false ⌝ }
+{
+    Got {
+        found: false,
+        page: 0,
+    }
 }
 
 // pop_back of the list `k`.
-fn pop(records: &mut [u8], first: usize, row: Row, k: usize) -> Got
-    requires { ⌜ SoundRow (recordAt (now records)) (pagesIn (now records)) first row ⌝ }
+fn pop(records: &mut [u8], first: usize, words: &mut [u64], index: usize, k: usize) -> Got
+    requires { ⌜ SoundAt (now records) first (now words) index ⌝ }
     requires { ⌜ k < 6 ⌝ }
-    ensures { λ r. ⌜ Answers (recordAt (now (records .entry))) first row (recordAt (now (records .exit))) (pagesIn (now (records .exit))) r (popFrom (stateOf (recordAt (now (records .entry))) row) k) ⌝ }
+    ensures { λ r. ⌜ FindsAt (now (records .entry)) first (now (words .entry)) index (now (records .exit)) (now (words .exit)) r (popFrom (levelsAt (now (records .entry)) (now (words .entry)) index) k) ⌝ }
 {
-    let l = row.lists[k];
+    let l = words::list_at(words, index, k);
     match list::pop_back(records, l) {
-        Popped::Empty => Got {
-            row,
-            found: FoundPage::Nothing,
-        },
+        Popped::Empty => nothing(),
         Popped::Page(page, rest) => {
-            let mut r = row;
-            r.lists[k] = rest;
-            Got {
-                row: r,
-                found: FoundPage::At(page),
-            }
+            words::put_list(words, index, k, rest);
+            Got { found: true, page }
         }
     }
 }
@@ -94,31 +102,27 @@ fn slot(level: usize, zeroed: bool) -> usize
 fn level_allocate(
     records: &mut [u8],
     first: usize,
-    row: Row,
+    words: &mut [u64],
+    index: usize,
     level: usize,
     try_zero: bool,
     only_zero: bool,
 ) -> Got
-    requires { ⌜ SoundRow (recordAt (now records)) (pagesIn (now records)) first row ⌝ }
+    requires { ⌜ SoundAt (now records) first (now words) index ⌝ }
     requires { ⌜ level < 3 ⌝ }
-    ensures { λ r. ⌜ Answers (recordAt (now (records .entry))) first row (recordAt (now (records .exit))) (pagesIn (now (records .exit))) r (levelAllocate (stateOf (recordAt (now (records .entry))) row) level «try_zero» «only_zero») ⌝ }
+    ensures { λ r. ⌜ FindsAt (now (records .entry)) first (now (words .entry)) index (now (records .exit)) (now (words .exit)) r (levelAllocate (levelsAt (now (records .entry)) (now (words .entry)) index) level «try_zero» «only_zero») ⌝ }
 {
     if only_zero {
-        return pop(records, first, row, level * 2 + 1);
+        return pop(records, first, words, index, level * 2 + 1);
     }
-    let dirty = pop(records, first, row, level * 2);
-    let found = dirty.found;
-    match found {
-        FoundPage::At(_) => dirty,
-        FoundPage::Nothing => {
-            if try_zero {
-                let r = dirty.row;
-                pop(records, first, r, level * 2 + 1)
-            } else {
-                dirty
-            }
-        }
+    let dirty = pop(records, first, words, index, level * 2);
+    if dirty.found {
+        return dirty;
     }
+    if try_zero {
+        return pop(records, first, words, index, level * 2 + 1);
+    }
+    dirty
 }
 
 // A free frame's record at the page, and the page on the back of a list. It takes the one list, and not the row, so that 512 in turn copy little.
@@ -150,7 +154,7 @@ fn admit(
     list::push_back(records, list, page)
 }
 
-// AllocationRegionLevel::admit_one and free, frame.rs 127 and 97: a free frame at the page, on the back of its list.
+// AllocationRegionLevel::admit_one, frame.rs 127: a free frame at the page, on the back of its list, in a row that is still being laid out.
 fn push(
     records: &mut [u8],
     first: usize,
@@ -174,103 +178,101 @@ fn push(
 }
 
 // AllocationRegion::split, frame.rs 244: the listed frame at the page becomes 512 of the level, child 0 pushed last.
-fn split(records: &mut [u8], first: usize, row: Row, page: usize, level: usize) -> Row
-    requires { ⌜ SoundRow (recordAt (now records)) (pagesIn (now records)) first row ⌝ }
-    requires { ⌜ Splits (stateOf (recordAt (now records)) row) first (row .pages) page level ⌝ }
-    ensures { λ r. ⌜ Becomes (recordAt (now (records .entry))) first row (recordAt (now (records .exit))) (pagesIn (now (records .exit))) r («split_def» (stateOf (recordAt (now (records .entry))) row) page level) ⌝ }
+fn split(
+    records: &mut [u8],
+    first: usize,
+    words: &mut [u64],
+    index: usize,
+    page: usize,
+    level: usize,
+)
+    requires { ⌜ SoundAt (now records) first (now words) index ⌝ }
+    requires { ⌜ Splits (levelsAt (now records) (now words) index) first (rowOf (rowsIn (now words)) index .pages) page level ⌝ }
+    ensures { λ _. ⌜ LeavesAt (now (records .entry)) first (now (words .entry)) index (now (records .exit)) (now (words .exit)) («split_def» (levelsAt (now (records .entry)) (now (words .entry)) index) page level) ⌝ }
 {
     let zeroed = record::is_zeroed(record::marks(records, page));
     let step = level::pages_at(level);
     let k = slot(level, zeroed);
-    let mut l = row.lists[k];
+    let mut l = words::list_at(words, index, k);
     let mut i: usize = 0;
     while i < 511 {
         l = admit(records, l, page + (i + 1) * step, level, zeroed, false);
         i += 1;
     }
     let all = admit(records, l, page, level, zeroed, false);
-    let mut r = row;
-    r.lists[k] = all;
-    r
+    words::put_list(words, index, k, all);
 }
 
 // AllocationRegion::do_allocate, frame.rs 182: where the level has none, one of the next larger level is split.
 pub fn do_allocate(
     records: &mut [u8],
     first: usize,
-    row: Row,
+    words: &mut [u64],
+    index: usize,
     level: usize,
     try_zero: bool,
     only_zero: bool,
 ) -> Got
-    requires { ⌜ SoundRow (recordAt (now records)) (pagesIn (now records)) first row ⌝ }
-    requires { ⌜ WholeRow (recordAt (now records)) first row ⌝ }
-    ensures { λ r. ⌜ Answers (recordAt (now (records .entry))) first row (recordAt (now (records .exit))) (pagesIn (now (records .exit))) r (doAllocate (3 - level) level (stateOf (recordAt (now (records .entry))) row) «try_zero» «only_zero») ⌝ }
+    requires { ⌜ SoundAt (now records) first (now words) index ⌝ }
+    requires { ⌜ WholeAt (now records) first (now words) index ⌝ }
+    ensures { λ r. ⌜ FindsAt (now (records .entry)) first (now (words .entry)) index (now (records .exit)) (now (words .exit)) r (doAllocate (3 - level) level (levelsAt (now (records .entry)) (now (words .entry)) index) «try_zero» «only_zero») ⌝ }
 {
     if 3 <= level {
-        return Got {
-            row,
-            found: FoundPage::Nothing,
-        };
+        return nothing();
     }
-    let here = level_allocate(records, first, row, level, try_zero, only_zero);
-    let found = here.found;
-    match found {
-        FoundPage::At(_) => here,
-        FoundPage::Nothing => {
-            let r = here.row;
-            let up = do_allocate(records, first, r, level + 1, try_zero, only_zero);
-            let bigger = up.found;
-            match bigger {
-                FoundPage::Nothing => up,
-                FoundPage::At(page) => {
-                    let u = up.row;
-                    let parts = split(records, first, u, page, level);
-                    level_allocate(records, first, parts, level, try_zero, only_zero)
-                }
-            }
-        }
+    let here = level_allocate(records, first, words, index, level, try_zero, only_zero);
+    if here.found {
+        return here;
     }
+    let up = do_allocate(records, first, words, index, level + 1, try_zero, only_zero);
+    if !up.found {
+        return up;
+    }
+    split(records, first, words, index, up.page, level);
+    level_allocate(records, first, words, index, level, try_zero, only_zero)
 }
 
 // AllocationRegion::allocate, frame.rs 195, at the level that find_level found.
 pub fn allocate(
     records: &mut [u8],
     first: usize,
-    row: Row,
+    words: &mut [u64],
+    index: usize,
     level: usize,
     try_zero: bool,
     only_zero: bool,
 ) -> Got
-    requires { ⌜ SoundRow (recordAt (now records)) (pagesIn (now records)) first row ⌝ }
-    requires { ⌜ (WholeRow (recordAt (now records)) first row) × (level < 3) ⌝ }
-    ensures { λ r. ⌜ Answers (recordAt (now (records .entry))) first row (recordAt (now (records .exit))) (pagesIn (now (records .exit))) r («allocate_def» level (stateOf (recordAt (now (records .entry))) row) «try_zero» «only_zero») ⌝ }
-    ensures { λ r. ⌜ WholeRow (recordAt (now (records .exit))) first (r .row) ⌝ }
+    requires { ⌜ SoundAt (now records) first (now words) index ⌝ }
+    requires { ⌜ (WholeAt (now records) first (now words) index) × (level < 3) ⌝ }
+    ensures { λ r. ⌜ FindsAt (now (records .entry)) first (now (words .entry)) index (now (records .exit)) (now (words .exit)) r («allocate_def» level (levelsAt (now (records .entry)) (now (words .entry)) index) «try_zero» «only_zero») ⌝ }
+    ensures { λ _. ⌜ WholeAt (now (records .exit)) first (now (words .exit)) index ⌝ }
 {
-    let got = do_allocate(records, first, row, level, try_zero, only_zero);
-    let found = got.found;
-    match found {
-        FoundPage::Nothing => got,
-        FoundPage::At(page) => {
-            let marks = record::marks(records, page);
-            record::set_marks(records, page, marks + 2);
-            got
-        }
+    let got = do_allocate(records, first, words, index, level, try_zero, only_zero);
+    if !got.found {
+        return got;
     }
+    let page = got.page;
+    let marks = record::marks(records, page);
+    record::set_marks(records, page, marks + 2);
+    got
 }
 
-// AllocationRegion::free, frame.rs 166: clears ALLOCATED only.
-pub fn free(records: &mut [u8], first: usize, row: Row, page: usize) -> Row
-    requires { ⌜ SoundRow (recordAt (now records)) (pagesIn (now records)) first row ⌝ }
-    requires { ⌜ WholeRow (recordAt (now records)) first row ⌝ }
-    requires { ⌜ Held (stateOf (recordAt (now records)) row) first (row .pages) page ⌝ }
-    ensures { λ r. ⌜ Becomes (recordAt (now (records .entry))) first row (recordAt (now (records .exit))) (pagesIn (now (records .exit))) r («free_def» (stateOf (recordAt (now (records .entry))) row) page) ⌝ }
-    ensures { λ r. ⌜ WholeRow (recordAt (now (records .exit))) first r ⌝ }
+// AllocationRegion::free and AllocationRegionLevel::free, frame.rs 166 and 97: clears ALLOCATED only, and puts the frame on the back of its list.
+pub fn free(records: &mut [u8], first: usize, words: &mut [u64], index: usize, page: usize)
+    requires { ⌜ SoundAt (now records) first (now words) index ⌝ }
+    requires { ⌜ WholeAt (now records) first (now words) index ⌝ }
+    requires { ⌜ Held (levelsAt (now records) (now words) index) first (rowOf (rowsIn (now words)) index .pages) page ⌝ }
+    ensures { λ _. ⌜ LeavesAt (now (records .entry)) first (now (words .entry)) index (now (records .exit)) (now (words .exit)) («free_def» (levelsAt (now (records .entry)) (now (words .entry)) index) page) ⌝ }
+    ensures { λ _. ⌜ WholeAt (now (records .exit)) first (now (words .exit)) index ⌝ }
 {
     let r = record::load(records, page);
+    let level = r.level as usize;
     let zeroed = record::is_zeroed(r.marks);
     let kernel = record::is_kernel(r.marks);
-    push(records, first, row, page, r.level as usize, zeroed, kernel)
+    let k = slot(level, zeroed);
+    let l = words::list_at(words, index, k);
+    let longer = admit(records, l, page, level, zeroed, kernel);
+    words::put_list(words, index, k, longer);
 }
 
 // Frame::set_not_zero, set_kernel, and zero but for the bytes (frame.rs 443, 470, 430): the marks of a held frame, which stays held.

@@ -1,5 +1,5 @@
--- The marks and the level of a record as one number: what it says of a frame of one page, and that it tells the frames on a list from all others where no
--- page of the region has a mark bit but those named.
+-- The marks and the level of a record as one number: what it says of a frame of one page and of a run of them, and that it tells the frames on a list
+-- from all others where no page of the region has a mark bit but those named.
 use Prim.Native.Nat.{ℕ, _+_, _-_, _*_, _/_, _%_, _≤_, _<_}
 use mathlib.Core.Bool.{true, _&&_, _||_}
 use mathlib.Core.Logic.{_⊎_, inl, inr}
@@ -12,7 +12,7 @@ use Rattle.definition.specs.declared.Record.{Record}
 use Rattle.definition.specs.Torn.{Records}
 use Rattle.definition.proofs.Tests.{same-test, and-left, and-right}
 use Rattle.record.specs.Records.{kindOf}
-use Rattle.scan.specs.Sheet.{freePage, Marked, kindOn, onKind, onAt, nodeAt, backNodeAt}
+use Rattle.scan.specs.Sheet.{freePage, Free, Marked, kindOn, onKind, onAt, nodeAt, backNodeAt}
 use Rattle.scan.proofs.Members.{or-else, or-right}
 use Rattle.scan.proofs.Nodes.{on-facts, on-test, node-on}
 
@@ -31,6 +31,19 @@ module _ (r : Record) where
         lt-ltb (r .marks) 16 (omega arith),
         eq-eqb (r .level) 0 (omega arith),
       )
+
+-- a run of them, with the run behind it
+pub free-then : (f : Records) (first at past : ℕ) → Free f first at → Free f at past → Free f first past
+free-then f first at past h t q low high = go (decLt q at)
+  where
+    go : Dec (q < at) → freePage (f q) ≡ true
+    go (yes l) = h q low l
+    go (no l) = t q (omega arith) high
+
+-- and with the page behind it
+pub free-more : (f : Records) (first at past : ℕ) → Free f first at → freePage (f at) ≡ true → past ≡ at + 1 → Free f first past
+free-more f first at past h t e =
+    free-then f first at past h (λ q low high. let same : q ≡ at = omega arith in rw same t)
 
 -- ---- the frames on a list
 

@@ -1,6 +1,6 @@
 -- The scan's invariant and its turns: what is left from a page on decides as the whole does, and the pages held so far with those of what is left are the
 -- whole's.
-use Prim.Native.Nat.{ℕ, _+_, _-_, _/_, _%_, _≤_, _<_}
+use Prim.Native.Nat.{ℕ, zero, suc, _+_, _-_, _/_, _%_, _≤_, _<_}
 use mathlib.Core.Bool.{Bool, true, false, _&&_, false≢true}
 use mathlib.Core.List.{List}
 use mathlib.Core.Path.{_≡_, refl, sym, ap, _∙_}
@@ -11,7 +11,7 @@ use Rattle.definition.specs.Frame.{size}
 use Rattle.definition.specs.Torn.{Records, pagesOfRecord, headsFrom, aloneIfHeld, heldAs}
 use Rattle.definition.proofs.Tests.{and-true}
 use Rattle.scan.specs.declared.Scanned.{Scanned}
-use Rattle.scan.specs.Sheet.{headAt, tiledAt, aloneAt, heldAt, freePage, Tallied}
+use Rattle.scan.specs.Sheet.{headAt, tiledAt, aloneAt, heldAt, freePage, Free, Tallied}
 use Rattle.scan.proofs.Members.{all-both}
 use Rattle.scan.proofs.Heads.{head-small, pages-small, heads-end, heads-step}
 use Rattle.scan.proofs.Tallies.{alone-free, held-free}
@@ -71,6 +71,16 @@ module _ (f : Records) (from base past : ℕ) where
       let h = head-small f from base past at (omega (arith, d .0)) (d .1) (d .2) l in
       scan-turn page kernel at 1 page kernel i l (and-true h (alone-free (f at) (f at .marks) refl u)) one
       (omega arith) (omega arith) (omega arith) (omega arith)
+
+  -- a run of them
+  pub scan-run : (page kernel at r : ℕ) → Scanning page kernel at → at ≤ r → r ≤ past → Free f at r → Scanning page kernel r
+  scan-run page kernel at r i l fits free = go (r - at) at i (omega arith) free
+    where
+      go : (n at : ℕ) → Scanning page kernel at → at + n ≡ r → Free f at r → Scanning page kernel r
+      go zero at i e free = let same : at ≡ r = omega arith in rw same at i
+      go (suc n) at i e free =
+          go n (at + 1) (scan-free page kernel at i (omega arith) (free at (omega arith) (omega arith)))
+          (omega arith) (λ q low. free q (omega arith))
 
   apart : all good (left base) ≡ (tiledAt f from base past && aloneAt f base past)
   unfolding tiledAt aloneAt

@@ -91,6 +91,10 @@ heldAt kernel f base past = sum (λ h. heldAs kernel (f h)) (headsOf f base past
 abbrev pub freePage : Record → Bool
 freePage r = eqb (r .marks % 4) 1 && (ltb (r .marks) 16 && eqb (r .level) 0)
 
+-- from one page to another there are none but those
+abbrev pub Free : Records → (first past : ℕ) → Type 0
+Free f first past = (q : ℕ) → first ≤ q → q < past → freePage (f q) ≡ true
+
 -- no page of the region has a mark bit but those named
 abbrev pub Marked : Records → (base past : ℕ) → Type 0
 Marked f base past = (q : ℕ) → base ≤ q → q < past → f q .marks < 16

@@ -3,23 +3,23 @@
 // first managed page, `base` that page's number in the records, `past` the number behind its last.
 use definition::Links;
 use definition::Row;
-ghost use mathlib.Core.Bool.{false, _&&_};
+ghost use mathlib.Core.Bool.{true, false, _&&_};
 ghost use mathlib.Core.Path.{_≡_};
-ghost use Prim.Native.Nat.{_+_, _-_, _≤_, _<_, _^_};
+ghost use Prim.Native.Nat.{_+_, _-_, _*_, _≤_, _<_, _^_};
 ghost use lib.Dec.{eqb};
-ghost use lib.ListN.{length};
 ghost use Rattle.definition.specs.Board.{standard};
 ghost use Rattle.definition.specs.Basics.{all, range};
 ghost use Rattle.definition.specs.Allocator.{first};
 ghost use Rattle.definition.specs.World.{recordAt, bareRegion};
 ghost use Rattle.definition.specs.Torn.{past as pastOf, isNoLinks, listedPages};
 ghost use Rattle.record.specs.Records.{pagesIn};
-ghost use Rattle.words.specs.Words.{rowOf, rowsIn, usedIn};
+ghost use Rattle.words.specs.Words.{rowOf, rowsIn, InUse};
 ghost use Rattle.scan.specs.Sheet.{
   placedAt,
   headPages,
   alone,
   freePage,
+  Free,
   Marked,
   kindOn,
   onKind,
@@ -83,6 +83,38 @@ fn is_free_page(records: &[u8], h: usize) -> bool
     kind == 13
 }
 
+// Whether the four pages from `h` on are such frames.
+fn four_free(records: &[u8], h: usize) -> bool
+    requires { ⌜ h + 4 ≤ pagesIn (now records) ⌝ }
+    ensures { λ r. ⌜ (r ≡ true → Free (recordAt (now (records .entry))) h (h + 4)) ⌝ }
+{
+    if !is_free_page(records, h) {
+        return false;
+    }
+    if !is_free_page(records, h + 1) {
+        return false;
+    }
+    if !is_free_page(records, h + 2) {
+        return false;
+    }
+    is_free_page(records, h + 3)
+}
+
+// A page up to which there are only such frames. They come in long runs: four are looked at in a step, and where less than four are left it stops.
+fn past_free(records: &[u8], first: usize, past: usize) -> usize
+    requires { ⌜ (first ≤ past) × (past ≤ pagesIn (now records)) ⌝ }
+    ensures { λ r. ⌜ (first ≤ r) × (r ≤ past) × Free (recordAt (now (records .entry))) first r ⌝ }
+{
+    let mut at = first;
+    while 4 <= past - at {
+        if !four_free(records, at) {
+            return at;
+        }
+        at += 4;
+    }
+    at
+}
+
 // "held heads have neighbours 0".
 fn is_alone(records: &[u8], h: usize) -> bool
     requires { ⌜ h < pagesIn (now records) ⌝ }
@@ -120,7 +152,7 @@ fn scan(records: &[u8], from: usize, base: usize, past: usize) -> Scanned
 {
     let mut page: usize = 0;
     let mut kernel: usize = 0;
-    let mut at = base;
+    let mut at = past_free(records, base, past);
     while at < past {
         if is_free_page(records, at) {
             at += 1;
@@ -140,7 +172,7 @@ fn scan(records: &[u8], from: usize, base: usize, past: usize) -> Scanned
                     page += pages;
                 }
             }
-            at += pages;
+            at = past_free(records, at + pages, past);
         }
     }
     Scanned {
@@ -162,16 +194,14 @@ fn list_kind(k: usize) -> u64
     1 + 4 * zeroed + 4294967296 * level
 }
 
-// Whether the number `at` names an unheld frame of the region, whose marks and level are `kind`, with KERNEL or without.
+// Whether the number `at` names an unheld frame of the region, whose marks and level are `kind`, with KERNEL or without. A number up to `base` wraps to one past the
+// region's last, so that one comparison tells both ends.
 fn is_on(records: &[u8], base: usize, past: usize, kind: u64, at: u32) -> bool
-    requires { ⌜ (past ≤ pagesIn (now records)) × (kind < 2 ^ 63) ⌝ }
+    requires { ⌜ (base ≤ past) × (past ≤ pagesIn (now records)) × (kind < 2 ^ 63) ⌝ }
     ensures { λ r. ⌜ r ≡ onKind (recordAt (now (records .entry))) base past kind at ⌝ }
 {
     let number = at as usize;
-    if number <= base {
-        return false;
-    }
-    if past < number {
+    if past - base <= std::num::wrapping_sub_usize(number, base + 1) {
         return false;
     }
     let found = record::kind(records, number - 1);
@@ -183,7 +213,7 @@ fn is_on(records: &[u8], base: usize, past: usize, kind: u64, at: u32) -> bool
 
 // Whether it names such a frame, whose earlier neighbour is `prev`.
 fn is_node(records: &[u8], base: usize, past: usize, kind: u64, prev: u32, at: u32) -> bool
-    requires { ⌜ (past ≤ pagesIn (now records)) × (kind < 2 ^ 63) ⌝ }
+    requires { ⌜ (base ≤ past) × (past ≤ pagesIn (now records)) × (kind < 2 ^ 63) ⌝ }
     ensures { λ r. ⌜ r ≡ (onKind (recordAt (now (records .entry))) base past kind at && eqb (recordAt (now (records .entry)) (at - 1) .earlier) prev) ⌝ }
 {
     if is_on(records, base, past, kind, at) {
@@ -194,7 +224,7 @@ fn is_node(records: &[u8], base: usize, past: usize, kind: u64, prev: u32, at: u
 
 // Whether it names such a frame, whose later neighbour is `next`.
 fn is_back_node(records: &[u8], base: usize, past: usize, kind: u64, at: u32, next: u32) -> bool
-    requires { ⌜ (past ≤ pagesIn (now records)) × (kind < 2 ^ 63) ⌝ }
+    requires { ⌜ (base ≤ past) × (past ≤ pagesIn (now records)) × (kind < 2 ^ 63) ⌝ }
     ensures { λ r. ⌜ r ≡ (onKind (recordAt (now (records .entry))) base past kind at && eqb (recordAt (now (records .entry)) (at - 1) .later) next) ⌝ }
 {
     if is_on(records, base, past, kind, at) {
@@ -206,17 +236,25 @@ fn is_back_node(records: &[u8], base: usize, past: usize, kind: u64, at: u32, ne
 // "each list walks front to back in its count, both ways, over unheld frames of its region, level and mark". From both ends at once: where the nodes are
 // scattered, each step waits for memory, and the two chains of steps wait side by side. It comes after the scan: as no page then has a mark bit but those
 // named, marks and level are compared as one number.
-fn walk(records: &[u8], base: usize, past: usize, k: usize, links: Links) -> bool
-    requires { ⌜ (past ≤ pagesIn (now records)) × (k < 6) ⌝ }
+fn walk(
+    records: &[u8],
+    base: usize,
+    past: usize,
+    k: usize,
+    front: u32,
+    back: u32,
+    count: u32,
+) -> bool
+    requires { ⌜ (base ≤ past) × (past ≤ pagesIn (now records)) × (k < 6) ⌝ }
     requires { ⌜ Marked (recordAt (now records)) base past ⌝ }
-    ensures { λ r. ⌜ r ≡ walksAt (recordAt (now (records .entry))) base past k (links .count) 0 (links .front) (links .back) ⌝ }
+    ensures { λ r. ⌜ r ≡ walksAt (recordAt (now (records .entry))) base past k count 0 front back ⌝ }
 {
     let kind = list_kind(k);
     let mut prev: u32 = 0;
-    let mut at = links.front;
+    let mut at = front;
     let mut next: u32 = 0;
-    let mut last = links.back;
-    let mut left = links.count;
+    let mut last = back;
+    let mut left = count;
     while 2 <= left {
         if !is_node(records, base, past, kind, prev, at) {
             return false;
@@ -256,26 +294,63 @@ fn is_none(links: Links) -> bool
     links.count == 0
 }
 
-// Whether all six lists of a row in use walk. They are read out of the words, a level at a time, and the empty ones, as most are, are told by their numbers.
-fn all_walk(records: &[u8], base: usize, past: usize, words: &[u64], i: usize) -> bool
-    requires { ⌜ past ≤ pagesIn (now records) ⌝ }
+// Whether both lists of a level walk. The empty ones, as most are, are told by their numbers, and those of a level together.
+fn level_walks(
+    records: &[u8],
+    base: usize,
+    past: usize,
+    words: &[u64],
+    i: usize,
+    level: usize,
+) -> bool
+    requires { ⌜ (base ≤ past) × (past ≤ pagesIn (now records)) ⌝ }
     requires { ⌜ Marked (recordAt (now records)) base past ⌝ }
-    requires { ⌜ (92 ≤ length (now words)) × (i < 8) × (i < usedIn (now words)) ⌝ }
+    requires { ⌜ InUse (now words) i × (level < 3) ⌝ }
+    ensures { λ r. ⌜ r ≡ (listAt (recordAt (now (records .entry))) base past (rowOf (rowsIn (now (words .entry))) i .lists) (2 * level) && listAt (recordAt (now (records .entry))) base past (rowOf (rowsIn (now (words .entry))) i .lists) (2 * level + 1)) ⌝ }
+{
+    if words::is_bare(words, i, level) {
+        return true;
+    }
+    let dirty = words::list_at(words, i, 2 * level);
+    if !is_none(dirty) {
+        if !walk(
+            records,
+            base,
+            past,
+            2 * level,
+            dirty.front,
+            dirty.back,
+            dirty.count,
+        ) {
+            return false;
+        }
+    }
+    let zeroed = words::list_at(words, i, 2 * level + 1);
+    if is_none(zeroed) {
+        return true;
+    }
+    walk(
+        records,
+        base,
+        past,
+        2 * level + 1,
+        zeroed.front,
+        zeroed.back,
+        zeroed.count,
+    )
+}
+
+// Whether all six lists of a row in use walk.
+fn all_walk(records: &[u8], base: usize, past: usize, words: &[u64], i: usize) -> bool
+    requires { ⌜ (base ≤ past) × (past ≤ pagesIn (now records)) ⌝ }
+    requires { ⌜ Marked (recordAt (now records)) base past ⌝ }
+    requires { ⌜ InUse (now words) i ⌝ }
     ensures { λ r. ⌜ r ≡ all (listAt (recordAt (now (records .entry))) base past (rowOf (rowsIn (now (words .entry))) i .lists)) (range 0 6) ⌝ }
 {
     let mut level: usize = 0;
     while level < 3 {
-        let dirty = words::dirty_at(words, i, level);
-        if !is_none(dirty) {
-            if !walk(records, base, past, 2 * level, dirty) {
-                return false;
-            }
-        }
-        let zeroed = words::zeroed_at(words, i, level);
-        if !is_none(zeroed) {
-            if !walk(records, base, past, 2 * level + 1, zeroed) {
-                return false;
-            }
+        if !level_walks(records, base, past, words, i, level) {
+            return false;
         }
         level += 1;
     }
@@ -316,7 +391,7 @@ pub fn region_whole(
     words: &[u64],
     i: usize,
 ) -> Whole
-    requires { ⌜ (92 ≤ length (now words)) × (i < 8) × (i < usedIn (now words)) × (row ≡ rowOf (rowsIn (now words)) i) ⌝ }
+    requires { ⌜ InUse (now words) i × (row ≡ rowOf (rowsIn (now words)) i) ⌝ }
     requires { ⌜ (from ≡ first standard (bareRegion standard row)) × (past ≡ pastOf standard (placedAt base row)) ⌝ }
     requires { ⌜ (past ≤ pagesIn (now records)) × (from + (past - base) < 2 ^ 64) ⌝ }
     ensures { λ r. ⌜ Audited (recordAt (now (records .entry))) (placedAt base row) r ⌝ }

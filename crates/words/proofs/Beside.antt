@@ -1,39 +1,100 @@
--- What stays of the words where a row, the queue's count or the pass is written.
+-- What the words are where a list of a row, the queue's count or the pass was written, and what of them stays.
 use Prim.Native.Nat.{ℕ, _+_, _*_, _≤_, _<_}
-use mathlib.Core.List.{List}
+use mathlib.Core.List.{List, []}
 use mathlib.Core.Path.{_≡_, refl, sym, _∙_}
+use native.Mathlib.Decide.{ℕ-discrete}
+use native.Mathlib.Nat.{zero-add}
 use native.Mathlib.Omega.{arith}
 use lib.ListN.{length, drop, set, length-drop, length-set}
-use lib.Seq.{ext-getD, getD-drop, getD-set-same, getD-set-other, drop-set-lt}
+use lib.Seq.{ext-getD, getD-drop, getD-set-same, getD-set-other, set-getD, drop-set-lt}
+use Rattle.definition.specs.declared.Links.{Links}
 use Rattle.definition.specs.declared.Pass.{Pass}
 use Rattle.definition.specs.declared.Row.{Row}
+use Rattle.definition.specs.World.{noLinks}
 use Rattle.record.specs.Records.{withBytes}
-use Rattle.record.proofs.Bytes.{with-length, with-out}
-use Rattle.words.specs.Words.{RowsBeside, QueuedBeside, PassBeside, wordIn, usedIn, rowWords}
-use Rattle.words.proofs.Reading.{rows-same}
-use Rattle.words.proofs.Rows.{length-row-words}
+use Rattle.record.proofs.Bytes.{with-length, with-in, with-out}
+use Rattle.words.specs.Words.{InUse, RowBeside, QueuedBeside, PassBeside, wordIn, firstIn, secondIn, rowOf, rowsIn, pairWords, withList}
+use Rattle.words.proofs.Reading.{pair-read, pair-same, row-same, here-same, rows-same}
+use Rattle.words.proofs.Places.{length-rows, row-numbered, row-place, place, list-place, row-changed}
 
-pub row-beside : (ws : List ℕ) (i : ℕ) (row : Row) → 92 ≤ length ws → i < 8 → i < usedIn ws
-    → RowsBeside ws (withBytes ws (1 + 11 * i) (rowWords row))
-row-beside ws i row h l u =
-    let n : length (rowWords row) ≡ 11 = length-row-words row in
-    let vs : List ℕ = withBytes ws (1 + 11 * i) (rowWords row) in
-    let out : (k : ℕ) → (1 + 11 * i ≤ k → k < 12 + 11 * i → ⊥) → wordIn vs k ≡ wordIn ws k =
-    λ k m. with-out ws (1 + 11 * i) (rowWords row) (omega arith) k (λ a b. m a (omega arith))
-    in
-    let e : length vs ≡ length ws = with-length ws (1 + 11 * i) (rowWords row) (omega arith) in
-    record {
-      beside =
-          record {
-            version = out 0 (λ a b. omega arith);
-            unused = λ k m j. out k (λ a b. omega arith);
-            behind =
-                ext-getD 0 (drop 92 vs) (drop 92 ws) (rw (length-drop 92 vs, length-drop 92 ws, e) refl)
-                (λ k m. getD-drop 92 vs k 0 ∙ out (92 + k) (λ a b. omega arith) ∙ sym (getD-drop 92 ws k 0));
-          };
-      queued = out 89 (λ a b. omega arith);
-      pass = rw (out 90 (λ a b. omega arith), out 91 (λ a b. omega arith)) refl;
-    }
+-- the two lists of a level
+module _ (ws : List ℕ) (i level : ℕ) (a b : Links) (u : InUse ws i) (l : level < 3) where
+  abbrev written : List ℕ
+  written = withBytes ws (place i level) (pairWords a b)
+
+  out : (k : ℕ) → (place i level ≤ k → k < place i level + 3 → ⊥) → wordIn written k ≡ wordIn ws k
+  out = with-out ws (place i level) (pairWords a b) (omega arith)
+
+  pair-row : a .front < 4294967296 → a .count < 4294967296 → b .front < 4294967296
+      → rowOf (rowsIn written) i ≡ withList (withList (rowOf (rowsIn ws) i) (2 * level) a) (2 * level + 1) b
+  pair-row f n g =
+      let first : wordIn written 0 ≡ wordIn ws 0 = out 0 (λ x y. omega arith) in
+      let t = pair-same written (pairWords a b) (place i level) 0 (λ k h. rw (zero-add k) (with-in ws (place i level) (pairWords a b) (omega arith) k h)) in
+      let r = pair-read a b f n g in
+      rw (row-place written i (u .1) (rw first (u .2)), row-place ws i (u .1) (u .2))
+      (row-changed ws written i a b level l (out _ (λ x y. omega arith)) (out _ (λ x y. omega arith)) (t .0 ∙ r .0, t .1 ∙ r .1)
+      (λ j d. pair-same written ws (place i j) (place i j) (λ k h. out (place i j + k) (λ x y. omega arith))))
+
+  pair-beside : RowBeside ws i written
+  pair-beside =
+      record {
+        rows =
+            ext-getD (rowOf [] 0) (rowsIn written) (set (rowsIn ws) i (rowOf (rowsIn written) i))
+            (length-rows written 0 8 ∙ (rw (length-set, length-rows ws 0 8) refl))
+            (λ k h. go k (omega (arith, length-rows written 0 8)) (ℕ-discrete k i));
+        rest =
+            record {
+              beside =
+                  record {
+                    version = out 0 (λ x y. omega arith);
+                    unused = λ k m j. out k (λ x y. omega arith);
+                    behind =
+                        ext-getD 0 (drop 92 written) (drop 92 ws)
+                        (rw (length-drop 92 written, length-drop 92 ws, with-length ws (place i level) (pairWords a b) (omega arith)) refl)
+                        (λ k m. getD-drop 92 written k 0 ∙ out (92 + k) (λ x y. omega arith) ∙ sym (getD-drop 92 ws k 0));
+                  };
+              queued = out 89 (λ x y. omega arith);
+              pass = rw (out 90 (λ x y. omega arith), out 91 (λ x y. omega arith)) refl;
+            };
+      }
+    where
+      go : (k : ℕ) → k < 8 → Dec (k ≡ i) → rowOf (rowsIn written) k ≡ rowOf (set (rowsIn ws) i (rowOf (rowsIn written) i)) k
+      go k h (yes e) = rw (e, getD-set-same (rowsIn ws) i (rowOf (rowsIn written) i) (rowOf [] 0) (omega (arith, length-rows ws 0 8))) refl
+      go k h (no d) =
+          rw (
+            getD-set-other (rowsIn ws) i k (rowOf (rowsIn written) i) (rowOf [] 0) d,
+            row-numbered written (rowOf [] 0) k h,
+            row-numbered ws (rowOf [] 0) k h,
+          )
+          (here-same written ws k (out 0 (λ x y. omega arith)) (row-same written ws (1 + 11 * k) (1 + 11 * k) (λ j m. out (1 + 11 * k + j) (λ x y. omega arith))))
+
+-- one of the two, and the other as it was read
+module _ (ws : List ℕ) (i level : ℕ) (list : Links) (u : InUse ws i) (l : level < 3) (f : list .front < 4294967296) (n : list .count < 4294967296) where
+  abbrev row : Row
+  row = rowOf (rowsIn ws) i
+
+  abbrev Written : Links → Links → ℕ → Type 0
+  Written a b k =
+      (rowOf (rowsIn (withBytes ws (place i level) (pairWords a b))) i ≡ withList row k list)
+      × RowBeside ws i (withBytes ws (place i level) (pairWords a b))
+
+  pub first-written : Written list (secondIn ws (place i level)) (2 * level)
+  first-written = (
+    pair-row ws i level list (secondIn ws (place i level)) u l f n (omega arith)
+        ∙ rw (
+          ← list-place ws i level u l .1,
+          ← getD-set-other (row .lists) (2 * level) (2 * level + 1) list noLinks (λ e. omega arith),
+          set-getD (set (row .lists) (2 * level) list) (2 * level + 1) noLinks,
+        ) refl,
+    pair-beside ws i level list (secondIn ws (place i level)) u l,
+  )
+
+  pub second-written : Written (firstIn ws (place i level)) list (2 * level + 1)
+  second-written = (
+    pair-row ws i level (firstIn ws (place i level)) list u l (omega arith) (omega arith) f
+        ∙ rw (← list-place ws i level u l .0, set-getD (row .lists) (2 * level) noLinks) refl,
+    pair-beside ws i level (firstIn ws (place i level)) list u l,
+  )
 
 pub queued-beside : (ws : List ℕ) (n : ℕ) → 92 ≤ length ws → QueuedBeside ws n (set ws 89 n)
 queued-beside ws n h =

@@ -1,19 +1,18 @@
--- A row by its number: where its words and those of its lists stand, which rows are in use, and what a row written there leaves of the eight.
+-- A row by its number: where its words and those of its lists stand, which rows are in use, what a row is of which two lists were written, and rows whose words
+-- stand there.
 use Prim.Native.Nat.{ℕ, zero, suc, _+_, _-_, _*_, _≤_, _<_}
-use mathlib.Core.List.{List, []}
+use mathlib.Core.List.{List, [], _∷_}
 use mathlib.Core.Path.{_≡_, refl, sym, ap, _∙_}
 use native.Mathlib.Nat.{zero-add}
-use native.Mathlib.Decide.{ℕ-discrete, decLt}
+use native.Mathlib.Decide.{decLt}
 use native.Mathlib.Omega.{arith}
-use lib.ListN.{length, getD, drop, set, replicate, length-set, getD-replicate}
-use lib.Seq.{ext-getD, getD-drop, getD-set-same, getD-set-other}
+use lib.ListN.{length, getD, drop, replicate, getD-replicate}
+use lib.Seq.{ext-getD, getD-drop}
+use Rattle.definition.specs.declared.Links.{Links}
 use Rattle.definition.specs.declared.Row.{Row}
 use Rattle.definition.specs.World.{noRow}
-use Rattle.record.specs.Records.{withBytes}
-use Rattle.record.proofs.Bytes.{with-in, with-out}
-use Rattle.words.specs.Words.{NarrowRow, Narrow, wordIn, firstIn, secondIn, listIn, rowIn, rowHere, rowsFrom, rowsIn, rowOf, rowWords, usedIn}
-use Rattle.words.proofs.Rows.{length-row-words}
-use Rattle.words.proofs.Reading.{row-read, row-same, row-used, row-unused, here-same}
+use Rattle.words.specs.Words.{InUse, Narrow, wordIn, firstIn, secondIn, listIn, withList, rowIn, rowHere, rowsFrom, rowsIn, rowOf, rowWords, usedIn}
+use Rattle.words.proofs.Reading.{row-read, row-same, row-used, row-unused}
 
 pub length-rows : (ws : List ℕ) (i n : ℕ) → length (rowsFrom ws i n) ≡ n
 unfolding rowsFrom
@@ -45,30 +44,68 @@ in-use ws i h n = go (decLt i (usedIn ws))
     go (yes u) = u
     go (no u) = absurd (n (ap (λ (row : Row). row .pages) (row-none ws i h (omega arith))))
 
--- ---- the lists of a level
+-- ---- the two lists of a level
 
-dirty : (ws : List ℕ) (i level : ℕ) → level < 3 → listIn (rowIn ws (1 + 11 * i)) (2 * level) ≡ firstIn ws (3 + 11 * i + 3 * level)
+-- where their three words begin
+abbrev pub place : ℕ → ℕ → ℕ
+place i level = 3 + 11 * i + 3 * level
+
+-- a row, part by part
+row-parts : (ws : List ℕ) (i : ℕ)
+    → rowIn ws (1 + 11 * i)
+    ≡ record {
+      start = record { 0 = wordIn ws (1 + 11 * i) };
+      pages = wordIn ws (2 + 11 * i);
+      lists =
+          firstIn ws (place i 0)
+          ∷ secondIn ws (place i 0)
+          ∷ firstIn ws (place i 1)
+          ∷ secondIn ws (place i 1)
+          ∷ firstIn ws (place i 2)
+          ∷ secondIn ws (place i 2)
+          ∷ [];
+    }
 unfolding rowIn
-dirty ws i zero h = let e : 3 + 11 * i + 3 * 0 ≡ 1 + 11 * i + 2 = omega arith in rw e refl
-dirty ws i (suc zero) h = let e : 3 + 11 * i + 3 * 1 ≡ 1 + 11 * i + 5 = omega arith in rw e refl
-dirty ws i (suc (suc zero)) h = let e : 3 + 11 * i + 3 * 2 ≡ 1 + 11 * i + 8 = omega arith in rw e refl
-dirty ws i (suc (suc (suc level))) h = absurd (omega arith)
+row-parts ws i =
+    let p : 1 + 11 * i + 1 ≡ 2 + 11 * i = omega arith in
+    let a : 1 + 11 * i + 2 ≡ place i 0 = omega arith in
+    let b : 1 + 11 * i + 5 ≡ place i 1 = omega arith in
+    let c : 1 + 11 * i + 8 ≡ place i 2 = omega arith in
+    rw (p, a, b, c) refl
 
-zeroed : (ws : List ℕ) (i level : ℕ) → level < 3 → listIn (rowIn ws (1 + 11 * i)) (2 * level + 1) ≡ secondIn ws (3 + 11 * i + 3 * level)
-unfolding rowIn
-zeroed ws i zero h = let e : 3 + 11 * i + 3 * 0 ≡ 1 + 11 * i + 2 = omega arith in rw e refl
-zeroed ws i (suc zero) h = let e : 3 + 11 * i + 3 * 1 ≡ 1 + 11 * i + 5 = omega arith in rw e refl
-zeroed ws i (suc (suc zero)) h = let e : 3 + 11 * i + 3 * 2 ≡ 1 + 11 * i + 8 = omega arith in rw e refl
-zeroed ws i (suc (suc (suc level))) h = absurd (omega arith)
+pub list-place : (ws : List ℕ) (i level : ℕ) → InUse ws i → level < 3
+    → (listIn (rowOf (rowsIn ws) i) (2 * level) ≡ firstIn ws (place i level))
+    × (listIn (rowOf (rowsIn ws) i) (2 * level + 1) ≡ secondIn ws (place i level))
+list-place ws i level u l = rw (row-place ws i (u .1) (u .2)) (go level l)
+  where
+    go : (j : ℕ) → j < 3 → (listIn (rowIn ws (1 + 11 * i)) (2 * j) ≡ firstIn ws (place i j)) × (listIn (rowIn ws (1 + 11 * i)) (2 * j + 1) ≡ secondIn ws (place i j))
+    go zero h = rw (row-parts ws i) (refl, refl)
+    go (suc zero) h = rw (row-parts ws i) (refl, refl)
+    go (suc (suc zero)) h = rw (row-parts ws i) (refl, refl)
+    go (suc (suc (suc j))) h = absurd (omega arith)
 
-module _ (ws : List ℕ) (i level : ℕ) (h : i < 8) (u : i < usedIn ws) (l : level < 3) where
-  pub dirty-place : listIn (rowOf (rowsIn ws) i) (2 * level) ≡ firstIn ws (3 + 11 * i + 3 * level)
-  dirty-place = ap (λ (row : Row). listIn row (2 * level)) (row-place ws i h u) ∙ dirty ws i level l
+-- a row of which nothing but these two has changed
+module _ (ws vs : List ℕ) (i : ℕ) (a b : Links) where
+  pub row-changed
+      : (level : ℕ) → level < 3 → wordIn vs (1 + 11 * i) ≡ wordIn ws (1 + 11 * i) → wordIn vs (2 + 11 * i) ≡ wordIn ws (2 + 11 * i)
+      → (firstIn vs (place i level) ≡ a) × (secondIn vs (place i level) ≡ b)
+      → ((j : ℕ) → (j ≡ level → ⊥) → (firstIn vs (place i j) ≡ firstIn ws (place i j)) × (secondIn vs (place i j) ≡ secondIn ws (place i j)))
+      → rowIn vs (1 + 11 * i) ≡ withList (withList (rowIn ws (1 + 11 * i)) (2 * level) a) (2 * level + 1) b
+  row-changed zero h s p e t =
+      let x = t 1 (λ d. omega arith) in
+      let y = t 2 (λ d. omega arith) in
+      rw (row-parts vs i, row-parts ws i) (cc)
+  row-changed (suc zero) h s p e t =
+      let x = t 0 (λ d. omega arith) in
+      let y = t 2 (λ d. omega arith) in
+      rw (row-parts vs i, row-parts ws i) (cc)
+  row-changed (suc (suc zero)) h s p e t =
+      let x = t 0 (λ d. omega arith) in
+      let y = t 1 (λ d. omega arith) in
+      rw (row-parts vs i, row-parts ws i) (cc)
+  row-changed (suc (suc (suc level))) h s p e t = absurd (omega arith)
 
-  pub zeroed-place : listIn (rowOf (rowsIn ws) i) (2 * level + 1) ≡ secondIn ws (3 + 11 * i + 3 * level)
-  zeroed-place = ap (λ (row : Row). listIn row (2 * level + 1)) (row-place ws i h u) ∙ zeroed ws i level l
-
--- ---- written
+-- ---- all rows
 
 -- rows whose words stand there as far as they are in use, and that are unused ones behind
 pub rows-stand : (ws : List ℕ) (rows : List Row) → Narrow rows → drop (usedIn ws) rows ≡ replicate (8 - usedIn ws) noRow
@@ -92,35 +129,3 @@ rows-stand ws rows n e w =
         ∙ sym (getD-replicate (8 - used) j noRow noRow (omega arith))
         ∙ ap (λ (rs : List Row). getD rs j noRow) (sym e)
         ∙ (rw s at (getD-drop used rows j noRow))
-
-module _ (ws : List ℕ) (i : ℕ) (row : Row) (enough : 92 ≤ length ws) (l : i < 8) (u : i < usedIn ws) (n : NarrowRow row) where
-  abbrev written : List ℕ
-  written = withBytes ws (1 + 11 * i) (rowWords row)
-
-  out : (k : ℕ) → (1 + 11 * i ≤ k → k < 12 + 11 * i → ⊥) → wordIn written k ≡ wordIn ws k
-  out k m = with-out ws (1 + 11 * i) (rowWords row) (omega (arith, length-row-words row)) k (λ a b. m a (omega (arith, length-row-words row)))
-
-  first : wordIn written 0 ≡ wordIn ws 0
-  first = out 0 (λ a b. omega arith)
-
-  here : rowIn written (1 + 11 * i) ≡ row
-  here =
-      let w : (k : ℕ) → k < 11 → wordIn written (1 + 11 * i + k) ≡ wordIn (rowWords row) (0 + k) =
-      λ k h. rw (zero-add k) (with-in ws (1 + 11 * i) (rowWords row) (omega (arith, length-row-words row)) k (omega (arith, length-row-words row)))
-      in
-      row-same written (rowWords row) (1 + 11 * i) 0 w ∙ row-read row n
-
-  elsewhere : (k : ℕ) → (k ≡ i → ⊥) → rowHere written k ≡ rowHere ws k
-  elsewhere k d = here-same written ws k first (row-same written ws (1 + 11 * k) (1 + 11 * k) (λ j m. out (1 + 11 * k + j) (λ a b. omega arith)))
-
-  pub row-written : rowsIn written ≡ set (rowsIn ws) i row
-  row-written =
-      ext-getD (rowOf [] 0) (rowsIn written) (set (rowsIn ws) i row)
-      (length-rows written 0 8 ∙ (rw (length-set, length-rows ws 0 8) refl))
-      (λ k h. go k (omega (arith, length-rows written 0 8)) (ℕ-discrete k i))
-    where
-      go : (k : ℕ) → k < 8 → Dec (k ≡ i) → rowOf (rowsIn written) k ≡ rowOf (set (rowsIn ws) i row) k
-      go k h (yes e) =
-          rw (e, getD-set-same (rowsIn ws) i row (rowOf [] 0) (omega (arith, length-rows ws 0 8)), row-place written i l (rw first u)) here
-      go k h (no d) =
-          rw (getD-set-other (rowsIn ws) i k row (rowOf [] 0) d, row-numbered written (rowOf [] 0) k h, row-numbered ws (rowOf [] 0) k h) (elsewhere k d)

@@ -11,7 +11,6 @@ use Rattle.definition.specs.declared.Links.{Links}
 use Rattle.definition.specs.declared.Row.{Row}
 use Rattle.definition.specs.World.{noLinks, noRow}
 use Rattle.words.specs.Words.{
-  NarrowLinks,
   NarrowRow,
   joined,
   lowHalf,
@@ -59,7 +58,10 @@ run-at d l at (suc n) (suc k) h =
 -- ---- a row
 
 -- read, and its words again
-pub row-again : (ws : List ℕ) (at : ℕ)
+pub pair-again : (ws : List ℕ) (at : ℕ) → pairWords (firstIn ws at) (secondIn ws at) ≡ wordIn ws at ∷ wordIn ws (at + 1) ∷ wordIn ws (at + 2) ∷ []
+pair-again ws at = simp halves
+
+row-again : (ws : List ℕ) (at : ℕ)
     → rowWords (rowIn ws at)
     ≡ wordIn ws at
     ∷ wordIn ws (at + 1)
@@ -76,48 +78,49 @@ pub row-again : (ws : List ℕ) (at : ℕ)
 unfolding rowIn rowWords
 row-again ws at = simp halves
 
-module _ (a b : Links) (p : NarrowLinks a) (q : NarrowLinks b) where
-  first-read : firstIn (pairWords a b) 0 ≡ a
-  first-read = rw (low (a .front) (a .back) (p .front), high (a .front) (a .back) (p .front), low (a .count) (b .count) (p .count)) refl
-
-  second-read : secondIn (pairWords a b) 0 ≡ b
-  second-read = rw (low (b .front) (b .back) (q .front), high (b .front) (b .back) (q .front), high (a .count) (b .count) (p .count)) refl
+-- two lists whose numbers fit where they stand in a low half
+pub pair-read : (a b : Links) → a .front < 4294967296 → a .count < 4294967296 → b .front < 4294967296
+    → (firstIn (pairWords a b) 0 ≡ a) × (secondIn (pairWords a b) 0 ≡ b)
+pair-read a b f n g =
+    rw (
+      low (a .front) (a .back) f,
+      high (a .front) (a .back) f,
+      low (b .front) (b .back) g,
+      high (b .front) (b .back) g,
+      low (a .count) (b .count) n,
+      high (a .count) (b .count) n,
+    ) (refl, refl)
 
 pub row-read : (row : Row) → NarrowRow row → rowIn (rowWords row) 0 ≡ row
 unfolding rowIn rowWords
 row-read row n =
     let l : ℕ → Links = listIn row in
-    let m : (k : ℕ) → k < 6 → NarrowLinks (l k) = n .narrow in
     let s : run noLinks (row .lists) 0 6 ≡ row .lists = run-taken noLinks (row .lists) 0 6 (omega (arith, n .six)) ∙ take-all 6 (row .lists) (omega (arith, n .six)) in
-    rw (
-      first-read (l 0) (l 1) (m 0 (omega arith)) (m 1 (omega arith)),
-      second-read (l 0) (l 1) (m 0 (omega arith)) (m 1 (omega arith)),
-      first-read (l 2) (l 3) (m 2 (omega arith)) (m 3 (omega arith)),
-      second-read (l 2) (l 3) (m 2 (omega arith)) (m 3 (omega arith)),
-      first-read (l 4) (l 5) (m 4 (omega arith)) (m 5 (omega arith)),
-      second-read (l 4) (l 5) (m 4 (omega arith)) (m 5 (omega arith)),
-      s,
-    ) refl
+    let r : (k : ℕ) → k < 5 → (firstIn (pairWords (l k) (l (suc k))) 0 ≡ l k) × (secondIn (pairWords (l k) (l (suc k))) 0 ≡ l (suc k)) =
+    λ k h. pair-read (l k) (l (suc k)) (n .narrow k (omega arith) .front) (n .narrow k (omega arith) .count) (n .narrow (suc k) (omega arith) .front)
+    in
+    rw (r 0 (omega arith) .0, r 0 (omega arith) .1, r 2 (omega arith) .0, r 2 (omega arith) .1, r 4 (omega arith) .0, r 4 (omega arith) .1, s) refl
+
+-- three equal words
+pub pair-same
+    : (ws vs : List ℕ) (at bt : ℕ) → ((k : ℕ) → k < 3 → wordIn ws (at + k) ≡ wordIn vs (bt + k))
+    → (firstIn ws at ≡ firstIn vs bt) × (secondIn ws at ≡ secondIn vs bt)
+pair-same ws vs at bt h =
+    let z : wordIn ws at ≡ wordIn vs bt = rw (add-zero at, add-zero bt) at (h 0 (omega arith)) in
+    rw (z, h 1 (omega arith), h 2 (omega arith)) (refl, refl)
 
 -- eleven equal words
 pub row-same : (ws vs : List ℕ) (at bt : ℕ) → ((k : ℕ) → k < 11 → wordIn ws (at + k) ≡ wordIn vs (bt + k)) → rowIn ws at ≡ rowIn vs bt
 unfolding rowIn
 row-same ws vs at bt h =
-    let g : (j k : ℕ) → j + k < 11 → wordIn ws (at + j + k) ≡ wordIn vs (bt + j + k) = λ j k l. rw (add-assoc at j k, add-assoc bt j k) (h (j + k) l) in
     let z : wordIn ws at ≡ wordIn vs bt = rw (add-zero at, add-zero bt) at (h 0 (omega arith)) in
-    rw (
-      z,
-      h 1 (omega arith),
-      h 2 (omega arith),
-      g 2 1 (omega arith),
-      g 2 2 (omega arith),
-      h 5 (omega arith),
-      g 5 1 (omega arith),
-      g 5 2 (omega arith),
-      h 8 (omega arith),
-      g 8 1 (omega arith),
-      g 8 2 (omega arith),
-    ) refl
+    let g : (j : ℕ) → j < 9 → (firstIn ws (at + j) ≡ firstIn vs (bt + j)) × (secondIn ws (at + j) ≡ secondIn vs (bt + j)) =
+    λ j l. pair-same ws vs (at + j) (bt + j) (λ k m. rw (add-assoc at j k, add-assoc bt j k) (h (j + k) (omega arith)))
+    in
+    let a = g 2 (omega arith) in
+    let b = g 5 (omega arith) in
+    let c = g 8 (omega arith) in
+    cc (h 1 (omega arith))
 
 -- the words of a row that was read
 pub word-again : (ws : List ℕ) (at k : ℕ) → k < 11 → wordIn (rowWords (rowIn ws at)) k ≡ wordIn ws (at + k)

@@ -13,7 +13,7 @@ use Rattle.record.proofs.Bytes.{with-length, with-then}
 use Rattle.words.specs.Words.{wordIn, rowWords, rowsWords, joined, keptOf}
 use Rattle.words.proofs.Stores.{stores}
 
-pub length-row-words : (row : Row) → length (rowWords row) ≡ 11
+length-row-words : (row : Row) → length (rowWords row) ≡ 11
 unfolding rowWords
 length-row-words row = refl
 

@@ -1,8 +1,9 @@
--- A row read of words is an unused one just where its eleven words are zeros; of several rows, one after another; and those behind the rows in use are.
+-- A row read of words is an unused one just where its eleven words are zeros, and a level's lists are empty just where their three words are; of several rows, one
+-- after another; and those behind the rows in use are unused.
 use Prim.Native.Nat.{ℕ, zero, suc, _+_, _*_, _-_, _/_, _%_, _≤_, _<_}
 use mathlib.Core.Bool.{Bool, true, _&&_}
 use mathlib.Core.List.{List, [], _∷_}
-use mathlib.Core.Path.{_≡_, refl, sym, ap, _∙_}
+use mathlib.Core.Path.{_≡_, refl, sym, ap, ap₂, _∙_}
 use borrow.Author.Tests.{eqb-true, eq-eqb}
 use native.Mathlib.Nat.{add-zero, zero-add, sub-zero}
 use native.Mathlib.Omega.{arith}
@@ -15,9 +16,9 @@ use Rattle.definition.specs.Basics.{all, range}
 use Rattle.definition.specs.Torn.{isNoLinks, isNoRow}
 use Rattle.definition.specs.World.{noLinks, noRow}
 use Rattle.definition.proofs.Tests.{same-test, and-left, and-right, and-true, range-in, in-range}
-use Rattle.words.specs.Words.{wordIn, rowIn, rowsFrom, rowsIn, rowOf, rowWords, usedIn}
-use Rattle.words.proofs.Reading.{row-same, row-unused, word-again}
-use Rattle.words.proofs.Places.{length-rows, row-place}
+use Rattle.words.specs.Words.{InUse, wordIn, firstIn, secondIn, pairWords, listIn, rowIn, rowsFrom, rowsIn, rowOf, rowWords, usedIn}
+use Rattle.words.proofs.Reading.{pair-again, row-same, row-unused, word-again}
+use Rattle.words.proofs.Places.{length-rows, row-place, place, list-place}
 
 abbrev pub isZero : List ℕ → ℕ → Bool
 isZero ws q = eqb (wordIn ws q) 0
@@ -35,6 +36,27 @@ unfolding all
 no-lists [] e k = refl
 no-lists (l ∷ ls) e zero = no-links l (and-left _ _ e)
 no-lists (l ∷ ls) e (suc k) = no-lists ls (and-right (isNoLinks l) _ e) k
+
+-- two lists in three words
+three-zeros : (ws : List ℕ) (at : ℕ)
+    → (isZero ws at && (isZero ws (at + 1) && isZero ws (at + 2))) ≡ (isNoLinks (firstIn ws at) && isNoLinks (secondIn ws at))
+three-zeros ws at =
+    same-test
+    (λ e.
+    let r = and-right (isZero ws at) _ e in
+    let x : wordIn ws at ≡ 0 = eqb-true _ _ (and-left _ _ e) in
+    let y : wordIn ws (at + 1) ≡ 0 = eqb-true _ _ (and-left _ _ r) in
+    let z : wordIn ws (at + 2) ≡ 0 = eqb-true _ _ (and-right (isZero ws (at + 1)) _ r) in
+    rw (x, y, z) refl)
+    (λ e.
+    let a : firstIn ws at ≡ noLinks = no-links _ (and-left _ _ e) in
+    let b : secondIn ws at ≡ noLinks = no-links _ (and-right (isNoLinks (firstIn ws at)) _ e) in
+    ap (λ (xs : List ℕ). isZero xs 0 && (isZero xs 1 && isZero xs 2)) (sym (pair-again ws at) ∙ ap₂ pairWords a b))
+
+pub bare : (ws : List ℕ) (i level : ℕ) → InUse ws i → level < 3
+    → (isZero ws (place i level) && (isZero ws (place i level + 1) && isZero ws (place i level + 2)))
+    ≡ (isNoLinks (listIn (rowOf (rowsIn ws) i) (2 * level)) && isNoLinks (listIn (rowOf (rowsIn ws) i) (2 * level + 1)))
+bare ws i level u l = let e = list-place ws i level u l in rw (e .0, e .1) (three-zeros ws (place i level))
 
 -- an unused row's words
 no-words : (row : Row) → isNoRow row ≡ true → rowWords row ≡ replicate 11 0

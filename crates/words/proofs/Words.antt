@@ -7,8 +7,8 @@ use mathlib.Core.Bool.{true}
 use borrow.Author.Tests.{le-leb}
 use native.Mathlib.Decide.{ℕ-discrete, decLt}
 use native.Mathlib.Omega.{arith}
-use lib.ListN.{length, getD, take, drop, replicate, length-append, length-take, length-drop, take-append-drop, List·getD-append}
-use lib.Seq.{ext-getD, getD-append-add, getD-take, getD-drop, length-take-le, take-add}
+use lib.ListN.{length, getD, set, take, drop, replicate, length-append, length-take, length-drop, take-append-drop, List·getD-append}
+use lib.Seq.{ext-getD, set-getD, set-set, getD-append-add, getD-take, getD-drop, length-take-le, take-add}
 use Rattle.definition.specs.declared.Counters.{Counters}
 use Rattle.definition.specs.declared.Pass.{Pass}
 use Rattle.definition.specs.declared.Row.{Row}
@@ -17,9 +17,12 @@ use Rattle.record.specs.Records.{withBytes}
 use Rattle.record.proofs.Bytes.{with-length, with-in, with-out}
 use Rattle.words.specs.Words.{
   Beside,
+  InUse,
+  RowBeside,
   RowsBeside,
   Narrow,
   wordIn,
+  rowOf,
   rowsIn,
   usedIn,
   queuedIn,
@@ -71,6 +74,20 @@ rows-beside-then b d =
       queued = d .queued ∙ b .queued;
       pass = d .pass ∙ b .pass;
     }
+
+pub row-beside-same : {ws : List ℕ} {i : ℕ} → RowBeside ws i ws
+row-beside-same {ws} {i} = record { rows = sym (set-getD (rowsIn ws) i (rowOf [] 0)); rest = rows-beside-same }
+
+pub row-beside-then : {ws vs us : List ℕ} {i : ℕ} → RowBeside ws i vs → RowBeside vs i us → RowBeside ws i us
+row-beside-then {ws} {vs} {us} {i} b d =
+    record {
+      rows = d .rows ∙ ap (λ (rows : List Row). set rows i (rowOf (rowsIn us) i)) (b .rows) ∙ set-set (rowsIn ws) i (rowOf (rowsIn vs) i) (rowOf (rowsIn us) i);
+      rest = rows-beside-then (b .rest) (d .rest);
+    }
+
+-- a row in use stays in use
+pub in-use-then : {ws vs : List ℕ} {i : ℕ} → length vs ≡ length ws → RowsBeside ws vs → InUse ws i → InUse vs i
+in-use-then e b u = rw (e, b .beside .version) u
 
 -- ---- all written, as a boot does, and read
 module _ (ws : List ℕ) (used : ℕ) (rows : List Row) (queued : ℕ) (pass : Pass) (h : 92 ≤ length ws) where

@@ -7,7 +7,7 @@ use mathlib.Core.Bool.{Bool, cond, _&&_}
 use mathlib.Core.List.{List, [], _∷_, _++_}
 use mathlib.Core.Path.{_≡_}
 use lib.Dec.{eqb, leb, ltb}
-use lib.ListN.{getD, length, take, drop}
+use lib.ListN.{getD, length, take, drop, set}
 use Rattle.definition.specs.declared.Links.{Links}
 use Rattle.definition.specs.declared.Row.{Row}
 use Rattle.definition.specs.declared.Counters.{Counters}
@@ -65,6 +65,10 @@ rowIn ws at =
 abbrev pub usedIn : List ℕ → ℕ
 usedIn ws = highHalf (wordIn ws 0)
 
+-- there are words enough for a state, and its row i is in use
+abbrev pub InUse : List ℕ → ℕ → Type 0
+InUse ws i = (keptWords ≤ length ws) × (i < mostRows) × (i < usedIn ws)
+
 -- the row i: behind those in use it is an unused one, whatever its words are
 abbrev pub rowHere : List ℕ → ℕ → Row
 rowHere ws i = cond (ltb i (usedIn ws)) (rowIn ws (1 + 11 * i)) noRow
@@ -116,6 +120,10 @@ pairWords a b = joined (a .front) (a .back) ∷ joined (b .front) (b .back) ∷ 
 abbrev pub listIn : Row → ℕ → Links
 listIn row k = getD (row .lists) k noLinks
 
+-- a row with another list k
+abbrev pub withList : Row → ℕ → Links → Row
+withList row k l = record { start = row .start; pages = row .pages; lists = set (row .lists) k l }
+
 unfoldable pub rowWords : Row → List ℕ
 rowWords row =
     row .start .0
@@ -161,6 +169,11 @@ pub record RowsBeside (ws vs : List ℕ) : Type 0 where
   pub beside : Beside ws vs
   pub queued : queuedIn vs ≡ queuedIn ws
   pub pass : passIn vs ≡ passIn ws
+
+-- nothing but the row i
+pub record RowBeside (ws : List ℕ) (i : ℕ) (vs : List ℕ) : Type 0 where
+  pub rows : rowsIn vs ≡ set (rowsIn ws) i (rowOf (rowsIn vs) i)
+  pub rest : RowsBeside ws vs
 
 -- nothing but the queue's count, which is n
 pub record QueuedBeside (ws : List ℕ) (n : ℕ) (vs : List ℕ) : Type 0 where

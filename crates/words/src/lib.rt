@@ -5,11 +5,12 @@ use definition::Counters;
 use definition::Links;
 use definition::Pass;
 use definition::Row;
+ghost use mathlib.Core.Bool.{_&&_};
 ghost use mathlib.Core.Path.{_≡_};
 ghost use Prim.Native.Nat.{_+_, _*_, _%_, _/_, _≤_, _<_};
-ghost use lib.ListN.{length, drop, set};
+ghost use lib.ListN.{length, drop};
 ghost use Rattle.definition.specs.Basics.{all};
-ghost use Rattle.definition.specs.Torn.{isNoRow};
+ghost use Rattle.definition.specs.Torn.{isNoLinks, isNoRow};
 ghost use Rattle.definition.specs.World.{noRow};
 ghost use Rattle.record.specs.Records.{withBytes};
 ghost use Rattle.words.specs.Words.{
@@ -21,6 +22,7 @@ ghost use Rattle.words.specs.Words.{
   rowOf,
   rowsIn,
   usedIn,
+  InUse,
   countersIn,
   queuedIn,
   passIn,
@@ -29,8 +31,10 @@ ghost use Rattle.words.specs.Words.{
   pairWords,
   rowWords,
   listIn,
+  withList,
   keptOf,
   counterWords,
+  RowBeside,
   RowsBeside,
   QueuedBeside,
   PassBeside,
@@ -130,19 +134,31 @@ pub fn row_at(words: &[u64], i: usize) -> Row
     no_row()
 }
 
-// The dirty list and the zeroed list of a level, of a row in use.
-pub fn dirty_at(words: &[u64], i: usize, level: usize) -> Links
-    requires { ⌜ (92 ≤ length (now words)) × (i < 8) × (i < usedIn (now words)) × (level < 3) ⌝ }
-    ensures { λ r. ⌜ r ≡ listIn (rowOf (rowsIn (now (words .entry))) i) (2 * level) ⌝ }
+// The list k of a row in use.
+pub fn list_at(words: &[u64], i: usize, k: usize) -> Links
+    requires { ⌜ InUse (now words) i × (k < 6) ⌝ }
+    ensures { λ r. ⌜ r ≡ listIn (rowOf (rowsIn (now (words .entry))) i) k ⌝ }
 {
-    first_at(words, 3 + 11 * i + 3 * level)
+    let at = 3 + 11 * i + 3 * (k / 2);
+    if k % 2 == 0 {
+        return first_at(words, at);
+    }
+    second_at(words, at)
 }
 
-pub fn zeroed_at(words: &[u64], i: usize, level: usize) -> Links
-    requires { ⌜ (92 ≤ length (now words)) × (i < 8) × (i < usedIn (now words)) × (level < 3) ⌝ }
-    ensures { λ r. ⌜ r ≡ listIn (rowOf (rowsIn (now (words .entry))) i) (2 * level + 1) ⌝ }
+// Whether the three words of a level are zeros, as they are where both of its lists are empty.
+pub fn is_bare(words: &[u64], i: usize, level: usize) -> bool
+    requires { ⌜ InUse (now words) i × (level < 3) ⌝ }
+    ensures { λ r. ⌜ r ≡ (isNoLinks (listIn (rowOf (rowsIn (now (words .entry))) i) (2 * level)) && isNoLinks (listIn (rowOf (rowsIn (now (words .entry))) i) (2 * level + 1))) ⌝ }
 {
-    second_at(words, 3 + 11 * i + 3 * level)
+    let at = 3 + 11 * i + 3 * level;
+    if words[at] != 0 {
+        return false;
+    }
+    if words[at + 1] != 0 {
+        return false;
+    }
+    words[at + 2] == 0
 }
 
 // How many pages the row i has: 0 where it is not in use.
@@ -284,13 +300,20 @@ fn put_row_from(words: &mut [u64], at: usize, row: Row)
     put_pair(words, at + 8, row.lists[4], row.lists[5]);
 }
 
-// The row i of those in use becomes `row`.
-pub fn put_row(words: &mut [u64], i: usize, row: Row)
-    requires { ⌜ (92 ≤ length (now words)) × (i < 8) × (i < usedIn (now words)) ⌝ }
-    ensures rows { λ _. ⌜ rowsIn (now (words .exit)) ≡ set (rowsIn (now (words .entry))) i row ⌝ }
-    ensures rest { λ _. ⌜ RowsBeside (now (words .entry)) (now (words .exit)) ⌝ }
+// The list k of a row in use becomes `list`.
+pub fn put_list(words: &mut [u64], i: usize, k: usize, list: Links)
+    requires { ⌜ InUse (now words) i × (k < 6) ⌝ }
+    ensures row { λ _. ⌜ rowOf (rowsIn (now (words .exit))) i ≡ withList (rowOf (rowsIn (now (words .entry))) i) k list ⌝ }
+    ensures rest { λ _. ⌜ RowBeside (now (words .entry)) i (now (words .exit)) ⌝ }
 {
-    put_row_from(words, 1 + 11 * i, row);
+    let at = 3 + 11 * i + 3 * (k / 2);
+    if k % 2 == 0 {
+        let other = second_at(words, at);
+        put_pair(words, at, list, other);
+    } else {
+        let other = first_at(words, at);
+        put_pair(words, at, other, list);
+    }
 }
 
 pub fn put_queued(words: &mut [u64], queued: usize)

@@ -1,24 +1,26 @@
--- `pass` meets its contract. The loop's invariant is `Gone`: the regions passed had nothing, and all is as it was; the words are not touched.
+-- `pass` meets its contract. The loop's invariant is `Gone`: the regions passed had nothing, so that the records and the rows are as they were.
 use Prim.Native.Nat.{ℕ, _-_, _<_}
 use mathlib.Core.Bool.{Bool}
 use mathlib.Core.List.{List}
-use mathlib.Core.Path.{_≡_, refl, ap, _∙_}
+use mathlib.Core.Path.{_≡_, refl}
 use native.Mathlib.Omega.{arith}
 use borrow.Author.Needs.{needs}
 use lib.ListN.{length}
 use Rattle.definition.specs.World.{recordAt, usedRows}
 use Rattle.record.specs.Records.{pagesIn}
 use Rattle.region.specs.Rep.{managed}
-use Rattle.words.specs.Words.{rowsIn}
+use Rattle.words.specs.Words.{RowsBeside, rowsIn}
 use Rattle.words.proofs.Places.{in-use}
-use Rattle.words.proofs.Words.{rows-beside-same}
+use Rattle.words.proofs.Words.{rows-beside-same, rows-beside-then}
 use Rattle.world.specs.Stands.{Good, rowAt}
-use Rattle.allocator.proofs.Picking.{Gone, gone-none, gone-here, gone-past, gone-eight, gone-all, gone-good, gone-on, gone-found}
+use Rattle.allocator.proofs.Picking.{Gone, gone-none, gone-here, gone-past, gone-eight, gone-all, gone-good, gone-row, gone-on, gone-found}
 use Rattle.allocator.proofs.pass.Statement.{statement}
 use Rattle.allocator.proofs.pass.Tie as tie
 
 record Inv (words₀ records₀ : List ℕ) (level : ℕ) (try-zero only-zero : Bool) (words records : List ℕ) (base i : ℕ) : Type 0 where
-  same : words ≡ words₀
+  rows : rowsIn words ≡ rowsIn words₀
+  rest : RowsBeside words₀ words
+  wide : length words ≡ length words₀
   long : length records ≡ length records₀
   gone : Gone (recordAt records₀) (pagesIn records₀) (rowsIn words₀) level try-zero only-zero (recordAt records) (pagesIn records) base i
 
@@ -30,120 +32,86 @@ abbrev μ-loop : tie.MeasureT-loop
 
 loop-holds : tie.Need-loop-holds Inv-loop μ-loop
 loop-holds c =
-    let a = c .before .before .args in
-    record {
-      same = refl;
-      long = refl;
-      gone = gone-none (recordAt (a .records .now)) (pagesIn (a .records .now)) (rowsIn (a .words .now)) (a .level) (a .try-zero) (a .only-zero);
-    }
+    let s = c .before .before in
+    record { rows = refl; rest = rows-beside-same; wide = refl; long = refl; gone = gone-none (s .pre .0 .1) (s .pre .1) }
 
-row-at-requires : tie.Need-row-at-requires Inv-loop μ-loop
-row-at-requires c κs =
-    let k = c .before .before in
-    let s = k .before .before .before in
-    rw (k .loop .inv .same) (s .pre .0 .0, omega arith)
+pages-at-requires : tie.Need-pages-at-requires Inv-loop μ-loop
+pages-at-requires c κs = (omega (arith, c .before .before .before .before .before .pre .0 .0), omega arith)
 
--- the row of a turn, by the words that were given
-row-is : (c : tie.After-row-at Inv-loop μ-loop) → let k = c .before .before .before in
-    c .row-at .result ≡ rowAt (rowsIn (k .before .before .before .args .words .now)) (k .loop .i)
-row-is c = rw (c .before .before .before .loop .inv .same) at (c .row-at .ensures)
+-- the pages of a turn's row, by the words that were given
+pages-are : (c : tie.After-pages-at Inv-loop μ-loop) → let k = c .before .before .before in
+    c .pages-at .result ≡ rowAt (rowsIn (k .before .before .before .args .words .now)) (k .loop .i) .pages
+pages-are c = rw (c .before .before .before .loop .inv .rows) at (c .pages-at .ensures)
 
 nothing-picked-requires : tie.Need-nothing-picked-requires Inv-loop μ-loop
 nothing-picked-requires c κs = search needs
 
 same-length : tie.Need-same-length Inv-loop μ-loop
-same-length c = ap length (c .before .before .before .before .before .before .loop .inv .same)
+same-length c = omega arith
 
 same-length-2 : tie.Need-same-length-2 Inv-loop μ-loop
 same-length-2 c = omega arith
 
 returns : tie.Need-returns Inv-loop μ-loop
 returns c =
-    let k = c .before .before .before .before .before .before in
-    let s = k .before .before .before in
-    let a = s .args in
-    let G = k .loop .inv .gone in
-    let e = k .loop .inv .same in
-    let z = rw (row-is (c .before .before .before)) at (c .before .if1 .taken) in (
-      gone-all _ _ (rowsIn (a .words .now)) (a .level) (a .try-zero) (a .only-zero) (s .pre .0 .1) (s .pre .1) G
-          (gone-past _ _ (rowsIn (a .words .now)) (a .level) (a .try-zero) (a .only-zero) (s .pre .0 .1) (s .pre .1) G z)
-          (ap rowsIn e) (c .nothing-picked .ensures),
-      rw e rows-beside-same,
-    )
+    let I = c .before .before .before .before .before .loop .inv in
+    let z = rw (pages-are (c .before .before)) at (c .before .if1 .taken) in
+    (gone-all (I .gone) (gone-past (I .gone) z) (I .rows) (c .nothing-picked .ensures), I .rest)
 
--- the row of a turn has pages, by the words that were given
-paged : (c : tie.Else1 Inv-loop μ-loop) → let k = c .before .before .before .before .before in
-    rowAt (rowsIn (k .before .before .before .args .words .now)) (k .loop .i) .pages ≡ 0 → ⊥
-paged c = rw (row-is (c .before .before)) at (c .if1 .left)
-
--- so it is in use
-used : (c : tie.Else1 Inv-loop μ-loop) → let k = c .before .before .before .before .before in k .loop .i < length (usedRows (rowsIn (k .before .before .before .args .words .now)))
+-- a row that has pages is in use
+used
+    : (c : tie.Else1 Inv-loop μ-loop)
+    → let k = c .before .before .before .before in
+    k .loop .i < length (usedRows (rowsIn (k .before .before .before .args .words .now)))
 used c =
-    let k = c .before .before .before .before .before in
-    let s = k .before .before .before in
-    let a = s .args in
-    gone-here _ _ (rowsIn (a .words .now)) (a .level) (a .try-zero) (a .only-zero) (s .pre .0 .1) (s .pre .1) (k .loop .inv .gone)
-    (c .before .before .before .before .loop-test .taken) (paged c)
+    gone-here (c .before .before .before .before .loop .inv .gone) (c .before .before .before .loop-test .taken) (rw (pages-are (c .before)) at (c .if1 .left))
 
 good
     : (c : tie.Else1 Inv-loop μ-loop)
-    → let k = c .before .before .before .before .before in
-    Good (recordAt (k .loop .records)) (pagesIn (k .loop .records)) (k .loop .base) (c .before .before .row-at .result)
-good c =
-    let k = c .before .before .before .before .before in
-    let s = k .before .before .before in
-    let a = s .args in
-    rw (row-is (c .before .before))
-    (gone-good _ _ (rowsIn (a .words .now)) (a .level) (a .try-zero) (a .only-zero) (s .pre .0 .1) (s .pre .1) (k .loop .inv .gone) (used c))
+    → let k = c .before .before .before .before in
+    Good (recordAt (k .loop .records)) (pagesIn (k .loop .records)) (k .loop .base) (rowAt (rowsIn (k .before .before .before .args .words .now)) (k .loop .i))
+good c = gone-good (c .before .before .before .before .loop .inv .gone) (used c)
 
 allocate-requires : tie.Need-allocate-requires Inv-loop μ-loop
-allocate-requires c κs = let g = good (c .before) in
-    (g .sound, (g .whole, c .before .before .before .before .before .before .before .before .before .pre .1))
-
-enum-known-found : tie.Need-enum-known-found Inv-loop μ-loop
-enum-known-found c = search needs
-
-put-row-requires : tie.Need-put-row-requires Inv-loop μ-loop
-put-row-requires c κs =
-    let e = c .before .before .before .before .before .before .before .before in
-    let k = e .before .before .before .before .before in
-    let s = k .before .before .before in
-    rw (k .loop .inv .same) (s .pre .0 .0, omega arith, in-use (s .args .words .now) (k .loop .i) (omega arith) (paged e))
+allocate-requires c κs =
+    let e = c .before .before in
+    let k = e .before .before .before .before in
+    let I = k .loop .inv in
+    let g = good e in
+    let u = in-use (k .loop .words) (k .loop .i) (omega arith) (rw (e .before .pages-at .ensures) at (e .if1 .left)) in
+    rw (I .rows) (((omega (arith, k .before .before .before .pre .0 .0), omega arith, u), g .sound), (g .whole, I .gone .few))
 
 same-length-3 : tie.Need-same-length-3 Inv-loop μ-loop
-same-length-3 c = c .before .before .put-row .kept .0 ∙ ap length (c .before .before .before .before .before .before .before .before .before .before .before .before .before .before .before .before .loop .inv .same)
+same-length-3 c = omega arith
 
 same-length-4 : tie.Need-same-length-4 Inv-loop μ-loop
 same-length-4 c = omega arith
 
 returns-2 : tie.Need-returns-2 Inv-loop μ-loop
 returns-2 c =
-    let d = c .before .before .before .before .before .before .before .before .before in
-    let e = d .before .before in
-    let k = e .before .before .before .before .before in
-    let s = k .before .before .before in
-    let a = s .args in
-    let A = rw (row-is (e .before .before)) at (d .allocate .ensures) in
-    let p = rw (k .loop .inv .same) at (c .before .before .put-row .ensures) in (
-      rw (p .0)
-          (gone-found _ _ (rowsIn (a .words .now)) (a .level) (a .try-zero) (a .only-zero) (s .pre .0 .1) (s .pre .1) (k .loop .inv .gone) (used e) (A .0)
-          (omega (arith, d .allocate .kept .0)) (A .1) _ (c .before .before .before .before .before .found .given .1)),
-      p .1,
-    )
-
-enum-told : tie.Need-enum-told Inv-loop μ-loop
-enum-told c = search needs
+    let d = c .before .before .before .before .before in
+    let e = d .before .before .before in
+    let I = e .before .before .before .before .loop .inv in
+    let A = rw (I .rows) at (d .allocate .ensures) in
+    let B = A .0 .1 in
+    let m = d .allocate .kept .0 in
+    (rw (B .rows, I .rows) (gone-found (I .gone) (used e) (A .0 .0) (omega arith) (A .1) (c .if2 .taken)), rows-beside-then (I .rest) (B .rest))
 
 table-pages-requires : tie.Need-table-pages-requires Inv-loop μ-loop
-table-pages-requires c κs = let g = good (c .before .before .before .before .before .before) in omega (arith, g .bounded)
+table-pages-requires c κs =
+    let e = c .before .before .before .before .before .before .before .before in
+    omega (arith, good e .bounded, pages-are (e .before))
 
 sub-base : tie.Need-sub-base Inv-loop μ-loop
-sub-base c = let g = good (c .before .before .before .before .before .before .before .before) in omega (arith, g .tables, c .before .table-pages .ensures)
+sub-base c =
+    let e = c .before .before .before .before .before .before .before .before .before in
+    omega (arith, good e .tables, pages-are (e .before), c .table-pages .ensures)
 
 add-base : tie.Need-add-base Inv-loop μ-loop
 unfolding managed
 add-base c =
-    let g = good (c .before .before .before .before .before .before .before .before) in omega (arith, g .sound .small, c .before .table-pages .ensures)
+    let e = c .before .before .before .before .before .before .before .before .before in
+    omega (arith, good e .sound .small, pages-are (e .before), c .table-pages .ensures)
 
 add-i : tie.Need-add-i Inv-loop μ-loop
 add-i c = omega arith
@@ -155,41 +123,33 @@ loop-again : tie.Need-loop-again Inv-loop μ-loop
 unfolding managed
 loop-again c =
     let d = c .before .before .before .before .before .before in
-    let e = d .before .before in
-    let k = e .before .before .before .before .before in
-    let s = k .before .before .before in
-    let a = s .args in
-    let A = rw (row-is (e .before .before)) at (d .allocate .ensures) in
+    let e = d .before .before .before in
+    let I = e .before .before .before .before .loop .inv in
+    let A = rw (I .rows) at (d .allocate .ensures) in
+    let B = A .0 .1 in
+    let m = d .allocate .kept .0 in
+    let n = c .before .if2 .left in
     record {
-      same = k .loop .inv .same;
-      long = omega (arith, d .allocate .kept .0);
-      gone =
-          rw (c .before .table-pages .ensures, row-is (e .before .before))
-          (gone-on _ _ (rowsIn (a .words .now)) (a .level) (a .try-zero) (a .only-zero) (s .pre .0 .1) (s .pre .1) (k .loop .inv .gone) (used e) (A .0)
-          (omega (arith, d .allocate .kept .0)) (c .before .before .enum-told .given .1));
+      rows = rw (B .rows, I .rows) (gone-row (I .gone) (used e) (A .0 .0) (omega arith) n);
+      rest = rows-beside-then (I .rest) (B .rest);
+      wide = omega arith;
+      long = omega arith;
+      gone = rw (c .table-pages .ensures, pages-are (e .before)) (gone-on (I .gone) (used e) (A .0 .0) (omega arith) n);
     }
 
 nothing-picked-requires-2 : tie.Need-nothing-picked-requires-2 Inv-loop μ-loop
 nothing-picked-requires-2 c κs = search needs
 
 same-length-5 : tie.Need-same-length-5 Inv-loop μ-loop
-same-length-5 c = ap length (c .before .before .loop .inv .same)
+same-length-5 c = omega arith
 
 same-length-6 : tie.Need-same-length-6 Inv-loop μ-loop
 same-length-6 c = omega arith
 
 returns-3 : tie.Need-returns-3 Inv-loop μ-loop
 returns-3 c =
-    let k = c .before .before in
-    let s = k .before .before .before in
-    let a = s .args in
-    let G = k .loop .inv .gone in
-    let e = k .loop .inv .same in (
-      gone-all _ _ (rowsIn (a .words .now)) (a .level) (a .try-zero) (a .only-zero) (s .pre .0 .1) (s .pre .1) G
-          (gone-eight _ _ (rowsIn (a .words .now)) (a .level) (a .try-zero) (a .only-zero) (s .pre .0 .1) (s .pre .1) G (omega arith))
-          (ap rowsIn e) (c .nothing-picked2 .ensures),
-      rw e rows-beside-same,
-    )
+    let I = c .before .before .loop .inv in
+    (gone-all (I .gone) (gone-eight (I .gone) (omega arith)) (I .rows) (c .nothing-picked2 .ensures), I .rest)
 
 pub pass-spec : {M : Type 1} → statement M
 pass-spec =
@@ -198,18 +158,15 @@ pass-spec =
     Inv-loop
     μ-loop
     loop-holds
-    row-at-requires
+    pages-at-requires
     nothing-picked-requires
     same-length
     same-length-2
     returns
     allocate-requires
-    enum-known-found
-    put-row-requires
     same-length-3
     same-length-4
     returns-2
-    enum-told
     table-pages-requires
     sub-base
     add-base

@@ -1,4 +1,4 @@
--- The pages that the test counts are those that the region manages, and a new region is sound and whole.
+-- The pages that the test counts are those that the region manages, a new region is sound and whole, and its row stands in the words as it was laid out.
 use borrow.Author.Needs.{needs}
 use native.Mathlib.Omega.{arith}
 use Rattle.region.proofs.Beginning.{count-is}
@@ -33,10 +33,21 @@ new-requires-2 c κs =
     let e = count-is (record { 0 = s .args .start }) (s .args .pages) (c .before .before .before .before .table-pages .ensures) in
     (omega arith, omega (arith, e), omega (arith, e))
 
+slice-aggregate-keep : tie.Need-slice-aggregate-keep
+slice-aggregate-keep c = search needs
+
+keep-requires : tie.Need-keep-requires
+keep-requires c κs = search needs
+
+slice-aggregate-grant-all : tie.Need-slice-aggregate-grant-all
+slice-aggregate-grant-all c = search needs
+
 grant-all-requires : tie.Need-grant-all-requires
 grant-all-requires c κs =
-    let d = c .before .before .before .new2 in
-    (rep-sound (d .ensures .0 .rep), (d .ensures .1, omega arith))
+    let k = c .before .before .before in
+    let d = k .before .before .before .before in
+    let e = k .keep .ensures in
+    rw (e .1) ((e .0, rep-sound (d .new2 .ensures .0 .rep)), (d .new2 .ensures .1, omega arith))
 
 same-length : tie.Need-same-length
 same-length c = search needs
@@ -56,6 +67,9 @@ leaves-grants-spec =
     returns-4
     new-requires
     new-requires-2
+    slice-aggregate-keep
+    keep-requires
+    slice-aggregate-grant-all
     grant-all-requires
     same-length
     returns-5)

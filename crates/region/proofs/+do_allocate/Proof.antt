@@ -1,244 +1,232 @@
 -- The levels left fall at each call; what the larger level found is split on return.
 use borrow.Author.Needs.{needs}
+use borrow.Author.Tests.{not-true, not-false}
 use native.Mathlib.Omega.{arith}
-use Prim.Native.Nat.{ℕ, _<_, _-_}
+use Prim.Native.Nat.{ℕ, _-_, _<_}
 use borrow.Fn.Kinds.{In}
 use borrow.Fn.PlainCycle.{Measures, is, falls, and}
+use mathlib.Core.List.{List}
+use Rattle.definition.specs.Frame.{Found, Levels, split}
 use Rattle.definition.specs.World.{recordAt}
-use Rattle.region.specs.Rep.{stateOf}
-use Rattle.region.proofs.Searching.{none-left, found-here, climb-asks, none-above, split-asks, again-asks, found-part}
+use Rattle.record.specs.Records.{pagesIn}
+use Rattle.words.specs.Words.{rowOf, rowsIn}
+use Rattle.region.specs.declared.Got.{Got}
+use Rattle.region.specs.Rep.{searched, stateOf}
+use Rattle.region.proofs.Laws.{none-in}
+use Rattle.region.proofs.Keeping.{row-whole}
+use Rattle.region.proofs.Searching.{
+  Reached,
+  Sought,
+  Wanted,
+  above,
+  asks,
+  begun,
+  changed,
+  found-above,
+  found-here,
+  here,
+  none-above,
+  none-here,
+  none-told,
+  past,
+  some-told,
+  sought,
+  split-asks,
+  told,
+}
 use Rattle.region.proofs.do_allocate.Reads as do-allocate
 use Rattle.region.proofs.do_allocate.Kinds as do-allocate-kinds
-use Rattle.region.proofs.+do_allocate.Lts-do_allocate as do-allocate-lts
+use Rattle.region.proofs.+do_allocate.Lts-do_allocate as lts
 use Rattle.region.proofs.level_allocate.Reads as level-allocate-reads
+use Rattle.region.proofs.nothing.Reads as nothing-reads
 use Rattle.region.proofs.split.Reads as split-reads
 use Rattle.region.proofs.+do_allocate.{statement}
 use Rattle.region.proofs.+do_allocate.Tie.{close}
 
-abbrev μ-do-allocate : Measures 1 do-allocate-kinds.ps ℕ
-μ-do-allocate κs a = 3 - a .1 .1 .1 .0
+abbrev levels-left : Measures 2 do-allocate-kinds.ps ℕ
+levels-left κs a = 3 - a .1 .1 .1 .1 .0
 
-abbrev do-allocate-at : ℕ → In 1 do-allocate-kinds.ps
-do-allocate-at t =
-    and 1 do-allocate-kinds.ps (is 1 do-allocate-kinds.ps μ-do-allocate t) do-allocate.Pre
+module _ (t : ℕ) where
+  abbrev at : In 2 do-allocate-kinds.ps
+  at = and 2 do-allocate-kinds.ps (is 2 do-allocate-kinds.ps levels-left t) do-allocate.Pre
 
-abbrev do-allocate-below : ℕ → In 1 do-allocate-kinds.ps
-do-allocate-below t =
-    and 1 do-allocate-kinds.ps (falls 1 do-allocate-kinds.ps _<_ μ-do-allocate t) do-allocate.Pre
+  abbrev below : In 2 do-allocate-kinds.ps
+  below = and 2 do-allocate-kinds.ps (falls 2 do-allocate-kinds.ps _<_ levels-left t) do-allocate.Pre
 
-do-allocate-returns : (t : ℕ) → do-allocate-lts.Need-returns (
-  level-allocate-reads.Asked,
-  level-allocate-reads.Learnt,
-  do-allocate-below t,
-  do-allocate.Post,
-  split-reads.Asked,
-  split-reads.Learnt,
-) (do-allocate-at t) do-allocate.Post
-do-allocate-returns t c =
-    let s = c .before .before in
-    let a = s .args in
-    let x = stateOf (recordAt (a .records .now)) (a .row) in
-    none-left x (a .level) (a .try-zero) (a .only-zero) (s .pre .1 .0) (c .if1 .taken)
+  abbrev calls : lts.Claims
+  calls = (
+    nothing-reads.Asked,
+    nothing-reads.Learnt,
+    level-allocate-reads.Asked,
+    level-allocate-reads.Learnt,
+    below,
+    do-allocate.Post,
+    split-reads.Asked,
+    split-reads.Learnt,
+  )
 
-do-allocate-level-allocate-requires : (t : ℕ) → do-allocate-lts.Need-level-allocate-requires (
-  level-allocate-reads.Asked,
-  level-allocate-reads.Learnt,
-  do-allocate-below t,
-  do-allocate.Post,
-  split-reads.Asked,
-  split-reads.Learnt,
-) (do-allocate-at t) do-allocate.Post
-do-allocate-level-allocate-requires t c κs = search needs
+  abbrev Start : Type 0
+  Start = lts.Start calls at do-allocate.Post
 
-do-allocate-enum-told : (t : ℕ) → do-allocate-lts.Need-enum-told (
-  level-allocate-reads.Asked,
-  level-allocate-reads.Learnt,
-  do-allocate-below t,
-  do-allocate.Post,
-  split-reads.Asked,
-  split-reads.Learnt,
-) (do-allocate-at t) do-allocate.Post
-do-allocate-enum-told t c = search needs
+  abbrev levels : Start → Levels
+  levels s = stateOf (recordAt (s .args .records .now)) (rowOf (rowsIn (s .args .words .now)) (s .args .index))
 
-do-allocate-enum-told-2 : (t : ℕ) → do-allocate-lts.Need-enum-told-2 (
-  level-allocate-reads.Asked,
-  level-allocate-reads.Learnt,
-  do-allocate-below t,
-  do-allocate.Post,
-  split-reads.Asked,
-  split-reads.Learnt,
-) (do-allocate-at t) do-allocate.Post
-do-allocate-enum-told-2 t c = search needs
+  abbrev wanted : Start → Wanted
+  wanted s = record { level = s .args .level; tryZero = s .args .try-zero; onlyZero = s .args .only-zero }
 
-do-allocate-add-do-allocate : (t : ℕ) → do-allocate-lts.Need-add-do-allocate (
-  level-allocate-reads.Asked,
-  level-allocate-reads.Learnt,
-  do-allocate-below t,
-  do-allocate.Post,
-  split-reads.Asked,
-  split-reads.Learnt,
-) (do-allocate-at t) do-allocate.Post
-do-allocate-add-do-allocate t c = search needs
+  -- the records and the words have come to stand for the levels x
+  abbrev Stands : Start → List ℕ → List ℕ → Levels → Type 0
+  Stands s bytes words x =
+      Reached (recordAt (s .args .records .now)) (s .args .first) (s .args .words .now) (s .args .index) (recordAt bytes) (pagesIn bytes) words x
 
-do-allocate-do-allocate-requires : (t : ℕ) → do-allocate-lts.Need-do-allocate-requires (
-  level-allocate-reads.Asked,
-  level-allocate-reads.Learnt,
-  do-allocate-below t,
-  do-allocate.Post,
-  split-reads.Asked,
-  split-reads.Learnt,
-) (do-allocate-at t) do-allocate.Post
-do-allocate-do-allocate-requires t c κs =
-    let s = c .before .before .before .before .before .before .before .before .before .before in
-    let a = s .args in
-    let x = stateOf (recordAt (a .records .now)) (a .row) in
-    (omega arith, climb-asks x (a .level) (a .try-zero) (a .only-zero) (omega arith) (c .before .before .before .before .before .before .level-allocate .ensures) (c .before .before .enum-told2 .given .1) (s .pre .1 .1))
+  -- the same after a search that came to the answer a
+  abbrev Finds : Start → List ℕ → List ℕ → Got → Found → Type 0
+  Finds s bytes words r a =
+      Sought (recordAt (s .args .records .now)) (s .args .first) (s .args .words .now) (s .args .index) (recordAt bytes) (pagesIn bytes) words r a
 
-do-allocate-enum-told-3 : (t : ℕ) → do-allocate-lts.Need-enum-told-3 (
-  level-allocate-reads.Asked,
-  level-allocate-reads.Learnt,
-  do-allocate-below t,
-  do-allocate.Post,
-  split-reads.Asked,
-  split-reads.Learnt,
-) (do-allocate-at t) do-allocate.Post
-do-allocate-enum-told-3 t c = search needs
+  abbrev start-of : lts.After-level-allocate calls at do-allocate.Post → Start
+  start-of c = c .before .before .before .before .before .before
 
-do-allocate-enum-known-bigger : (t : ℕ) → do-allocate-lts.Need-enum-known-bigger (
-  level-allocate-reads.Asked,
-  level-allocate-reads.Learnt,
-  do-allocate-below t,
-  do-allocate.Post,
-  split-reads.Asked,
-  split-reads.Learnt,
-) (do-allocate-at t) do-allocate.Post
-do-allocate-enum-known-bigger t c = search needs
+  at-level
+      : (c : lts.After-level-allocate calls at do-allocate.Post) → let s = start-of c in
+      let d = c .level-allocate in
+      Finds s (d .last .0) (d .last .1 .1 .0) (d .result) (here (wanted s) (levels s))
+  at-level c =
+      let s = start-of c in
+      let d = c .level-allocate in
+      sought (begun (s .pre .1 .0)) (d .kept .1 .1 .0) (here (wanted s)) (d .ensures)
 
-do-allocate-split-requires : (t : ℕ) → do-allocate-lts.Need-split-requires (
-  level-allocate-reads.Asked,
-  level-allocate-reads.Learnt,
-  do-allocate-below t,
-  do-allocate.Post,
-  split-reads.Asked,
-  split-reads.Learnt,
-) (do-allocate-at t) do-allocate.Post
-do-allocate-split-requires t c κs =
-    let s = c .before .before .before .before .before .before .before .before .before .before .before .before .before .before .before .before .before .before in
-    let a = s .args in
-    let x = stateOf (recordAt (a .records .now)) (a .row) in
-    split-asks x (a .level) (a .try-zero) (a .only-zero) (c .before .before .before .before .before .before .before .before .before .before .before .before .before .before .before .before .if1 .left) (c .before .before .before .before .before .before .before .before .before .before .before .before .before .before .level-allocate .ensures) (c .before .before .before .before .before .before .before .before .before .before .enum-told2 .given .1) (c .before .before .before .before .before .before .before .do-allocate .ensures) _ (c .before .before .before .bigger .given .1) (s .pre .1 .0) (s .pre .1 .1)
+  unchanged
+      : (c : lts.Else2 calls at do-allocate.Post) → let l = c .before .before .before .before .before in
+      let s = start-of l in
+      Stands s (l .level-allocate .last .0) (l .level-allocate .last .1 .1 .0) (levels s)
+  unchanged c =
+      let l = c .before .before .before .before .before in
+      let s = start-of l in
+      none-here (wanted s) (levels s) (at-level l) (c .if2 .left)
 
-do-allocate-level-allocate-requires-2 : (t : ℕ) → do-allocate-lts.Need-level-allocate-requires-2 (
-  level-allocate-reads.Asked,
-  level-allocate-reads.Learnt,
-  do-allocate-below t,
-  do-allocate.Post,
-  split-reads.Asked,
-  split-reads.Learnt,
-) (do-allocate-at t) do-allocate.Post
-do-allocate-level-allocate-requires-2 t c κs =
-    let s = c .before .before .before .before .before .before .before .before .before .before .before .before .before .before .before .before .before .before .before .before .before .before in
-    let a = s .args in
-    let x = stateOf (recordAt (a .records .now)) (a .row) in
-    again-asks x (a .level) (a .try-zero) (a .only-zero) (c .before .before .before .before .before .before .before .before .before .before .before .before .before .before .before .before .before .before .before .before .if1 .left) (c .before .before .before .before .before .before .before .before .before .before .before .before .before .before .before .before .before .before .level-allocate .ensures) (c .before .before .before .before .before .before .before .before .before .before .before .before .before .before .enum-told2 .given .1) (c .before .before .before .before .before .before .before .before .before .before .before .do-allocate .ensures) _ (c .before .before .before .before .before .before .before .bigger .given .1) (c .before .before .before .split .ensures)
+  at-next
+      : (c : lts.After-do-allocate calls at do-allocate.Post) → let s = start-of (c .before .before .before .before .before .before .before .before) in
+      let d = c .do-allocate in
+      Finds s (d .last .0) (d .last .1 .1 .0) (d .result) (above (wanted s) (levels s))
+  at-next c =
+      let d = c .do-allocate in
+      sought (unchanged (c .before .before .before)) (d .kept .1 .1 .0) (above (wanted (start-of (c .before .before .before .before .before .before .before .before)))) (d .ensures)
 
-do-allocate-same-length : (t : ℕ) → do-allocate-lts.Need-same-length (
-  level-allocate-reads.Asked,
-  level-allocate-reads.Learnt,
-  do-allocate-below t,
-  do-allocate.Post,
-  split-reads.Asked,
-  split-reads.Learnt,
-) (do-allocate-at t) do-allocate.Post
-do-allocate-same-length t c = search needs
+  parted
+      : (c : lts.After-split calls at do-allocate.Post) → let u = c .before .before .before .before .before .before .before .before .before in
+      let s = start-of (u .before .before .before .before .before .before .before .before) in
+      Stands s (c .split .last .0) (c .split .last .1 .1 .0) (split (above (wanted s) (levels s) .levels) (u .do-allocate .result .page) (s .args .level))
+  parted c =
+      let u = c .before .before .before .before .before .before .before .before .before in
+      let s = start-of (u .before .before .before .before .before .before .before .before) in
+      changed (at-next u .reached) (c .split .kept .1 .1 .0) (λ x. split x (u .do-allocate .result .page) (s .args .level)) (c .split .ensures)
 
-do-allocate-returns-2 : (t : ℕ) → do-allocate-lts.Need-returns-2 (
-  level-allocate-reads.Asked,
-  level-allocate-reads.Learnt,
-  do-allocate-below t,
-  do-allocate.Post,
-  split-reads.Asked,
-  split-reads.Learnt,
-) (do-allocate-at t) do-allocate.Post
-do-allocate-returns-2 t c =
-    let s = c .before .before .before .before .before .before .before .before in
-    let a = s .args in
-    let x = stateOf (recordAt (a .records .now)) (a .row) in
-    found-here x (a .level) (a .try-zero) (a .only-zero) (c .before .before .before .before .before .before .if1 .left) (c .before .before .before .before .level-allocate .ensures) _ (c .enum-told .given .1)
+  nothing-requires : lts.Need-nothing-requires calls at do-allocate.Post
+  nothing-requires c κs = search needs
 
-do-allocate-same-length-2 : (t : ℕ) → do-allocate-lts.Need-same-length-2 (
-  level-allocate-reads.Asked,
-  level-allocate-reads.Learnt,
-  do-allocate-below t,
-  do-allocate.Post,
-  split-reads.Asked,
-  split-reads.Learnt,
-) (do-allocate-at t) do-allocate.Post
-do-allocate-same-length-2 t c = search needs
+  returns : lts.Need-returns calls at do-allocate.Post
+  returns c =
+      let s = c .before .before .before .before in
+      rw (past (wanted s) (levels s) (c .before .if1 .taken))
+      (told (record { reached = begun (s .pre .1 .0); found = none-in (searched (s .args .words .now) (s .args .index) (c .nothing .result)) (c .nothing .ensures) }))
 
-do-allocate-returns-3 : (t : ℕ) → do-allocate-lts.Need-returns-3 (
-  level-allocate-reads.Asked,
-  level-allocate-reads.Learnt,
-  do-allocate-below t,
-  do-allocate.Post,
-  split-reads.Asked,
-  split-reads.Learnt,
-) (do-allocate-at t) do-allocate.Post
-do-allocate-returns-3 t c =
-    let s = c .before .before .before .before .before .before .before .before .before .before .before .before .before .before .before in
-    let a = s .args in
-    let x = stateOf (recordAt (a .records .now)) (a .row) in
-    none-above x (a .level) (a .try-zero) (a .only-zero) (c .before .before .before .before .before .before .before .before .before .before .before .before .before .if1 .left) (c .before .before .before .before .before .before .before .before .before .before .before .level-allocate .ensures) (c .before .before .before .before .before .before .before .enum-told2 .given .1) (c .before .before .before .before .do-allocate .ensures) (c .enum-told3 .given .1)
+  level-allocate-requires : lts.Need-level-allocate-requires calls at do-allocate.Post
+  level-allocate-requires c κs = search needs
 
-do-allocate-same-length-3 : (t : ℕ) → do-allocate-lts.Need-same-length-3 (
-  level-allocate-reads.Asked,
-  level-allocate-reads.Learnt,
-  do-allocate-below t,
-  do-allocate.Post,
-  split-reads.Asked,
-  split-reads.Learnt,
-) (do-allocate-at t) do-allocate.Post
-do-allocate-same-length-3 t c =
-    omega (arith, c .before .before .level-allocate2 .kept .0, c .before .before .before .before .before .before .split .kept .0, c .before .before .before .before .before .before .before .before .before .before .before .before .before .before .do-allocate .kept .0, c .before .before .before .before .before .before .before .before .before .before .before .before .before .before .before .before .before .before .before .before .before .level-allocate .kept .0)
+  same-length : lts.Need-same-length calls at do-allocate.Post
+  same-length c = search needs
 
-do-allocate-returns-4 : (t : ℕ) → do-allocate-lts.Need-returns-4 (
-  level-allocate-reads.Asked,
-  level-allocate-reads.Learnt,
-  do-allocate-below t,
-  do-allocate.Post,
-  split-reads.Asked,
-  split-reads.Learnt,
-) (do-allocate-at t) do-allocate.Post
-do-allocate-returns-4 t c =
-    let s = c .before .before .before .before .before .before .before .before .before .before .before .before .before .before .before .before .before .before .before .before .before .before .before .before .before in
-    let a = s .args in
-    let x = stateOf (recordAt (a .records .now)) (a .row) in
-    found-part x (a .level) (a .try-zero) (a .only-zero) (c .before .before .before .before .before .before .before .before .before .before .before .before .before .before .before .before .before .before .before .before .before .before .before .if1 .left) (c .before .before .before .before .before .before .before .before .before .before .before .before .before .before .before .before .before .before .before .before .before .level-allocate .ensures) (c .before .before .before .before .before .before .before .before .before .before .before .before .before .before .before .before .before .enum-told2 .given .1) (c .before .before .before .before .before .before .before .before .before .before .before .before .before .before .do-allocate .ensures) _ (c .before .before .before .before .before .before .before .before .before .before .bigger .given .1) (c .before .before .before .before .before .before .split .ensures) (c .before .before .level-allocate2 .ensures)
+  same-length-2 : lts.Need-same-length-2 calls at do-allocate.Post
+  same-length-2 c = search needs
+
+  returns-2 : lts.Need-returns-2 calls at do-allocate.Post
+  returns-2 c =
+      let l = c .before .before .before .before .before in
+      let s = start-of l in
+      let e = at-level l in
+      rw (found-here (wanted s) (levels s) (l .before .before .before .if1 .left) (some-told e (c .if2 .taken))) (told e)
+
+  add-do-allocate : lts.Need-add-do-allocate calls at do-allocate.Post
+  add-do-allocate c = search needs
+
+  do-allocate-requires : lts.Need-do-allocate-requires calls at do-allocate.Post
+  do-allocate-requires c κs =
+      let b = c .before .before in
+      let e = unchanged b in
+      (omega arith, (asks e, row-whole (e .became) (start-of (b .before .before .before .before .before) .pre .1 .1)))
+
+  same-length-3 : lts.Need-same-length-3 calls at do-allocate.Post
+  same-length-3 c = search needs
+
+  same-length-4 : lts.Need-same-length-4 calls at do-allocate.Post
+  same-length-4 c = search needs
+
+  returns-3 : lts.Need-returns-3 calls at do-allocate.Post
+  returns-3 c =
+      let u = c .before .before .before .before .before .before in
+      let b = u .before .before .before in
+      let l = b .before .before .before .before .before in
+      let s = start-of l in
+      let e = at-next u in
+      rw (none-above (wanted s) (levels s) (l .before .before .before .if1 .left) (none-told (at-level l) (b .if2 .left)) (none-told e (not-true _ (c .if3 .taken)))) (told e)
+
+  split-requires : lts.Need-split-requires calls at do-allocate.Post
+  split-requires c κs =
+      let k = c .before .before in
+      let u = k .before .before .before .before .before .before in
+      let l = u .before .before .before .before .before .before .before .before in
+      let s = start-of l in
+      let e = at-next u in (
+        asks (e .reached),
+        split-asks (wanted s) (levels s) (l .before .before .before .if1 .left) (s .pre .1 .0 .1) (s .pre .1 .1) (some-told e (not-false _ (k .if3 .left))) (e .reached .became),
+      )
+
+  level-allocate-requires-2 : lts.Need-level-allocate-requires-2 calls at do-allocate.Post
+  level-allocate-requires-2 c κs =
+      let p = c .before .before .before .before .before .before in
+      (asks (parted p), omega (arith, p .before .before .before .before .before .before .before .before .before .before .before .before .before .before .before .before .before .before .before .before .if1 .left))
+
+  same-length-5 : lts.Need-same-length-5 calls at do-allocate.Post
+  same-length-5 c =
+      let p = c .before .before .before .before .before .before .before .before .before .before .before in
+      let u = p .before .before .before .before .before .before .before .before .before in
+      omega (arith, c .before .before .before .before .level-allocate2 .kept, p .split .kept, u .do-allocate .kept, u .before .before .before .before .before .before .before .before .level-allocate .kept)
+
+  same-length-6 : lts.Need-same-length-6 calls at do-allocate.Post
+  same-length-6 c =
+      let p = c .before .before .before .before .before .before .before .before .before .before .before in
+      let u = p .before .before .before .before .before .before .before .before .before in
+      omega (arith, c .before .before .before .before .level-allocate2 .kept, p .split .kept, u .do-allocate .kept, u .before .before .before .before .before .before .before .before .level-allocate .kept)
+
+  returns-4 : lts.Need-returns-4 calls at do-allocate.Post
+  returns-4 c =
+      let d = c .before .before .before .before .level-allocate2 in
+      let p = c .before .before .before .before .before .before .before .before .before .before .before in
+      let k = p .before .before .before in
+      let u = k .before .before .before .before .before .before in
+      let b = u .before .before .before in
+      let l = b .before .before .before .before .before in
+      let s = start-of l in
+      rw (found-above (wanted s) (levels s) (l .before .before .before .if1 .left) (none-told (at-level l) (b .if2 .left)) (some-told (at-next u) (not-false _ (k .if3 .left))))
+      (told (sought (parted p) (d .kept .1 .1 .0) (here (wanted s)) (d .ensures)))
 
 pub +do-allocate-spec : {M : Type 1} → statement M
-+do-allocate-spec = close μ-do-allocate λ t. do-allocate-lts.spec (
-  level-allocate-reads.Asked,
-  level-allocate-reads.Learnt,
-  do-allocate-below t,
-  do-allocate.Post,
-  split-reads.Asked,
-  split-reads.Learnt,
-)
-    (do-allocate-at t)
-    do-allocate.Post
-    (do-allocate-returns t)
-    (do-allocate-level-allocate-requires t)
-    (do-allocate-enum-told t)
-    (do-allocate-enum-told-2 t)
-    (do-allocate-add-do-allocate t)
-    (do-allocate-do-allocate-requires t)
-    (do-allocate-enum-told-3 t)
-    (do-allocate-enum-known-bigger t)
-    (do-allocate-split-requires t)
-    (do-allocate-level-allocate-requires-2 t)
-    (do-allocate-same-length t)
-    (do-allocate-returns-2 t)
-    (do-allocate-same-length-2 t)
-    (do-allocate-returns-3 t)
-    (do-allocate-same-length-3 t)
-    (do-allocate-returns-4 t)
++do-allocate-spec =
+    close levels-left λ t. lts.spec (calls t) (at t) do-allocate.Post
+    (nothing-requires t)
+    (returns t)
+    (level-allocate-requires t)
+    (same-length t)
+    (same-length-2 t)
+    (returns-2 t)
+    (add-do-allocate t)
+    (do-allocate-requires t)
+    (same-length-3 t)
+    (same-length-4 t)
+    (returns-3 t)
+    (split-requires t)
+    (level-allocate-requires-2 t)
+    (same-length-5 t)
+    (same-length-6 t)
+    (returns-4 t)

@@ -1,83 +1,90 @@
 -- The frame that was found has ALLOCATED set, and the region stays whole.
+use mathlib.Core.Option.{none}
 use native.Mathlib.Omega.{arith}
 use borrow.Author.Needs.{needs}
+use borrow.Author.Tests.{not-true, not-false}
+use Rattle.definition.specs.Frame.{Found, allocate}
 use Rattle.definition.specs.World.{recordAt}
-use Rattle.region.specs.Rep.{stateOf}
+use Rattle.definition.specs.declared.Row.{Row}
+use Rattle.record.specs.Records.{pagesIn}
+use Rattle.words.specs.Words.{rowOf, rowsIn}
+use Rattle.region.specs.Rep.{Whole, fromOf, searched, stateOf}
 use Rattle.region.proofs.Keeping.{row-whole, whole-allocate}
 use Rattle.region.proofs.Tiling.{rep-kept}
-use Rattle.region.proofs.Granting.{not-granted, grant-inside, grant-small, grant}
+use Rattle.region.proofs.Granting.{Grants, not-granted, grants}
 use Rattle.region.proofs.allocate.Statement.{statement}
 use Rattle.region.proofs.allocate.Tie as tie
+
+abbrev row : tie.Start → Row
+row s = rowOf (rowsIn (s .args .words .now)) (s .args .index)
+
+abbrev answer : tie.Start → Found
+answer s = allocate (s .args .level) (stateOf (recordAt (s .args .records .now)) (row s)) (s .args .try-zero) (s .args .only-zero)
+
+whole : (s : tie.Start) → Whole (answer s .levels) none (fromOf (row s)) (s .args .first) (row s .pages)
+whole s = whole-allocate (s .args .level) (s .args .try-zero) (s .args .only-zero) (rep-kept (s .pre .0 .1)) (s .pre .1 .0) (s .pre .1 .1)
+
+granted
+    : (c : tie.Else1) → let d = c .before .before .before .before .before .before in
+    let s = d .before .before .before .before .before in
+    let e = d .do-allocate .last in
+    Grants (recordAt (s .args .records .now)) (s .args .first) (row s) (recordAt (e .0)) (pagesIn (e .0)) (searched (e .1 .1 .0) (s .args .index) (d .do-allocate .result)) (answer s)
+granted c =
+    let d = c .before .before .before .before .before .before in
+    let s = d .before .before .before .before .before in
+    grants (s .args .try-zero) (s .args .only-zero) (s .pre .0 .1) (s .pre .1 .0) (s .pre .1 .1) (d .do-allocate .ensures .0) (not-false _ (c .if1 .left))
 
 do-allocate-requires : tie.Need-do-allocate-requires
 do-allocate-requires c κs = search needs
 
-enum-told : tie.Need-enum-told
-enum-told c = search needs
-
-enum-known-found : tie.Need-enum-known-found
-enum-known-found c = search needs
-
-marks-requires : tie.Need-marks-requires
-marks-requires c κs =
-    let s = c .before .before .before .before .before .before .before .before .before in
-    let a = s .args in
-    let d = c .before .before .before .before .before .before .do-allocate in
-    let x = stateOf (recordAt (a .records .now)) (a .row) in
-    grant-inside x (a .level) (a .try-zero) (a .only-zero) (s .pre .0) (s .pre .1 .0) (s .pre .1 .1) (d .ensures) _ (c .before .before .found .given .1)
-
-add-set-marks : tie.Need-add-set-marks
-add-set-marks c =
-    let s = c .before .before .before .before .before .before .before .before .before .before .before in
-    let a = s .args in
-    let d = c .before .before .before .before .before .before .before .before .do-allocate in
-    let x = stateOf (recordAt (a .records .now)) (a .row) in
-    rw (c .before .marks .ensures) (omega (arith, grant-small x (a .level) (a .try-zero) (a .only-zero) (s .pre .0) (s .pre .1 .0) (s .pre .1 .1) (d .ensures) _ (c .before .before .before .before .found .given .1)))
-
-set-marks-requires : tie.Need-set-marks-requires
-set-marks-requires c κs =
-    let s = c .before .before .before .before .before .before .before .before .before .before .before in
-    let a = s .args in
-    let d = c .before .before .before .before .before .before .before .before .do-allocate in
-    let x = stateOf (recordAt (a .records .now)) (a .row) in
-    grant-inside x (a .level) (a .try-zero) (a .only-zero) (s .pre .0) (s .pre .1 .0) (s .pre .1 .1) (d .ensures) _ (c .before .before .before .before .found .given .1)
-
 same-length : tie.Need-same-length
 same-length c = search needs
-
-returns : tie.Need-returns
-returns c =
-    let s = c .before .before .before .before .before .before .before in
-    let a = s .args in
-    let d = c .before .before .before .before .do-allocate in
-    let x = stateOf (recordAt (a .records .now)) (a .row) in
-    let b = not-granted x (a .level) (a .try-zero) (a .only-zero) (s .pre .0) (s .pre .1 .0) (s .pre .1 .1) (d .ensures) (c .enum-told .given .1) in
-    (b, row-whole (b .became) (whole-allocate (a .level) (a .try-zero) (a .only-zero) (rep-kept (s .pre .0)) (s .pre .1 .0) (s .pre .1 .1)))
 
 same-length-2 : tie.Need-same-length-2
 same-length-2 c = search needs
 
+returns : tie.Need-returns
+returns c =
+    let d = c .before .before .before .before .before .before in
+    let s = d .before .before .before .before .before in
+    let e = d .do-allocate .ensures in
+    let g = not-granted (s .args .try-zero) (s .args .only-zero) (s .pre .0 .1) (s .pre .1 .0) (s .pre .1 .1) (e .0) (not-true _ (c .if1 .taken)) in
+    ((g, e .1), row-whole (g .became) (whole s))
+
+marks-requires : tie.Need-marks-requires
+marks-requires c κs = granted (c .before) .inside
+
+add-set-marks : tie.Need-add-set-marks
+add-set-marks c = rw (c .before .marks .ensures) (omega (arith, granted (c .before .before .before) .small))
+
+set-marks-requires : tie.Need-set-marks-requires
+set-marks-requires c κs = granted (c .before .before .before) .inside
+
+same-length-3 : tie.Need-same-length-3
+same-length-3 c = search needs
+
+same-length-4 : tie.Need-same-length-4
+same-length-4 c = search needs
+
 returns-2 : tie.Need-returns-2
 returns-2 c =
-    let s = c .before .before .before .before .before .before .before .before .before .before .before .before .before .before in
-    let a = s .args in
-    let d = c .before .before .before .before .before .before .before .before .before .before .before .do-allocate in
-    let x = stateOf (recordAt (a .records .now)) (a .row) in
+    let b = c .before .before .before .before .before .before in
+    let d = b .before .before .before .before .before .before in
     let m = c .before .before .set-marks in
-    let b = grant x (a .level) (a .try-zero) (a .only-zero) (s .pre .0) (s .pre .1 .0) (s .pre .1 .1) (d .ensures) _ (c .before .before .before .before .before .before .before .found .given .1) in
-    rw (m .ensures .1, m .kept .0, c .before .before .before .before .marks .ensures) (b, row-whole (b .became) (whole-allocate (a .level) (a .try-zero) (a .only-zero) (rep-kept (s .pre .0)) (s .pre .1 .0) (s .pre .1 .1)))
+    let g = granted b .answers in
+    rw (m .ensures .1, m .kept .0, c .before .before .before .before .marks .ensures) ((g, d .do-allocate .ensures .1), row-whole (g .became) (whole (d .before .before .before .before .before)))
 
 pub allocate-spec : {M : Type 1} → statement M
 allocate-spec =
     tie.close
     (tie.spec
     do-allocate-requires
-    enum-told
-    enum-known-found
+    same-length
+    same-length-2
+    returns
     marks-requires
     add-set-marks
     set-marks-requires
-    same-length
-    returns
-    same-length-2
+    same-length-3
+    same-length-4
     returns-2)

@@ -1,12 +1,15 @@
--- A held frame is on no list, so it can be pushed.
+-- A held frame is on no list, so it can be admitted to the list of its level, which is out of the row meanwhile.
 use borrow.Author.Needs.{needs}
 use Rattle.region.proofs.Keeping.{row-whole, whole-free}
-use Rattle.region.proofs.Freeing.{held-out, held-level, free-is}
+use Rattle.region.proofs.Freeing.{held-level, free-asks, free-next}
 use Rattle.region.proofs.free.Statement.{statement}
 use Rattle.region.proofs.free.Tie as tie
 
 load-requires : tie.Need-load-requires
 load-requires c κs = search needs
+
+cast-level : tie.Need-cast-level
+cast-level c = search needs
 
 is-zeroed-requires : tie.Need-is-zeroed-requires
 is-zeroed-requires c κs = search needs
@@ -14,32 +17,57 @@ is-zeroed-requires c κs = search needs
 is-kernel-requires : tie.Need-is-kernel-requires
 is-kernel-requires c κs = search needs
 
-cast-push : tie.Need-cast-push
-cast-push c = search needs
-
-push-requires : tie.Need-push-requires
-push-requires c κs =
+slot-requires : tie.Need-slot-requires
+slot-requires c κs =
     let s = c .before .before .before .before .before .before .before in
-    rw (c .before .before .before .before .load .ensures) (s .pre .0, ((held-level (s .pre .0) (s .pre .1 .1) (s .pre .1 .0), s .pre .1 .1 .inside), held-out (s .pre .0) (s .pre .1 .1)))
+    rw (c .before .before .before .load .ensures) (held-level (s .pre .0 .1) (s .pre .1 .1) (s .pre .1 .0))
+
+list-at-requires : tie.Need-list-at-requires
+list-at-requires c κs = search needs
+
+abbrev start : tie.After-list-at → tie.Start
+start d = d .before .before .before .before .before .before .before .before .before .before
+
+admit-requires : tie.Need-admit-requires
+admit-requires c κs =
+    let d = c .before in
+    let r = d .before .before .before in
+    let s = start d in
+    free-asks (s .pre .0 .1) (s .pre .1 .0) (s .pre .1 .1) (r .before .before .before .load .ensures) (r .before .is-zeroed .ensures) (r .is-kernel .ensures)
+    (d .before .before .slot .ensures) (d .list-at .ensures)
+
+put-list-requires : tie.Need-put-list-requires
+put-list-requires c κs = search needs
 
 same-length : tie.Need-same-length
 same-length c = search needs
 
+same-length-2 : tie.Need-same-length-2
+same-length-2 c = search needs
+
 returns : tie.Need-returns
 returns c =
-    let s = c .before .before .before .before .before .before .before .before .before .before in
-    let d = rw (c .before .before .before .before .before .before .is-zeroed .ensures, c .before .before .before .before .before .is-kernel .ensures, c .before .before .before .before .before .before .before .load .ensures) at (c .before .before .push .ensures) in
-    let b = rw (free-is (s .pre .0) (s .pre .1 .1)) at d in
-    (b, row-whole b (whole-free (s .pre .1 .0) (s .pre .1 .1)))
+    let d = c .before .before .before .before .before .before .before .before in
+    let r = d .before .before .before in
+    let s = start d in
+    let m = c .before .before .before .before .before .before .admit in
+    let p = c .before .before .put-list .ensures in
+    let b = free-next (s .pre .0 .1) (s .pre .1 .0) (s .pre .1 .1) (r .before .before .before .load .ensures) (r .before .is-zeroed .ensures) (r .is-kernel .ensures)
+    (d .before .before .slot .ensures) (d .list-at .ensures) (rw (m .kept .0) at (m .ensures)) (p .0) in
+    ((rw (m .kept .0) b, p .1), row-whole b (whole-free (s .pre .1 .0) (s .pre .1 .1)))
 
 pub free-spec : {M : Type 1} → statement M
 free-spec =
     tie.close
     (tie.spec
     load-requires
+    cast-level
     is-zeroed-requires
     is-kernel-requires
-    cast-push
-    push-requires
+    slot-requires
+    list-at-requires
+    admit-requires
+    put-list-requires
     same-length
+    same-length-2
     returns)

@@ -1,12 +1,17 @@
 -- The search of one level is a pop of the one list asked for, or of the dirty one and then the zeroed one.
 use native.Mathlib.Omega.{arith}
 use borrow.Author.Needs.{needs}
-use Rattle.definition.specs.Frame.{levelAllocate}
+use Rattle.definition.specs.Frame.{Levels, levelAllocate}
 use Rattle.definition.specs.World.{recordAt}
+use Rattle.words.specs.Words.{rowOf, rowsIn}
+use Rattle.words.proofs.Words.{in-use-then, row-beside-then}
 use Rattle.region.specs.Rep.{stateOf}
 use Rattle.region.proofs.Laws.{rep-sound, level-page, level-none, level-zeroed, after-none}
 use Rattle.region.proofs.level_allocate.Statement.{statement}
 use Rattle.region.proofs.level_allocate.Tie as tie
+
+abbrev levels : tie.Start → Levels
+levels s = stateOf (recordAt (s .args .records .now)) (rowOf (rowsIn (s .args .words .now)) (s .args .index))
 
 mul-pop : tie.Need-mul-pop
 mul-pop c = search needs
@@ -20,9 +25,14 @@ pop-requires c κs = search needs
 same-length : tie.Need-same-length
 same-length c = search needs
 
+same-length-2 : tie.Need-same-length-2
+same-length-2 c = search needs
+
 returns : tie.Need-returns
 unfolding levelAllocate
-returns c = rw (c .before .before .before .before .if1 .taken) (c .before .before .pop .ensures)
+returns c =
+    let e = c .before .before .before .before .pop .ensures in
+    (rw (c .before .before .before .before .before .before .before .if1 .taken) (e .0), e .1)
 
 mul-pop-2 : tie.Need-mul-pop-2
 mul-pop-2 c = search needs
@@ -30,11 +40,19 @@ mul-pop-2 c = search needs
 pop-requires-2 : tie.Need-pop-requires-2
 pop-requires-2 c κs = search needs
 
-enum-told : tie.Need-enum-told
-enum-told c = search needs
+same-length-3 : tie.Need-same-length-3
+same-length-3 c = search needs
 
-enum-told-2 : tie.Need-enum-told-2
-enum-told-2 c = search needs
+same-length-4 : tie.Need-same-length-4
+same-length-4 c = search needs
+
+returns-2 : tie.Need-returns-2
+returns-2 c =
+    let d = c .before .before .before .before .before in
+    let f = d .before .before .before in
+    let s = f .before .before .before in
+    let e = d .pop2 .ensures in
+    (rw (f .if1 .left) (level-page (levels s) (s .args .level) (e .0) (s .args .try-zero) (c .if2 .taken)), e .1)
 
 mul-pop-3 : tie.Need-mul-pop-3
 mul-pop-3 c = search needs
@@ -44,33 +62,49 @@ add-pop-2 c = search needs
 
 pop-requires-3 : tie.Need-pop-requires-3
 pop-requires-3 c κs =
-    let s = c .before .before .before .before .before .before .before .before .before .before .before in
-    (rep-sound (after-none (stateOf (recordAt (s .args .records .now)) (s .args .row)) (s .args .level) (c .before .before .before .before .before .before .before .pop2 .ensures) (c .before .before .before .enum-told2 .given .1) .rep), omega arith)
+    let b = c .before .before .before in
+    let d = b .before .before .before .before .before in
+    let s = d .before .before .before .before .before .before in
+    let e = d .pop2 .ensures in (
+      (
+        in-use-then (d .pop2 .kept .1 .1 .0) (e .1 .rest) (s .pre .0 .0),
+        rep-sound (after-none (levels s) (s .args .level) (e .0) (b .if2 .left) .rep),
+      ),
+      omega arith,
+    )
 
-same-length-2 : tie.Need-same-length-2
-same-length-2 c = search needs
+same-length-5 : tie.Need-same-length-5
+same-length-5 c = search needs
 
-returns-2 : tie.Need-returns-2
-returns-2 c =
-    let s = c .before .before .before .before .before .before .before .before in
-    rw (c .before .before .before .before .before .before .if1 .left) (level-page (stateOf (recordAt (s .args .records .now)) (s .args .row)) (s .args .level) (c .before .before .before .before .pop2 .ensures) (s .args .try-zero) _ (c .enum-told .given .1))
-
-same-length-3 : tie.Need-same-length-3
-same-length-3 c = search needs
+same-length-6 : tie.Need-same-length-6
+same-length-6 c = search needs
 
 returns-3 : tie.Need-returns-3
 returns-3 c =
-    let s = c .before .before .before .before .before .before .before .before .before .before .before .before .before .before in
-    rw (c .before .before .before .before .before .before .before .before .before .before .before .before .if1 .left, c .before .before .before .before .before .if2 .taken)
-    (level-zeroed (stateOf (recordAt (s .args .records .now)) (s .args .row)) (s .args .level) (c .before .before .before .before .before .before .before .before .before .before .pop2 .ensures) (c .before .before .before .before .before .before .enum-told2 .given .1) (c .before .before .pop3 .ensures))
+    let b = c .before .before .before .before .before .before .before .before in
+    let d = b .before .before .before .before .before in
+    let f = d .before .before .before in
+    let s = f .before .before .before in
+    let e = d .pop2 .ensures in
+    let h = c .before .before .before .before .pop3 .ensures in (
+      rw (f .if1 .left, c .before .before .before .before .before .before .before .if3 .taken) (level-zeroed (levels s) (s .args .level) (e .0) (b .if2 .left) (h .0)),
+      row-beside-then (e .1) (h .1),
+    )
 
-same-length-4 : tie.Need-same-length-4
-same-length-4 c = search needs
+same-length-7 : tie.Need-same-length-7
+same-length-7 c = search needs
+
+same-length-8 : tie.Need-same-length-8
+same-length-8 c = search needs
 
 returns-4 : tie.Need-returns-4
 returns-4 c =
-    let s = c .before .before .before .before .before .before .before .before .before in
-    rw (c .before .before .before .before .before .before .before .if1 .left, c .if2 .left) (level-none (stateOf (recordAt (s .args .records .now)) (s .args .row)) (s .args .level) (c .before .before .before .before .before .pop2 .ensures) (c .before .enum-told2 .given .1))
+    let b = c .before in
+    let d = b .before .before .before .before .before in
+    let f = d .before .before .before in
+    let s = f .before .before .before in
+    let e = d .pop2 .ensures in
+    (rw (f .if1 .left, c .if3 .left) (level-none (levels s) (s .args .level) (e .0) (b .if2 .left)), e .1)
 
 pub level-allocate-spec : {M : Type 1} → statement M
 level-allocate-spec =
@@ -80,17 +114,19 @@ level-allocate-spec =
     add-pop
     pop-requires
     same-length
+    same-length-2
     returns
     mul-pop-2
     pop-requires-2
-    enum-told
-    enum-told-2
+    same-length-3
+    same-length-4
+    returns-2
     mul-pop-3
     add-pop-2
     pop-requires-3
-    same-length-2
-    returns-2
-    same-length-3
+    same-length-5
+    same-length-6
     returns-3
-    same-length-4
+    same-length-7
+    same-length-8
     returns-4)

@@ -1,20 +1,21 @@
--- The loop has pushed the children 1 to i on their list, which is out of the row; the push after it is child 0's.
+-- The loop has pushed the children 1 to i on their list, which is out of the row; the push after it is child 0's, and then the list is written back.
 use borrow.Author.Needs.{needs}
-use Prim.Native.Nat.{ℕ, suc, _+_, _-_, _≤_, _<_}
+use Prim.Native.Nat.{ℕ, suc, _+_, _-_, _*_, _≤_, _<_, _^_}
 use mathlib.Core.Bool.{Bool, true, false}
 use mathlib.Core.List.{List}
-use mathlib.Core.Path.{_≡_, refl, _∙_}
+use mathlib.Core.Path.{_≡_, refl, sym, subst, _∙_}
 use native.Mathlib.Numerals.{add-one}
 use native.Mathlib.Omega.{arith}
 use lib.ListN.{length}
-use Rattle.definition.specs.Frame.{children, size, slot}
+use Rattle.definition.specs.Frame.{children, slot}
 use Rattle.definition.specs.World.{recordAt}
 use Rattle.definition.specs.declared.Links.{Links}
 use Rattle.definition.specs.declared.Row.{Row}
 use Rattle.record.specs.Records.{pagesIn}
-use Rattle.region.specs.Rep.{Becomes, stateOf, withList}
+use Rattle.words.specs.Words.{rowOf, rowsIn, withList}
+use Rattle.region.specs.Rep.{Becomes, stateOf}
 use Rattle.region.proofs.Laws.{taken-out, out-asks, out-next}
-use Rattle.region.proofs.Splitting.{zeroed-mark, child-ends, child-inside, page-inside, child-out, page-out, whole}
+use Rattle.region.proofs.Splitting.{zeroed-mark, child-inside, page-inside, child-out, page-out, split-is}
 use Rattle.region.proofs.split.Statement.{statement}
 use Rattle.region.proofs.split.Tie as tie
 
@@ -26,66 +27,76 @@ record Inv (records₀ : List ℕ) (first page level : ℕ) (row : Row) (zeroed 
       (children i (stateOf (recordAt records₀) row) page level zeroed)
 
 abbrev Inv-loop : tie.InvT-loop
-Inv-loop records₀ first page level row zeroed step k l₀ i₀ records l i = Inv records₀ first page level row zeroed records l i
+Inv-loop records₀ first words index page level zeroed step k l₀ i₀ records l i =
+    Inv records₀ first page level (rowOf (rowsIn words) index) zeroed records l i
 
 abbrev μ-loop : tie.MeasureT-loop
-μ-loop records₀ first page level row zeroed step k l₀ i₀ records l i = 511 - i
+μ-loop records₀ first words index page level zeroed step k l₀ i₀ records l i = 511 - i
 
 marks-requires : tie.Need-marks-requires Inv-loop μ-loop
-marks-requires c κs = let s = c .before .before in omega (arith, page-inside (s .pre .1) true .high, s .pre .0 .fits)
+marks-requires c κs = let s = c .before .before .before in omega (arith, page-inside (s .pre .1) true .high, s .pre .0 .1 .fits)
 
 is-zeroed-requires : tie.Need-is-zeroed-requires Inv-loop μ-loop
 is-zeroed-requires c κs = search needs
 
 pages-at-requires : tie.Need-pages-at-requires Inv-loop μ-loop
-pages-at-requires c κs = omega (arith, c .before .before .before .before .pre .1 .small)
+pages-at-requires c κs = omega (arith, c .before .before .before .before .before .pre .1 .small)
 
 slot-requires : tie.Need-slot-requires Inv-loop μ-loop
-slot-requires c κs = omega (arith, c .before .before .before .before .before .pre .1 .small)
+slot-requires c κs = omega (arith, c .before .before .before .before .before .before .pre .1 .small)
 
-mul-l : tie.Need-mul-l Inv-loop μ-loop
-mul-l c = search needs
-
-element-copy-out-l : tie.Need-element-copy-out-l Inv-loop μ-loop
-element-copy-out-l c = search needs
+list-at-requires : tie.Need-list-at-requires Inv-loop μ-loop
+list-at-requires c κs = search needs
 
 loop-holds : tie.Need-loop-holds Inv-loop μ-loop
 unfolding children
 loop-holds c =
-    let s = c .before .before .before .before .before .before .before in
-    let k = c .before .slot in
+    let s = c .before .before .before .before .before .before .before .before .before in
+    let z = c .before .before .before .before .is-zeroed .result in
     record {
       some = omega arith;
       same = refl;
-      became = rw (k .ensures .0) (taken-out (slot (s .args .level) (c .before .before .before .is-zeroed .result)) (s .pre .0));
+      became = rw (c .list-at .ensures, c .before .before .slot .ensures .0) (taken-out (slot (s .args .level) z) (s .pre .0 .1));
     }
+
+-- ---- what is known at the loop
+
+abbrev start : tie.At-loop Inv-loop μ-loop → tie.Start Inv-loop μ-loop
+start k = k .before .before .before .before .before .before .before .before .before .before
+
+abbrev mark : tie.At-loop Inv-loop μ-loop → Bool
+mark k = k .before .before .before .before .before .is-zeroed .result
+
+a-list : (k : tie.At-loop Inv-loop μ-loop) → slot (start k .args .level) (mark k) < 6
+a-list k = let t = k .before .before .before .slot in rw (t .ensures .0) at (t .ensures .1)
+
+-- the child's page is a number that fits
+child-fits
+    : (c : tie.In-loop Inv-loop μ-loop) → let k = c .before in
+    start k .args .page + (k .loop .i + 1) * k .before .before .before .before .pages-at .result < 2 ^ 32
+child-fits c =
+    let k = c .before in
+    let s = start k in
+    subst (λ (m : ℕ). s .args .page + (k .loop .i + 1) * m < 2 ^ 32) (sym (k .before .before .before .before .pages-at .ensures))
+    (omega (arith, child-inside (s .pre .1) (mark k) (k .loop .i + 1) (omega arith) .high, s .pre .0 .1 .small))
 
 add-admit : tie.Need-add-admit Inv-loop μ-loop
 add-admit c = omega arith
 
 mul-admit : tie.Need-mul-admit Inv-loop μ-loop
-mul-admit c =
-    let s = c .before .before .before .before .before .before .before .before .before .before in
-    let k = c .before .before .loop in
-    rw (c .before .before .before .before .before .pages-at .ensures)
-    (omega (arith, child-ends (k .i + 1) (size (s .args .level)) (omega arith), s .pre .1 .high, s .pre .0 .fits, s .pre .0 .small))
+mul-admit c = omega (arith, child-fits (c .before))
 
 add-admit-2 : tie.Need-add-admit-2 Inv-loop μ-loop
-add-admit-2 c =
-    let s = c .before .before .before .before .before .before .before .before .before .before in
-    let k = c .before .before .loop in
-    rw (c .before .before .before .before .before .pages-at .ensures)
-    (omega (arith, child-ends (k .i + 1) (size (s .args .level)) (omega arith), s .pre .1 .high, s .pre .0 .fits, s .pre .0 .small))
+add-admit-2 c = omega (arith, child-fits (c .before))
 
 admit-requires : tie.Need-admit-requires Inv-loop μ-loop
 admit-requires c κs =
-    let s = c .before .before .before .before .before .before .before .before .before .before in
-    let k = c .before .before .loop in
-    let z = c .before .before .before .before .before .before .is-zeroed .result in
-    let t = c .before .before .before .before .slot in
-    let h : slot (s .args .level) z < 6 = rw (t .ensures .0) at (t .ensures .1) in
-    rw (c .before .before .before .before .before .pages-at .ensures, add-one (k .i))
-    (out-asks (s .args .level) z false (k .inv .became) h (child-inside (s .pre .1) z (suc (k .i)) (omega arith)) (child-out (s .pre .1) z (k .i) (omega arith))
+    let k = c .before .before in
+    let s = start k in
+    let i = k .loop .i in
+    rw (k .before .before .before .before .pages-at .ensures, add-one i)
+    (out-asks (s .args .level) (mark k) false (k .loop .inv .became) (a-list k) (child-inside (s .pre .1) (mark k) (suc i) (omega arith))
+    (child-out (s .pre .1) (mark k) i (omega arith))
     (omega (arith, s .pre .1 .small)))
 
 add-i : tie.Need-add-i Inv-loop μ-loop
@@ -97,56 +108,55 @@ loop-less c = omega arith
 loop-again : tie.Need-loop-again Inv-loop μ-loop
 unfolding children
 loop-again c =
-    let s = c .before .before .before .before .before .before .before .before .before .before .before .before .before in
-    let k = c .before .before .before .before .before .loop in
-    let z = c .before .before .before .before .before .before .before .before .before .is-zeroed .result in
-    let t = c .before .before .before .before .before .before .before .slot in
+    let k = c .before .before .before .before .before in
+    let s = start k in
+    let i = k .loop .i in
     let d = c .before .before .admit in
-    let h : slot (s .args .level) z < 6 = rw (t .ensures .0) at (t .ensures .1) in
     record {
       some = omega arith;
       same = omega (arith, d .kept .0);
       became =
-          rw (add-one (k .i), d .kept .0)
-          (out-next (s .args .level) z false (k .inv .became) h (child-inside (s .pre .1) z (suc (k .i)) (omega arith))
-          (child-out (s .pre .1) z (k .i) (omega arith))
-          (rw (c .before .before .before .before .before .before .before .before .pages-at .ensures, add-one (k .i), d .kept .0) at (d .ensures)));
+          rw (add-one i, d .kept .0)
+          (out-next (s .args .level) (mark k) false (k .loop .inv .became) (a-list k) (child-inside (s .pre .1) (mark k) (suc i) (omega arith))
+          (child-out (s .pre .1) (mark k) i (omega arith))
+          (rw (k .before .before .before .before .pages-at .ensures, add-one i, d .kept .0) at (d .ensures)));
     }
+
+all-pushed : (c : tie.After-loop Inv-loop μ-loop) → c .before .loop .i ≡ 511
+all-pushed c = omega arith
 
 admit-requires-2 : tie.Need-admit-requires-2 Inv-loop μ-loop
 admit-requires-2 c κs =
-    let s = c .before .before .before .before .before .before .before .before .before .before in
-    let k = c .before .before .loop in
-    let z = c .before .before .before .before .before .before .is-zeroed .result in
-    let t = c .before .before .before .before .slot in
-    let h : slot (s .args .level) z < 6 = rw (t .ensures .0) at (t .ensures .1) in
-    let e : k .i ≡ 511 = omega arith in
-    out-asks (s .args .level) z false (k .inv .became) h (page-inside (s .pre .1) z) (rw e (page-out (s .pre .1) z)) (omega (arith, s .pre .1 .small))
+    let k = c .before .before in
+    let s = start k in
+    let e = all-pushed (c .before) in
+    out-asks (s .args .level) (mark k) false (k .loop .inv .became) (a-list k) (page-inside (s .pre .1) (mark k)) (rw e (page-out (s .pre .1) (mark k)))
+    (omega (arith, s .pre .1 .small))
 
-mul-all : tie.Need-mul-all Inv-loop μ-loop
-mul-all c = search needs
-
-element-set-from-all : tie.Need-element-set-from-all Inv-loop μ-loop
-element-set-from-all c = search needs
+put-list-requires : tie.Need-put-list-requires Inv-loop μ-loop
+put-list-requires c κs = search needs
 
 same-length : tie.Need-same-length Inv-loop μ-loop
 same-length c = omega arith
 
+same-length-2 : tie.Need-same-length-2 Inv-loop μ-loop
+same-length-2 c = omega arith
+
 returns : tie.Need-returns Inv-loop μ-loop
 returns c =
-    let s = c .before .before .before .before .before .before .before .before .before .before .before .before .before in
-    let k = c .before .before .before .before .before .loop in
-    let z = c .before .before .before .before .before .before .before .before .before .is-zeroed .result in
-    let t = c .before .before .before .before .before .before .before .slot in
-    let d = c .before .before .admit2 in
-    let h : slot (s .args .level) z < 6 = rw (t .ensures .0) at (t .ensures .1) in
-    let e : k .i ≡ 511 = omega arith in
-    let y = rw (c .before .before .before .before .before .before .before .before .before .before .marks .ensures) at (c .before .before .before .before .before .before .before .before .before .is-zeroed .ensures) in
-    let u = stateOf (recordAt (s .args .records .now)) (s .args .t3) in
-    rw (d .kept .0, t .ensures .0)
-    (whole u (s .args .page) (s .args .level) z (k .i)
-    (out-next (s .args .level) z false (k .inv .became) h (page-inside (s .pre .1) z) (rw e (page-out (s .pre .1) z)) (rw (d .kept .0) at (d .ensures)))
-    e (y ∙ zeroed-mark (s .args .page) (page-inside (s .pre .1) z) (s .pre .0)))
+    let k = c .before .before .before .before .before .before .before .before .before in
+    let s = start k in
+    let d = c .before .before .before .before .before .before .admit2 in
+    let p = c .before .before .put-list .ensures in
+    let e = all-pushed (c .before .before .before .before .before .before .before .before) in
+    let i = page-inside (s .pre .1) (mark k) in
+    let y = rw (k .before .before .before .before .before .before .marks .ensures) at (k .before .before .before .before .before .is-zeroed .ensures) in
+    let u = stateOf (recordAt (s .args .records .now)) (rowOf (rowsIn (s .args .words .now)) (s .args .index)) in
+    let w = split-is u (s .args .page) (s .args .level) (mark k) (k .loop .i) e (y ∙ zeroed-mark (s .args .page) i (s .pre .0 .1)) in (
+      rw (p .0, d .kept .0, k .before .before .before .slot .ensures .0, ← w)
+          (out-next (s .args .level) (mark k) false (k .loop .inv .became) (a-list k) i (rw e (page-out (s .pre .1) (mark k))) (rw (d .kept .0) at (d .ensures))),
+      p .1,
+    )
 
 pub split-spec : {M : Type 1} → statement M
 split-spec =
@@ -158,8 +168,7 @@ split-spec =
     is-zeroed-requires
     pages-at-requires
     slot-requires
-    mul-l
-    element-copy-out-l
+    list-at-requires
     loop-holds
     add-admit
     mul-admit
@@ -169,7 +178,7 @@ split-spec =
     loop-less
     loop-again
     admit-requires-2
-    mul-all
-    element-set-from-all
+    put-list-requires
     same-length
+    same-length-2
     returns)

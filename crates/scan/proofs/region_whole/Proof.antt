@@ -58,7 +58,7 @@ returns c =
     let a = s .before .before .before .args in
     let x = placedAt (a .base) (a .row) in
     let p = s .before .before .before .pre in
-    let w = placed-walks (recordAt (a .records .now)) x (a .past) (c .all-walk .result) (p .1 .0 .1) (rw (← p .0 .3) at (c .all-walk .ensures)) in
+    let w = placed-walks (recordAt (a .records .now)) x (a .past) (c .all-walk .result) (p .1 .0 .1) (rw (← p .0 .1) at (c .all-walk .ensures)) in
     by-lists (recordAt (a .records .now)) x (s .scan .result) (tally s) (c .before .before .before .before .before .if1 .taken)
     (sym (c .before .before .before .before .listed-pages .ensures) ∙ c .before .if2 .taken ∙ unheld s) (c .all-walk .result) w
 

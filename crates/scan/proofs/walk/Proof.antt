@@ -17,13 +17,13 @@ use Rattle.scan.proofs.walk.Statement.{statement}
 use Rattle.scan.proofs.walk.Tie as tie
 
 abbrev Inv-loop : tie.InvT-loop
-Inv-loop records base past k kind prev₀ at₀ next₀ last₀ left₀ prev at next last left =
+Inv-loop records base past k front back count kind prev₀ at₀ next₀ last₀ left₀ prev at next last left =
     (at < 4294967296)
     × (last < 4294967296)
     × (walksAt (recordAt records) base past k left₀ 0 at₀ last₀ ≡ between (recordAt records) base past k left prev at next last)
 
 abbrev μ-loop : tie.MeasureT-loop
-μ-loop records base past k kind prev₀ at₀ next₀ last₀ left₀ prev at next last left = left
+μ-loop records base past k front back count kind prev₀ at₀ next₀ last₀ left₀ prev at next last left = left
 
 list-kind-requires : tie.Need-list-kind-requires Inv-loop μ-loop
 list-kind-requires c κs = search needs
@@ -31,7 +31,7 @@ list-kind-requires c κs = search needs
 loop-holds : tie.Need-loop-holds Inv-loop μ-loop
 loop-holds c =
     let a = c .before .before .args in
-    (search needs, search needs, walks-between (recordAt (a .records .now)) (a .base) (a .past) (a .k) (a .links .count) 0 (a .links .front) (a .links .back))
+    (search needs, search needs, walks-between (recordAt (a .records .now)) (a .base) (a .past) (a .k) (a .count) 0 (a .front) (a .back))
 
 is-node-requires : tie.Need-is-node-requires Inv-loop μ-loop
 is-node-requires c κs = search needs
@@ -53,7 +53,7 @@ step : (c : tie.In-loop Inv-loop μ-loop)
     → let a = c .before .before .before .before .args in
     let s = c .before .loop in
     let f = recordAt (a .records .now) in
-    walksAt f (a .base) (a .past) (a .k) (a .links .count) 0 (a .links .front) (a .links .back)
+    walksAt f (a .base) (a .past) (a .k) (a .count) 0 (a .front) (a .back)
     ≡ (nodeAt f (a .base) (a .past) (a .k) (s .prev) (s .at)
     && (backNodeAt f (a .base) (a .past) (a .k) (s .last) (s .next)
     && between f (a .base) (a .past) (a .k) (s .left - 2) (s .at) (f (s .at - 1) .later) (s .last) (f (s .last - 1) .earlier)))
@@ -154,7 +154,7 @@ one : (c : tie.Then3 Inv-loop μ-loop)
     → let a = c .before .before .before .before .before .args in
     let s = c .before .before .loop in
     let f = recordAt (a .records .now) in
-    walksAt f (a .base) (a .past) (a .k) (a .links .count) 0 (a .links .front) (a .links .back)
+    walksAt f (a .base) (a .past) (a .k) (a .count) 0 (a .front) (a .back)
     ≡ (nodeAt f (a .base) (a .past) (a .k) (s .prev) (s .at) && (eqb (f (s .at - 1) .later) (s .next) && eqb (s .at) (s .last)))
 one c =
     let a = c .before .before .before .before .before .args in
@@ -197,7 +197,7 @@ later-requires-2 c κs = let d = one-on c in omega arith
 meet : (c : tie.Joined3 Inv-loop μ-loop)
     → let a = c .before .before .before .before .before .args in
     let s = c .before .before .loop in
-    walksAt (recordAt (a .records .now)) (a .base) (a .past) (a .k) (a .links .count) 0 (a .links .front) (a .links .back)
+    walksAt (recordAt (a .records .now)) (a .base) (a .past) (a .k) (a .count) 0 (a .front) (a .back)
     ≡ (eqb (c .if3 .at) (s .next) && eqb (c .if3 .prev) (s .last))
 meet c =
     let a = c .before .before .before .before .before .args in
