@@ -65,14 +65,15 @@ fn depth(driver: Calls, loans: &mut Loans, number: u64) -> usize {
 pub fn run() {
     println!("\n{:<39}{:>12}", "stack below a boot and calls, bytes", "Rattle");
     let nothing: Calls = |_, _, _| 0;
-    let row = |name: &str, driver: Calls, number: u64| {
-        let mut loans = loans(1024);
+    let row = |name: &str, pages: usize, driver: Calls, number: u64| {
+        let mut loans = loans(pages);
         let own = depth(nothing, &mut loans, number);
         println!("{name:<39}{:>12}", depth(driver, &mut loans, number) - own);
     };
-    row("find", rattle::finds, FIRST);
-    row("grant and free", rattle::grants_and_frees, 0);
-    row("grant and zero", rattle::zero, PAGE as u64);
-    row("grant and fill", rattle::fill, PAGE as u64);
-    row("two grants and copy", rattle::copy, PAGE as u64);
+    row("find", 1024, rattle::finds, FIRST);
+    row("grant and free", 1024, rattle::grants_and_frees, 0);
+    row("grant that splits 1 GiB, and free", 262_144, rattle::grants_and_frees, 0);
+    row("grant and zero", 1024, rattle::zero, PAGE as u64);
+    row("grant and fill", 1024, rattle::fill, PAGE as u64);
+    row("two grants and copy", 1024, rattle::copy, PAGE as u64);
 }

@@ -2,7 +2,6 @@
 // of a map are any of 64 bits, so an entry is rounded to pages only once no usable one ends past 2^40.
 use address::PhysAddr;
 use definition::Counters;
-use definition::Links;
 use definition::MemoryRegion;
 use definition::MemoryRegionKind;
 use definition::Pass;
@@ -17,7 +16,6 @@ ghost use Rattle.definition.specs.Basics.{any};
 ghost use Rattle.definition.specs.Boot.{countersAtBoot, endsFar};
 ghost use Rattle.definition.specs.World.{recordAt};
 ghost use Rattle.record.specs.Records.{pagesIn};
-ghost use Rattle.region.specs.Rep.{emptyRow};
 ghost use Rattle.exam.specs.Promise.{stateWith, worldOf};
 ghost use Rattle.boot.specs.Booting.{
   Keeps,
@@ -73,23 +71,6 @@ fn any_far(map: [MemoryRegion; 8], count: usize) -> bool
     false
 }
 
-// A row with no frames.
-fn empty_row(start: PhysAddr, pages: usize) -> Row
-    ensures { λ r. ⌜ r ≡ emptyRow start pages ⌝ }
-{
-    let none = Links {
-        front: 0,
-        back: 0,
-        count: 0,
-    };
-    let lists = [none; 6];
-    Row {
-        start,
-        pages,
-        lists,
-    }
-}
-
 // AllocationRegion::new, frame.rs 277, up to its frames: the row of an entry that is kept, else an unused one. An entry of more than one page has more pages than
 // its tables take.
 fn keep(entry: MemoryRegion) -> Row
@@ -98,20 +79,20 @@ fn keep(entry: MemoryRegion) -> Row
 {
     let kind = entry.kind;
     if !is_usable(kind) {
-        return empty_row(PhysAddr::new(0), 0);
+        return region::empty_row(PhysAddr::new(0), 0);
     }
     let begin = entry.start;
     let start = begin.align_up(4096);
     let gap = start.raw() - begin.raw();
     let length = entry.length as u64;
     if length < gap {
-        return empty_row(PhysAddr::new(0), 0);
+        return region::empty_row(PhysAddr::new(0), 0);
     }
     let pages = ((length - gap) / 4096) as usize;
     if pages <= 1 {
-        return empty_row(PhysAddr::new(0), 0);
+        return region::empty_row(PhysAddr::new(0), 0);
     }
-    empty_row(start, pages)
+    region::empty_row(start, pages)
 }
 
 // The rows of the entries that a map keeps, and how many they are.
@@ -125,7 +106,7 @@ fn kept_rows(map: [MemoryRegion; 8], count: usize) -> Kept
     requires { ⌜ (count ≤ 8) × (any endsFar (take count map) ≡ false) ⌝ }
     ensures { λ r. ⌜ Keeps (take count map) r ⌝ }
 {
-    let none = empty_row(PhysAddr::new(0), 0);
+    let none = region::empty_row(PhysAddr::new(0), 0);
     let mut rows = [none; 8];
     let mut used: usize = 0;
     let mut i: usize = 0;

@@ -162,16 +162,7 @@ fn keep(words: &mut [u64], row: Row)
     requires { ⌜ 92 ≤ length (now words) ⌝ }
     ensures { λ _. ⌜ InUse (now (words .exit)) 0 × (rowOf (rowsIn (now (words .exit))) 0 ≡ row) ⌝ }
 {
-    let none = Links {
-        front: 0,
-        back: 0,
-        count: 0,
-    };
-    let unused = Row {
-        start: PhysAddr::new(0),
-        pages: 0,
-        lists: [none; 6],
-    };
+    let unused = region::empty_row(PhysAddr::new(0), 0);
     let mut rows = [unused; 8];
     rows[0] = row;
     words::put_kept(

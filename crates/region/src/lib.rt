@@ -348,6 +348,23 @@ pub fn table_pages(pages: usize) -> usize
     (32 * pages + 4095) / 4096
 }
 
+// A row with no frames.
+pub fn empty_row(start: PhysAddr, pages: usize) -> Row
+    ensures { λ r. ⌜ r ≡ emptyRow start pages ⌝ }
+{
+    let none = Links {
+        front: 0,
+        back: 0,
+        count: 0,
+    };
+    let lists = [none; 6];
+    Row {
+        start,
+        pages,
+        lists,
+    }
+}
+
 // AllocationRegion::new, frame.rs 277, of a map entry that is kept: whatever stood in its records, they become its frames, all free.
 pub fn new(records: &mut [u8], first: usize, start: PhysAddr, pages: usize) -> Row
     requires { ⌜ (pages ≤ 1048576) × (first + managed pages < 2 ^ 32) × (first + managed pages ≤ pagesIn (now records)) ⌝ }
@@ -357,17 +374,7 @@ pub fn new(records: &mut [u8], first: usize, start: PhysAddr, pages: usize) -> R
     let tables = table_pages(pages);
     let count = pages - tables;
     record::clear(records, first, count);
-    let none = Links {
-        front: 0,
-        back: 0,
-        count: 0,
-    };
-    let lists = [none; 6];
-    let row = Row {
-        start,
-        pages,
-        lists,
-    };
+    let row = empty_row(start, pages);
     organize(records, first, row, start.page_number() + tables, count)
 }
 

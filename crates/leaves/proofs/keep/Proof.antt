@@ -52,6 +52,9 @@ module _ (ws : List ℕ) (row : Row) (h : 92 ≤ length ws) (n : NarrowRow row) 
 new-requires : tie.Need-new-requires
 new-requires c κs = search needs
 
+empty-row-requires : tie.Need-empty-row-requires
+empty-row-requires c κs = search needs
+
 array-set-from-rows : tie.Need-array-set-from-rows
 array-set-from-rows c = search needs
 
@@ -64,9 +67,9 @@ same-length c = search needs
 returns : tie.Need-returns
 returns c =
     let d = c .before .before in
-    let n = d .before .before in
-    let s = n .before .before in
-    rw (d .put-kept .ensures, n .new .ensures) (kept-alone (s .args .words .now) (s .args .row) (s .pre) (row-narrow (s .args .row) _ (s .good .1 .0)))
+    let u = d .before .before in
+    let s = u .before .before .before in
+    rw (d .put-kept .ensures, u .empty-row .ensures, u .before .new .ensures) (kept-alone (s .args .words .now) (s .args .row) (s .pre) (row-narrow (s .args .row) _ (s .good .1 .0)))
 
 pub keep-spec : {M : Type 1} → statement M
-keep-spec = tie.close (tie.spec new-requires array-set-from-rows put-kept-requires same-length returns)
+keep-spec = tie.close (tie.spec new-requires empty-row-requires array-set-from-rows put-kept-requires same-length returns)

@@ -18,6 +18,9 @@ clear-requires c κs =
     let s = c .before .before .before in
     rw (count-is (s .args .start) (s .args .pages) (c .before .table-pages .ensures)) (s .pre .2)
 
+empty-row-requires : tie.Need-empty-row-requires
+empty-row-requires c κs = search needs
+
 page-number-requires : tie.Need-page-number-requires
 page-number-requires c κs = search needs
 
@@ -26,13 +29,14 @@ add-organize c = search needs
 
 organize-requires : tie.Need-organize-requires
 organize-requires c κs =
-    let s = c .before .before .before .before .before .before .before .before in
-    let k = c .before .before .before .before .clear in
-    let t = c .before .before .before .before .before .before .table-pages .ensures in
+    let r = c .before .before in
+    let k = r .before .before .before .clear in
+    let t = r .before .before .before .before .before .table-pages .ensures in
+    let s = r .before .before .before .before .before .before .before in
     let e = count-is (s .args .start) (s .args .pages) t in
     let d = begins-at (s .args .start) (s .args .pages) t _ (c .page-number .ensures) in
     let low = ends-low (s .args .start) (s .args .pages) t (c .page-number .result) (omega (arith, c .page-number .ensures)) (s .pre .0) in
-    rw (k .ensures .1, k .kept .0, e, d) (
+    rw (k .ensures .1, k .kept .0, r .empty-row .ensures, e, d) (
       blank-sound (recordAt (s .args .records .now)) _ (s .args .first) (s .args .start) (s .args .pages) (s .pre .1) (s .pre .2),
       ((refl, refl, rw (e, d) at low), blank (recordAt (s .args .records .now)) _ (s .args .first) (s .args .start) (s .args .pages) (s .pre .1) (s .pre .2)),
     )
@@ -42,13 +46,15 @@ same-length c = search needs
 
 returns : tie.Need-returns
 returns c =
-    let s = c .before .before .before .before .before .before .before .before .before .before .before in
-    let k = c .before .before .before .before .before .before .before .clear in
-    let t = c .before .before .before .before .before .before .before .before .before .table-pages .ensures in
     let o = c .before .before .organize in
+    let r = c .before .before .before .before .before in
+    let k = r .before .before .before .clear in
+    let t = r .before .before .before .before .before .table-pages .ensures in
+    let s = r .before .before .before .before .before .before .before in
     let e = count-is (s .args .start) (s .args .pages) t in
     let d = begins-at (s .args .start) (s .args .pages) t _ (c .before .before .before .page-number .ensures) in
-    (begun (recordAt (s .args .records .now)) _ (s .args .first) (s .args .start) (s .args .pages) (s .pre .1) (s .pre .2) (rw (k .ensures .1, e, d) at (o .ensures .0)), o .ensures .1)
+    let l = rw (r .empty-row .ensures) at (o .ensures) in
+    (begun (recordAt (s .args .records .now)) _ (s .args .first) (s .args .start) (s .args .pages) (s .pre .1) (s .pre .2) (rw (k .ensures .1, e, d) at (l .0)), l .1)
 
 pub new-spec : {M : Type 1} → statement M
 new-spec =
@@ -57,6 +63,7 @@ new-spec =
     table-pages-requires
     sub-count
     clear-requires
+    empty-row-requires
     page-number-requires
     add-organize
     organize-requires
