@@ -19,8 +19,8 @@
  * returns 0 where the call was accepted, else the number of the refusal, enum
  * jilakkor_refusal; the lowest that applies. A refused call changes nothing that
  * was lent. Each call tests all that it is lent and is refused 6 where that is no
- * whole state: after a write by somebody else, with fewer words or another
- * version in the first, or an answer of fewer than two places. The boot reads no
+ * whole state: after a write by somebody else, with fewer words, another version
+ * or over 8 rows in the first, or an answer of fewer than two places. The boot reads no
  * state; what is too short for it is refused 5.
  */
 #ifndef JILAKKOR_H
@@ -133,7 +133,7 @@ struct jilakkor_row {
  */
 struct jilakkor_state {
     uint32_t version;
-    uint32_t used; /* rows; the words of the others are nothing's */
+    uint32_t used; /* rows, at most 8; the words of the others are nothing's */
     struct jilakkor_row rows[JILAKKOR_ROWS];
     uint64_t queued; /* places of the queue that are taken */
     uint64_t rounds; /* of the pass of reclaim rounds under way, */

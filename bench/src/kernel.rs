@@ -1,6 +1,6 @@
-//! Grants and frees through the library that a kernel links, against the kernel's
-//! own, on a store of so many pages; and what the exported call adds to a find: the
-//! test of the words, the counters read and written, the dispatch and the answer.
+//! Grants, frees and finds through the library that a kernel links, against the
+//! kernel's own, on a store of so many pages; and what the exported call adds to a
+//! find: the test of the words, the counters read out of them and the answer.
 
 use std::{alloc::Layout, hint::black_box};
 
@@ -33,27 +33,33 @@ pub fn run(managed: usize) {
         }
     };
     let theirs = original::boot(start, length);
-    heading("the library, ns a pair");
+    heading("the library, ns a call");
     against(
-        &format!("{managed} pages: a grant and its free"),
+        &format!("{managed} pages: a grant and its free, a pair"),
         times,
         &mut ours,
         theirs.as_ref(),
         |it| (it.grants_and_frees)(times),
     );
+    let mut finds = || find(&mut store, times);
+    against(&format!("{managed} pages: a find"), times, &mut finds, theirs.as_ref(), |it| {
+        (it.finds)(FIRST, times)
+    });
     if managed == 16 {
         exported(&mut store);
+    }
+}
+
+fn find(store: &mut FrameStore, times: usize) {
+    for _ in 0..times {
+        black_box(store.get_frame(black_box(PhysAddr::new(FIRST))).unwrap());
     }
 }
 
 /// A find through the library and the same find in a loop of Rattle's own, which has
 /// the counters by value: what lies between is the exported call's.
 fn exported(store: &mut FrameStore) {
-    let mut lent = || {
-        for _ in 0..TIMES {
-            black_box(store.get_frame(black_box(PhysAddr::new(FIRST))).unwrap());
-        }
-    };
+    let mut lent = || find(store, TIMES);
     let mut loans = loans(16);
     let mut inside = || drive(rattle::finds, &mut loans, FIRST, TIMES);
     let [lent, inside] = best(TURNS, 1, [&mut lent, &mut inside]).map(|time| time / TIMES as f64);

@@ -20,7 +20,7 @@ pub const WORDS: usize = 101;
 pub const KEPT_WORDS: usize = 92;
 
 /// The number in the low half of the first word: the version of this layout. The
-/// high half has the number of regions.
+/// high half has the number of regions, at most eight.
 pub const VERSION: u64 = 1;
 
 /// Bytes that the statistics need.

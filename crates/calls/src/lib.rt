@@ -29,7 +29,7 @@ pub fn kind_of(n: u64) -> MemoryRegionKind
 }
 
 // "1 ZEROED + 2 KERNEL + 4 WAIT_OK".
-fn flags_of(n: u64) -> FrameAllocFlags
+pub fn flags_of(n: u64) -> FrameAllocFlags
     ensures { λ r. ⌜ r ≡ flagsOf n ⌝ }
 {
     FrameAllocFlags {

@@ -112,7 +112,7 @@ module _ (w : World) (s : sound standard w ≡ true) {used : ℕ} (m : length (u
       let eight = narrow .eight in
       record {
         long = with-length ws 0 (keptOf n (w .rows) (w .queued) (w .pass)) (omega (arith, length-kept n (w .rows) (w .queued) (w .pass) eight));
-        kept = kept-written ws n (w .rows) (w .queued) (w .pass) enough eight;
+        kept = kept-written ws n (w .rows) (w .queued) (w .pass) enough eight (omega (arith, used-most (w .rows), eight));
         first = used-written ws n (w .rows) (w .queued) (w .pass) enough eight ∙ m;
         rows = rows-written ws n (w .rows) (w .queued) (w .pass) enough (omega (arith, used-most (w .rows), eight)) narrow unused;
         queued = queued-written ws n (w .rows) (w .queued) (w .pass) enough eight;

@@ -66,7 +66,7 @@ use Rattle.service.specs.Serving.{
 -- ---- the tests of the loans
 
 pub kept-long : (ws : List ℕ) → isKept ws ≡ true → 92 ≤ length ws
-kept-long ws e = leb-true 92 (length ws) (and-left (leb 92 (length ws)) (eqb (lowHalf (wordIn ws 0)) 1) e)
+kept-long ws e = leb-true 92 (length ws) (and-left (leb 92 (length ws)) _ e)
 
 module _ (l : Lent) (e : isLentKept l ≡ true) where
   pub lent-words : 92 ≤ length (l .words)
@@ -133,11 +133,16 @@ module _ (c : Call) (l : Lent) (e : isLent l ≡ true) where
   unfolding served servedWith
   in-words = rw (e, lent-kept l e) refl
 
+  -- where the counters that it leaves are written over the words that it leaves
+  pub made-in-words : {k′ : Counters} {l′ : Lent} {r : ℕ} → ServesWith c (countersIn (l .words)) l k′ l′ r
+      → served c l ≡ wordsFrom (record { counters = k′; served = record { lent = l′; number = r } })
+  made-in-words S = in-words ∙ ap wordsFrom S
+
   -- where neither the words nor the counters change
   pub kept-in-words : {records memory queue answer : List ℕ} {r : ℕ}
       → ServesWith c (countersIn (l .words)) l (countersIn (l .words)) (besides l records memory queue answer) r
       → Serves c l (besides l records memory queue answer) r
-  kept-in-words S = in-words ∙ ap wordsFrom S ∙ rw (counters-again (l .words) (lent-long l e)) refl
+  kept-in-words S = made-in-words S ∙ rw (counters-again (l .words) (lent-long l e)) refl
 
 -- ---- a read
 

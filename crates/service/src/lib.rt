@@ -10,7 +10,8 @@ ghost use mathlib.Core.List.{[]};
 ghost use mathlib.Core.Path.{_≡_};
 ghost use Prim.Native.Nat.{_≤_};
 ghost use lib.ListN.{length, getD};
-ghost use Rattle.definition.specs.Calls.{Write};
+ghost use Rattle.definition.specs.Calls.{Alloc, Free, Find, Write};
+ghost use Rattle.definition.specs.Script.{flagsOf};
 ghost use Rattle.lines.specs.Reading.{callOf};
 ghost use Rattle.service.specs.Serving.{
   tells,
@@ -119,6 +120,78 @@ pub fn serve(
     let left = c.counters;
     words::put_counters(words, left);
     c.number
+}
+
+// The three calls that a kernel makes most go straight to their crates: of what is handed through the dispatch of all calls, the counters are copied at each step.
+
+// get_frame leaves all loans but the answer as they are.
+pub fn serve_find(
+    words: &[u64],
+    records: &[u8],
+    memory: &[u8],
+    queue: &[u64],
+    answer: &mut [u64],
+    pa: PhysAddr,
+) -> u32
+    ensures { λ r. ⌜ Serves (Find (pa .0)) (record { words = now (words .entry); records = now (records .entry); memory = now (memory .entry); queue = now (queue .entry); answer = now (answer .entry) }) (record { words = now (words .entry); records = now (records .entry); memory = now (memory .entry); queue = now (queue .entry); answer = now (answer .exit) }) r ⌝ }
+{
+    if !is_lent(words, answer) {
+        return 6;
+    }
+    let counters = words::counters_in(words);
+    let y = frames::find(counters, words, records, memory, queue, pa);
+    tell(answer, y)
+}
+
+pub fn serve_free(
+    words: &mut [u64],
+    records: &mut [u8],
+    memory: &[u8],
+    queue: &[u64],
+    answer: &mut [u64],
+    pa: PhysAddr,
+) -> u32
+    ensures { λ r. ⌜ Serves (Free (pa .0)) (record { words = now (words .entry); records = now (records .entry); memory = now (memory .entry); queue = now (queue .entry); answer = now (answer .entry) }) (record { words = now (words .exit); records = now (records .exit); memory = now (memory .entry); queue = now (queue .entry); answer = now (answer .exit) }) r ⌝ }
+{
+    if !is_lent(words, answer) {
+        return 6;
+    }
+    let counters = words::counters_in(words);
+    let o = frames::free(counters, words, records, memory, queue, pa);
+    let left = o.counters;
+    words::put_counters(words, left);
+    tell(answer, o.answer)
+}
+
+pub fn serve_alloc(
+    words: &mut [u64],
+    records: &mut [u8],
+    memory: &mut [u8],
+    queue: &[u64],
+    answer: &mut [u64],
+    size: u64,
+    align: u64,
+    flags: u64,
+) -> u32
+    ensures { λ r. ⌜ Serves (Alloc (record { size = size; align = align; flags = flagsOf flags })) (record { words = now (words .entry); records = now (records .entry); memory = now (memory .entry); queue = now (queue .entry); answer = now (answer .entry) }) (record { words = now (words .exit); records = now (records .exit); memory = now (memory .exit); queue = now (queue .entry); answer = now (answer .exit) }) r ⌝ }
+{
+    if !is_lent(words, answer) {
+        return 6;
+    }
+    let counters = words::counters_in(words);
+    let o = grants::alloc(
+        counters,
+        words,
+        records,
+        memory,
+        queue,
+        size,
+        align,
+        calls::flags_of(flags),
+    );
+    let left = o.counters;
+    words::put_counters(words, left);
+    tell(answer, o.answer)
 }
 
 // A write leaves the state as it is, so that the words are only read.

@@ -88,15 +88,7 @@ pub extern "C" fn jilakkor_alloc(
 ) -> u32
     ensures { λ r. ⌜ Serves (Alloc (record { size = size; align = align; flags = flagsOf flags })) (record { words = now (words .entry); records = now (records .entry); memory = now (memory .entry); queue = now (queue .entry); answer = now (answer .entry) }) (record { words = now (words .exit); records = now (records .exit); memory = now (memory .exit); queue = now (queue .exit); answer = now (answer .exit) }) r ⌝ }
 {
-    service::serve(
-        words,
-        records,
-        memory,
-        queue,
-        answer,
-        Ask::Alloc,
-        [size, align, flags, 0, 0],
-    )
+    service::serve_alloc(words, records, memory, queue, answer, size, align, flags)
 }
 
 // try_alloc_split_frames, tracker.rs 98: the same, and a frame above the first level becomes 512 held ones.
@@ -159,15 +151,7 @@ pub extern "C" fn jilakkor_free(
 ) -> u32
     ensures { λ r. ⌜ Serves (Free address) (record { words = now (words .entry); records = now (records .entry); memory = now (memory .entry); queue = now (queue .entry); answer = now (answer .entry) }) (record { words = now (words .exit); records = now (records .exit); memory = now (memory .exit); queue = now (queue .exit); answer = now (answer .exit) }) r ⌝ }
 {
-    service::serve(
-        words,
-        records,
-        memory,
-        queue,
-        answer,
-        Ask::Free,
-        [address, 0, 0, 0, 0],
-    )
+    service::serve_free(words, records, memory, queue, answer, PhysAddr(address))
 }
 
 // Frame::zero, frame.rs 430.
@@ -228,15 +212,7 @@ pub extern "C" fn jilakkor_find(
 ) -> u32
     ensures { λ r. ⌜ Serves (Find address) (record { words = now (words .entry); records = now (records .entry); memory = now (memory .entry); queue = now (queue .entry); answer = now (answer .entry) }) (record { words = now (words .exit); records = now (records .exit); memory = now (memory .exit); queue = now (queue .exit); answer = now (answer .exit) }) r ⌝ }
 {
-    service::serve(
-        words,
-        records,
-        memory,
-        queue,
-        answer,
-        Ask::Find,
-        [address, 0, 0, 0, 0],
-    )
+    service::serve_find(words, records, memory, queue, answer, PhysAddr(address))
 }
 
 // A held frame that the next reclaim rounds may free.

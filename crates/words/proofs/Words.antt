@@ -126,11 +126,12 @@ module _ (ws : List ℕ) (used : ℕ) (rows : List Row) (queued : ℕ) (pass : P
   pub pass-written : length rows ≡ 8 → passIn (withBytes ws 0 (keptOf used rows queued pass)) ≡ pass
   pass-written e = rw (tail e 1, tail e 2) refl
 
-  pub kept-written : length rows ≡ 8 → isKept (withBytes ws 0 (keptOf used rows queued pass)) ≡ true
-  kept-written e =
+  pub kept-written : length rows ≡ 8 → used ≤ 8 → isKept (withBytes ws 0 (keptOf used rows queued pass)) ≡ true
+  kept-written e most =
       let n : length (keptOf used rows queued pass) ≡ 92 = length-kept used rows queued pass e in
       let o : joined 1 used % 4294967296 ≡ 1 = omega arith in
-      rw (with-length ws 0 (keptOf used rows queued pass) (omega arith), le-leb 92 (length ws) h, first e, o) refl
+      let u : joined 1 used / 4294967296 ≡ used = omega arith in
+      rw (with-length ws 0 (keptOf used rows queued pass) (omega arith), le-leb 92 (length ws) h, first e, o, u, le-leb used 8 most) refl
 
 -- ---- written over the rows in use: word by word
 module _ (ws : List ℕ) (rows : List Row) (queued : ℕ) (pass : Pass) (h : 92 ≤ length ws) (e : length rows ≡ 8) where

@@ -105,9 +105,9 @@ countersIn ws =
       «pager_outstanding» = wordIn ws 100;
     }
 
--- enough words for what is kept beside the counters, and of this version
+-- enough words for what is kept beside the counters, of this version, and no more rows in use than there are
 abbrev pub isKept : List ℕ → Bool
-isKept ws = leb keptWords (length ws) && eqb (lowHalf (wordIn ws 0)) version
+isKept ws = leb keptWords (length ws) && (eqb (lowHalf (wordIn ws 0)) version && leb (usedIn ws) mostRows)
 
 -- ---- written
 

@@ -261,14 +261,17 @@ pub fn counters_in(words: &[u64]) -> Counters
     }
 }
 
-// Whether the words are enough for what is kept beside the counters, and of this version.
+// Whether the words are enough for what is kept beside the counters, and of this version, with at most eight rows in use.
 pub fn is_kept(words: &[u64]) -> bool
     ensures { λ r. ⌜ r ≡ isKept (now (words .entry)) ⌝ }
 {
     if words.len() < 92 {
         return false;
     }
-    low_half(words[0]) == 1
+    if low_half(words[0]) != 1 {
+        return false;
+    }
+    used_in(words) <= 8
 }
 
 // ---- written

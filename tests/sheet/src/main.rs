@@ -124,8 +124,8 @@ fn compare(table: &Table) -> Result<Option<sheet::Sentence>, String> {
     }
 }
 
-/// Too few words are no state, nor are those of another version; words past the
-/// state's are not looked at.
+/// Too few words are no state, nor are those of another version or with more than
+/// eight rows in use; words past the state's are not looked at.
 fn other_words(table: &Table) -> Result<(), String> {
     let words = table.state.words();
     for few in [0, 1, 92, WORDS - 1] {
@@ -141,11 +141,12 @@ fn other_words(table: &Table) -> Result<(), String> {
         }
     }
     let used = table.state.rows.iter().take_while(|row| row.pages != 0).count();
-    for rows in [used, ROWS, ROWS + 1, u32::MAX as usize] {
+    for (rows, number) in [(used, 0), (ROWS, 0), (ROWS + 1, 6), (u32::MAX as usize, 6)] {
         let mut words = words;
         words[0] = version(rows);
-        if store::audit(&words, table) != 0 {
-            return Err(format!("with {rows} rows in use the store says that it is torn"));
+        let answer = store::audit(&words, table);
+        if answer != number {
+            return Err(format!("with {rows} rows in use the store answers {answer}"));
         }
     }
     // Of the rows that are not in use no word is read.

@@ -73,7 +73,7 @@ fn short() -> Checked {
 }
 
 fn versions() -> Checked {
-    for version in [0, 2, 1 << 32 | 2, u64::MAX] {
+    for version in [0, 2, 1 << 32 | 2, 9 << 32 | 1, u64::MAX] {
         let change = |lot: &mut Lot| lot.words[MARGIN] = version;
         each(|exported, _| {
             let number = if exported.0 == "boot" { 0 } else { 6 };
