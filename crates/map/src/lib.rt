@@ -18,7 +18,7 @@ pub struct Gathered {
     pub count: usize,
 }
 
-fn nothing(count: usize) -> Gathered
+pub fn nothing(count: usize) -> Gathered
     ensures { λ r. ⌜ r ≡ «nothing_def» count ⌝ }
 {
     let unused = MemoryRegion {
@@ -30,7 +30,7 @@ fn nothing(count: usize) -> Gathered
     Gathered { map, count }
 }
 
-fn entered(g: Gathered, i: usize, entry: MemoryRegion) -> Gathered
+pub fn entered(g: Gathered, i: usize, entry: MemoryRegion) -> Gathered
     ensures { λ r. ⌜ r ≡ «entered_def» g i entry ⌝ }
 {
     let mut map = g.map;
@@ -43,7 +43,7 @@ fn entered(g: Gathered, i: usize, entry: MemoryRegion) -> Gathered
     }
 }
 
-fn at_most_eight(n: usize) -> usize
+pub fn at_most_eight(n: usize) -> usize
     ensures { λ r. ⌜ (r ≤ n) × (r ≤ 8) × (r < 8 → r ≡ n) ⌝ }
 {
     if n < 8 { n } else { 8 }

@@ -3,11 +3,10 @@ use Prim.Native.Nat.{ℕ, zero, suc, _+_, _*_, _/_, _%_}
 use mathlib.Core.Bool.{cond}
 use mathlib.Core.List.{List, [], _∷_, map}
 use mathlib.Core.Path.{_≡_}
-use lib.Dec.{eqb, ltb}
-use lib.ListN.{length, take, getD, set, replicate}
+use lib.Dec.{eqb}
+use lib.ListN.{length, getD}
 use Rattle.definition.specs.declared.Counters.{Counters}
 use Rattle.definition.specs.declared.MemoryRegion.{MemoryRegion}
-use Rattle.definition.specs.declared.MemoryRegionKind.the-variants.{Reserved}
 use Rattle.definition.specs.Calls as Calls
 use Rattle.definition.specs.Script.{kindOf}
 use Rattle.lines.specs.declared.Ask.the-variants.{
@@ -28,11 +27,12 @@ use Rattle.lines.specs.declared.Ask.the-variants.{
   Low,
 }
 use Rattle.lines.specs.Reading.{callOf}
+use Rattle.map.specs.declared.Gathered.{Gathered}
+use Rattle.map.specs.Lending.{entered as enteredRegion, gathered as gatheredRegions}
 use Rattle.service.specs.Serving.{Lent, Counted, ServesWith, PlacesWith, ReportsWith, stays, booted, bootedWith}
 use Rattle.store.specs.declared.Asked.{Asked}
 use Rattle.store.specs.declared.Asked.the-variants.{Known, Write, Read, Stats, Boot, Unknown}
 use Rattle.store.specs.declared.Entry.{Entry}
-use Rattle.store.specs.declared.Gathered.{Gathered}
 
 -- ---- the lent map
 
@@ -47,22 +47,12 @@ Boots es l l′ r = booted (map regionOf es) l ≡ record { lent = l′; number 
 abbrev pub noEntry : Entry
 noEntry = record { start = 0; length = 0; kind = 0 }
 
-abbrev pub noRegion : MemoryRegion
-noRegion = record { start = record { 0 = 0 }; length = 0; kind = Reserved }
-
--- the first eight entries as they are gathered, of a map of so many
-abbrev pub nothing : ℕ → Gathered
-nothing n = record { map = replicate 8 noRegion; count = n }
-
 abbrev pub entered : Gathered → ℕ → Entry → Gathered
-entered g i e = record { map = cond (ltb i 8) (set (g .map) i (regionOf e)) (g .map); count = g .count }
+entered g i e = enteredRegion g i (regionOf e)
 
-unfoldable pub enteredAll : List Entry → ℕ → Gathered → Gathered
-enteredAll [] i g = g
-enteredAll (e ∷ es) i g = enteredAll es (i + 1) (entered g i e)
-
+-- what is gathered of the entries as regions: the first eight, and the count of all
 abbrev pub gathered : List Entry → Gathered
-gathered es = enteredAll (take 8 es) 0 (nothing (length es))
+gathered es = gatheredRegions (map regionOf es)
 
 -- a boot by what was gathered, whatever entries it was gathered from
 abbrev pub BootsBy : Gathered → Lent → Lent → ℕ → Type 0

@@ -4,8 +4,8 @@
 use address::PhysAddr;
 use definition::Counters;
 use definition::MemoryRegion;
-use definition::MemoryRegionKind;
 use lines::Ask;
+use map::Gathered;
 use service::Counted;
 ghost use mathlib.Core.Path.{_≡_};
 ghost use Prim.Native.Nat.{_%_, _≤_, _<_};
@@ -33,7 +33,6 @@ ghost use Rattle.service.specs.Serving.{Serves, ServesWith, Places, PlacesWith,
 ghost use Rattle.store.specs.Exported.{Audits};
 ghost use Rattle.store.specs.Lending.{
   regionOf,
-  nothing as «nothing_def»,
   entered as «entered_def»,
   gathered,
   BootsBy,
@@ -486,12 +485,6 @@ pub struct Entry {
     pub kind: u64,
 }
 
-// The first eight entries of a map, and how many it has.
-pub struct Gathered {
-    pub map: [MemoryRegion; 8],
-    pub count: usize,
-}
-
 fn region_of(entry: Entry) -> MemoryRegion
     ensures { λ r. ⌜ r ≡ regionOf entry ⌝ }
 {
@@ -502,44 +495,18 @@ fn region_of(entry: Entry) -> MemoryRegion
     }
 }
 
-fn nothing(count: usize) -> Gathered
-    ensures { λ r. ⌜ r ≡ «nothing_def» count ⌝ }
-{
-    let unused = MemoryRegion {
-        start: PhysAddr(0),
-        length: 0,
-        kind: MemoryRegionKind::Reserved,
-    };
-    let map = [unused; 8];
-    Gathered { map, count }
-}
-
 fn entered(g: Gathered, i: usize, entry: Entry) -> Gathered
     ensures { λ r. ⌜ r ≡ «entered_def» g i entry ⌝ }
 {
-    let mut map = g.map;
-    if i < 8 {
-        let region = region_of(entry);
-        map[i] = region;
-    }
-    Gathered {
-        map,
-        count: g.count,
-    }
-}
-
-fn at_most_eight(n: usize) -> usize
-    ensures { λ r. ⌜ (r ≤ n) × (r ≤ 8) × (r < 8 → r ≡ n) ⌝ }
-{
-    if n < 8 { n } else { 8 }
+    map::entered(g, i, region_of(entry))
 }
 
 // Each of the first eight entries is handed over by value; past them nothing is read.
 fn gather(map: &[Entry]) -> Gathered
     ensures { λ r. ⌜ r ≡ gathered (now (map .entry)) ⌝ }
 {
-    let n = at_most_eight(map.len());
-    let mut g = nothing(map.len());
+    let n = map::at_most_eight(map.len());
+    let mut g = map::nothing(map.len());
     let mut i = 0;
     while i < n {
         g = entered(g, i, map[i]);
@@ -737,8 +704,8 @@ fn gather_numbers(numbers: &[u64]) -> Gathered
     ensures { λ r. ⌜ r ≡ gathered (entriesOf (now (numbers .entry))) ⌝ }
 {
     let count = numbers.len() / 3;
-    let n = at_most_eight(count);
-    let mut g = nothing(count);
+    let n = map::at_most_eight(count);
+    let mut g = map::nothing(count);
     let mut i: usize = 0;
     while i < n {
         g = entered(g, i, entry_in(numbers, i));

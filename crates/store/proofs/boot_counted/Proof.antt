@@ -5,9 +5,9 @@ use Prim.Native.Nat.{_%_}
 use borrow.Author.Needs.{needs}
 use borrow.Author.Tests.{eq-eqb, ne-eqb}
 use lib.ListN.{length, take}
-use Rattle.store.specs.declared.Gathered.{Gathered}
+use Rattle.map.specs.declared.Gathered.{Gathered}
 use Rattle.store.specs.Lending.{regionOf, entriesOf}
-use Rattle.store.proofs.Gathering.{gathered-count, gathered-front}
+use Rattle.map.proofs.Gathering.{gathered-count, gathered-front}
 use Rattle.store.proofs.boot_counted.Statement.{statement}
 use Rattle.store.proofs.boot_counted.Tie as tie
 
@@ -38,8 +38,8 @@ returns-2 c =
     let ns = h .before .before .before .before .before .before .before .args .n .now in
     let es = entriesOf ns in
     rw (eq-eqb (length ns % 3) 0 (h .if1 .left))
-    (s .serve-boot-with .ensures (map regionOf es) (gathered-count es ∙ ap (λ (g : Gathered). g .count) e)
-    (gathered-front es ∙ ap (λ (g : Gathered). take (g .count) (g .map)) e))
+    (s .serve-boot-with .ensures (map regionOf es) (gathered-count (map regionOf es) ∙ ap (λ (g : Gathered). g .count) e)
+    (gathered-front (map regionOf es) ∙ ap (λ (g : Gathered). take (g .count) (g .map)) e))
 
 pub boot-counted-spec : {M : Type 1} → statement M
 boot-counted-spec =

@@ -3,9 +3,9 @@ use mathlib.Core.List.{map}
 use mathlib.Core.Path.{_≡_, ap, sym, _∙_}
 use borrow.Author.Needs.{needs}
 use lib.ListN.{take}
-use Rattle.store.specs.declared.Gathered.{Gathered}
+use Rattle.map.specs.declared.Gathered.{Gathered}
 use Rattle.store.specs.Lending.{regionOf}
-use Rattle.store.proofs.Gathering.{gathered-count, gathered-front}
+use Rattle.map.proofs.Gathering.{gathered-count, gathered-front}
 use Rattle.store.proofs.boot_gathered.Statement.{statement}
 use Rattle.store.proofs.boot_gathered.Tie as tie
 
@@ -23,8 +23,8 @@ same-length-3 c = search needs
 
 returns : tie.Need-returns
 returns c es e =
-    c .before .before .before .before .before .before .serve-boot .ensures (map regionOf es) (gathered-count es ∙ ap (λ (g : Gathered). g .count) (sym e))
-    (gathered-front es ∙ ap (λ (g : Gathered). take (g .count) (g .map)) (sym e))
+    c .before .before .before .before .before .before .serve-boot .ensures (map regionOf es) (gathered-count (map regionOf es) ∙ ap (λ (g : Gathered). g .count) (sym e))
+    (gathered-front (map regionOf es) ∙ ap (λ (g : Gathered). take (g .count) (g .map)) (sym e))
 
 pub boot-gathered-spec : {M : Type 1} → statement M
 boot-gathered-spec =

@@ -1,6 +1,4 @@
--- `entered` meets its contract: below 8 the region is written at i, and past it the map stays.
--- Assumes nothing.
-use borrow.Author.Tests.{lt-ltb, le-ltb}
+-- `entered` meets its contract: the entry is entered as a region.
 use borrow.Author.Needs.{needs}
 use Rattle.store.proofs.entered.Statement.{statement}
 use Rattle.store.proofs.entered.Tie as tie
@@ -8,17 +6,11 @@ use Rattle.store.proofs.entered.Tie as tie
 region-of-requires : tie.Need-region-of-requires
 region-of-requires c κs = search needs
 
-mul-map : tie.Need-mul-map
-mul-map c = search needs
-
-array-set-from-map : tie.Need-array-set-from-map
-array-set-from-map c = search needs
+entered-requires : tie.Need-entered-requires
+entered-requires c κs = search needs
 
 returns : tie.Need-returns
-returns c = simp (lt-ltb _ _ (c .before .if1 .taken), c .region-of .ensures)
-
-returns-2 : tie.Need-returns-2
-returns-2 c = simp (le-ltb _ _ (c .if1 .left))
+returns c = rw (c .before .region-of .ensures) at (c .entered .ensures)
 
 pub entered-spec : {M : Type 1} → statement M
-entered-spec = tie.close (tie.spec region-of-requires mul-map array-set-from-map returns returns-2)
+entered-spec = tie.close (tie.spec region-of-requires entered-requires returns)

@@ -51,21 +51,23 @@ use denote.Triple.Walked.{says, Stays, stay-none-slice, walkOf, goes-none-slice,
 use denote.Exit.{yes}
 use denote.Triple.Clauses.{ensured, lasts}
 use Rattle.store.specs.declared.Entry.{Entry}
-use Rattle.store.specs.declared.Gathered.{Gathered}
-use Rattle.store.specs.Lending.{noEntry, nothing as none, entered, enteredAll, gathered}
-use Rattle.store.proofs.Gathering.{Capped, Onward, either, onward-end, onward-next}
+use Rattle.map.specs.declared.Gathered.{Gathered}
+use Rattle.map.specs.Lending.{nothing as none}
+use Rattle.map.proofs.Gathering.{Capped, either}
+use Rattle.store.specs.Lending.{noEntry, entered, gathered}
+use Rattle.store.proofs.Gathering.{Onward, onward-begun, onward-end, onward-next}
 use Rattle.store.proofs.Entry as R
 use Rattle.store.proofs.Entry.Laws as R′
-use Rattle.store.proofs.Gathered as S
-use Rattle.store.proofs.Gathered.Laws as S′
-use Rattle.store.proofs.at_most_eight as capped
-use Rattle.store.proofs.at_most_eight.Symbol as capped-def
-use Rattle.store.proofs.at_most_eight.Symbol.{name as #store·at-most-eight}
-use Rattle.store.proofs.at_most_eight.Met as capped-thm
-use Rattle.store.proofs.nothing as begun
-use Rattle.store.proofs.nothing.Symbol as begun-def
-use Rattle.store.proofs.nothing.Symbol.{name as #store·nothing}
-use Rattle.store.proofs.nothing.Met as begun-thm
+use Rattle.map.proofs.Gathered as S
+use Rattle.map.proofs.Gathered.Laws as S′
+use Rattle.map.proofs.at_most_eight as capped
+use Rattle.map.proofs.at_most_eight.Symbol as capped-def
+use Rattle.map.proofs.at_most_eight.Symbol.{name as #map·at-most-eight}
+use Rattle.map.proofs.at_most_eight.Met as capped-thm
+use Rattle.map.proofs.nothing as begun
+use Rattle.map.proofs.nothing.Symbol as begun-def
+use Rattle.map.proofs.nothing.Symbol.{name as #map·nothing}
+use Rattle.map.proofs.nothing.Met as begun-thm
 use Rattle.store.proofs.entered as add
 use Rattle.store.proofs.entered.Symbol as add-def
 use Rattle.store.proofs.entered.Symbol.{name as #store·entered}
@@ -160,7 +162,7 @@ module _ {M : Type 1} (𝓤 : URA M) (H : Heap 𝓤) (A : Atoms 𝓤) (W : Given
   goes-to-add s v i r =
       qed W (‵ (S.the-row .own s (v ∷ [])) ∷ ‵ (Num i) ∷ ‵ (R.the-row .own r (vals r)) ∷ []) ∵ nothing ! $ move ! (3 ∷ 0 ∷ []) $ fjoin ! $ move ! (2 ∷ 0 ∷ []) $ fjoin ! $ move ! (1 ∷ 0 ∷ []) $ fjoin ! $ nothing ! $ join ! $ frame ! $ done !
 
-  module _ (𝓣 : Tables 𝓤 H) (known-capped : Triple 𝓤 (𝓣 .C #store·at-most-eight) (AtMost 𝓤 H A at-mem run)) (known-none : Triple 𝓤 (𝓣 .C #store·nothing) (None 𝓤 H A at-mem run)) (known-add : Triple 𝓤 (𝓣 .C #store·entered) (Add 𝓤 H A at-mem run)) (g : Room R.the-row n) where
+  module _ (𝓣 : Tables 𝓤 H) (known-capped : Triple 𝓤 (𝓣 .C #map·at-most-eight) (AtMost 𝓤 H A at-mem run)) (known-none : Triple 𝓤 (𝓣 .C #map·nothing) (None 𝓤 H A at-mem run)) (known-add : Triple 𝓤 (𝓣 .C #store·entered) (Add 𝓤 H A at-mem run)) (g : Room R.the-row n) where
     abbrev C : Calls 𝓤 H
     C = 𝓣 .C
 
@@ -268,7 +270,7 @@ module _ {M : Type 1} (𝓤 : URA M) (H : Heap 𝓤) (A : Atoms 𝓤) (W : Given
         looped : (r : Gathered) (v : Val) → Is S.the-row r (v ∷ []) → r ≡ none n → Sq W (Items 0 v) (runs C Λ En mir.t-6 (atRet En Post))
         looped r v is e =
             first ! $ blocks ! $
-            loops ! 𝓣 less less-wf At turn (record { i = 0; s = r; v = v; within = omega arith; is = is; left = ap (enteredAll (take 8 ys) 0) e })
+            loops ! 𝓣 less less-wf At turn (record { i = 0; s = r; v = v; within = omega arith; is = is; left = onward-begun ys e })
 
         -- after the second call: what follows, up to the loop
         abbrev Called : Item 𝓤 → List (Item 𝓤)
@@ -310,7 +312,7 @@ module _ {M : Type 1} (𝓤 : URA M) (H : Heap 𝓤) (A : Atoms 𝓤) (W : Given
         rewrite ! 14 (λ (w : Val). ‵ (fat fullShare word l₂ 0 w)) (ap only (is .0)) refl $
         begins l₀ l₁ l₂ l₃ l₄ l₅ l₆ l₇ l₈ l₉ r e))))))))))))))
 
-module _ {M : Type 1} (𝓤 : URA M) (H : Heap 𝓤) (A : Atoms 𝓤) (W : Given 𝓤 H A) (mem : Memory → SProp 𝓤) (run : Routine → Fun 𝓤) (𝓣 : Tables 𝓤 H) (known-capped : Triple 𝓤 (𝓣 .C #store·at-most-eight) (AtMost 𝓤 H A mem run)) (known-none : Triple 𝓤 (𝓣 .C #store·nothing) (None 𝓤 H A mem run)) (known-add : Triple 𝓤 (𝓣 .C #store·entered) (Add 𝓤 H A mem run)) where
+module _ {M : Type 1} (𝓤 : URA M) (H : Heap 𝓤) (A : Atoms 𝓤) (W : Given 𝓤 H A) (mem : Memory → SProp 𝓤) (run : Routine → Fun 𝓤) (𝓣 : Tables 𝓤 H) (known-capped : Triple 𝓤 (𝓣 .C #map·at-most-eight) (AtMost 𝓤 H A mem run)) (known-none : Triple 𝓤 (𝓣 .C #map·nothing) (None 𝓤 H A mem run)) (known-add : Triple 𝓤 (𝓣 .C #store·entered) (Add 𝓤 H A mem run)) where
   gather-walks : Walks 𝓤 H A f.ended stayed (WpFn 𝓤 H (𝓣 .C) (𝓣 .Λ) code.function) (f.clauses 𝓤 H A mem run)
   gather-walks = walked 𝓤 H A f.ended stayed (f.clauses 𝓤 H A mem run) (WpFn 𝓤 H (𝓣 .C) (𝓣 .Λ) code.function) (λ κs. (slice-vals, tt)) (λ κs. (shr-slice-tells (named 0) (κs .0) R.the-row, tt))
       (λ κs qs bounds a g are. via 𝓤 _ (fst∗ 𝓤 _ (emp 𝓤)) (walk 𝓤 H A W mem run (κs .0) (qs .0) (a .0 .ptr .0) (a .0 .ptr .1) (a .0 .name) (a .0 .now) 𝓣 known-capped known-none known-add (are .0 .0 .1)))
@@ -324,6 +326,6 @@ gather-spec 𝓤 H 𝓜 𝓖 𝓡 =
     table.entered 𝓤 H (tripleOf 𝓤 H (𝓖 .A) f.signature (f.spec 𝓤 H (𝓖 .A) (𝓜 .mem) (𝓡 .run)))
     (tables 𝓤 H 𝓜 𝓡 code.env .C) (tables 𝓤 H 𝓜 𝓡 code.env .Λ) #store·gather code.function (code.unfolded 𝓤 H 𝓜 𝓡)
     (gather-meets 𝓤 H (𝓖 .A) (givenOf 𝓤 H 𝓜 𝓖) (𝓜 .mem) (𝓡 .run) (tablesOf 𝓤 H 𝓜 (tables 𝓤 H 𝓜 𝓡 code.env))
-    (cited 𝓤 H (AtMost 𝓤 H (𝓖 .A) (𝓜 .mem) (𝓡 .run)) 𝓜 𝓡 code.env #store·at-most-eight capped-def.routine code.calls-store·at-most-eight (capped-thm.met 𝓤 H 𝓜 𝓖 𝓡))
-    (cited 𝓤 H (None 𝓤 H (𝓖 .A) (𝓜 .mem) (𝓡 .run)) 𝓜 𝓡 code.env #store·nothing begun-def.routine code.calls-store·nothing (begun-thm.met 𝓤 H 𝓜 𝓖 𝓡))
+    (cited 𝓤 H (AtMost 𝓤 H (𝓖 .A) (𝓜 .mem) (𝓡 .run)) 𝓜 𝓡 code.env #map·at-most-eight capped-def.routine code.calls-map·at-most-eight (capped-thm.met 𝓤 H 𝓜 𝓖 𝓡))
+    (cited 𝓤 H (None 𝓤 H (𝓖 .A) (𝓜 .mem) (𝓡 .run)) 𝓜 𝓡 code.env #map·nothing begun-def.routine code.calls-map·nothing (begun-thm.met 𝓤 H 𝓜 𝓖 𝓡))
     (cited 𝓤 H (Add 𝓤 H (𝓖 .A) (𝓜 .mem) (𝓡 .run)) 𝓜 𝓡 code.env #store·entered add-def.routine code.calls-store·entered (add-thm.met 𝓤 H 𝓜 𝓖 𝓡)))

@@ -40,12 +40,12 @@ use denote.Triple.Walked.{says, Stays, stay-none-slice, gave-slice, walkOf, goes
 use denote.Exit.{yes}
 use denote.Triple.Clauses.{ensured, lasts}
 use Rattle.store.specs.declared.Entry.{Entry}
-use Rattle.store.specs.declared.Gathered.{Gathered}
+use Rattle.map.specs.declared.Gathered.{Gathered}
 use Rattle.service.specs.Serving.{Lent as Loans}
 use Rattle.store.specs.Lending.{gathered, Boots, BootsBy}
 use Rattle.store.proofs.Entry as R
-use Rattle.store.proofs.Gathered as S
-use Rattle.store.proofs.Gathered.Laws as S′
+use Rattle.map.proofs.Gathered as S
+use Rattle.map.proofs.Gathered.Laws as S′
 use Rattle.store.proofs.gather as gather
 use Rattle.store.proofs.gather.Symbol as gather-def
 use Rattle.store.proofs.gather.Symbol.{name as #store·gather}
