@@ -176,7 +176,7 @@ fn lay_out(records: &mut [u8], rows: [Row; 8], used: usize) -> [Row; 8]
 }
 
 // tracker.rs 469, init: of so many pages all are idle.
-fn started(pages: usize) -> Counters
+pub fn started(pages: usize) -> Counters
     ensures { λ r. ⌜ r ≡ countersAtBoot pages ⌝ }
 {
     Counters {

@@ -9,27 +9,9 @@ use exam::Outcome;
 ghost use mathlib.Core.Path.{_≡_};
 ghost use Prim.Native.Nat.{_≤_};
 ghost use lib.ListN.{length, replicate};
-ghost use Rattle.definition.specs.Boot.{countersAtBoot};
 ghost use Rattle.definition.specs.Calls.{Alloc, Find, Zero, Fill, Copy};
 ghost use Rattle.exam.specs.Promise.{stateWith, worldOf};
 ghost use Rattle.drivers.specs.Driving.{Drives, bootedWorld, grantAndFree, held, onFrame, plain, toSecond, turn, turns};
-
-// The counters before a boot.
-fn unbooted() -> Counters
-    ensures { λ r. ⌜ r ≡ countersAtBoot 0 ⌝ }
-{
-    Counters {
-        kernel_used: 0,
-        page_data: 0,
-        idle: 0,
-        total: 0,
-        allocated: 0,
-        freed: 0,
-        reclaimed: 0,
-        waiting: 0,
-        pager_outstanding: 0,
-    }
-}
 
 // The store of a map with one usable entry. Where the map is refused it has no region, and refuses all that follows.
 fn booted(
@@ -54,7 +36,7 @@ fn booted(
         length: bytes,
         kind: MemoryRegionKind::UsableRam,
     };
-    let outcome = boot::boot(unbooted(), words, map, 1, records, memory, queue);
+    let outcome = boot::boot(boot::started(0), words, map, 1, records, memory, queue);
     outcome.counters
 }
 

@@ -10,7 +10,6 @@ use lines::Op;
 ghost use mathlib.Core.Path.{_≡_};
 ghost use Prim.Native.Nat.{_+_, _≤_, _<_, _^_};
 ghost use lib.ListN.{length, getD, replicate};
-ghost use Rattle.definition.specs.Boot.{countersAtBoot};
 ghost use Rattle.definition.specs.Calls.{Stats};
 ghost use Rattle.definition.specs.Script.{BootNow, Ask as Asks, lineOf, room};
 ghost use Rattle.text.specs.Writing.{Wrote};
@@ -97,23 +96,6 @@ pub struct Turn {
     pub at: usize,
 }
 
-// The counters before a boot.
-fn unbooted() -> Counters
-    ensures { λ r. ⌜ r ≡ countersAtBoot 0 ⌝ }
-{
-    Counters {
-        kernel_used: 0,
-        page_data: 0,
-        idle: 0,
-        total: 0,
-        allocated: 0,
-        freed: 0,
-        reclaimed: 0,
-        waiting: 0,
-        pager_outstanding: 0,
-    }
-}
-
 // What is kept before the first line, where the words are zeros.
 fn fresh() -> Running
     ensures { λ r. ⌜ Fresh (runningWith r (replicate 92 0)) ⌝ }
@@ -128,7 +110,7 @@ fn fresh() -> Running
         map,
         count: 0,
         booted: false,
-        counters: unbooted(),
+        counters: boot::started(0),
     }
 }
 

@@ -15,8 +15,8 @@ new-requires-2 c κs = search needs
 array-set-from-map : tie.Need-array-set-from-map
 array-set-from-map c = search needs
 
-unbooted-requires : tie.Need-unbooted-requires
-unbooted-requires c κs = search needs
+started-requires : tie.Need-started-requires
+started-requires c κs = search needs
 
 boot-requires : tie.Need-boot-requires
 boot-requires c κs = search needs
@@ -32,7 +32,7 @@ unfolding bootedWorld
 returns c =
     let a = c .before .before .before .before .before .before .before .before .before .before .before .before .before .before .before .args in
     let map = ap (λ (n : ℕ). usable n (a .bytes)) (sym (c .before .before .before .before .before .before .before .before .before .new2 .ensures)) in
-    rw (c .before .before .before .before .before .before .before .before .unbooted .ensures) at (c .before .before .before .before .before .boot .ensures .0 (usable (a .start) (a .bytes)) refl map .world)
+    rw (c .before .before .before .before .before .before .before .before .started .ensures) at (c .before .before .before .before .before .boot .ensures .0 (usable (a .start) (a .bytes)) refl map .world)
 
 pub booted-spec : {M : Type 1} → statement M
 booted-spec =
@@ -41,7 +41,7 @@ booted-spec =
     new-requires
     new-requires-2
     array-set-from-map
-    unbooted-requires
+    started-requires
     boot-requires
     same-length
     same-length-2

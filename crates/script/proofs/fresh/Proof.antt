@@ -13,11 +13,11 @@ zeros : stateWith (countersAtBoot 0) (replicate 92 0) ≡ unbooted
 unfolding rowsFrom
 zeros = refl
 
-unbooted-requires : tie.Need-unbooted-requires
-unbooted-requires c κs = search needs
+started-requires : tie.Need-started-requires
+started-requires c κs = search needs
 
 returns : tie.Need-returns
-returns c = record { count = refl; booted = refl; state = rw (c .unbooted .ensures) zeros }
+returns c = record { count = refl; booted = refl; state = rw (c .started .ensures) zeros }
 
 pub fresh-spec : {M : Type 1} → statement M
-fresh-spec = tie.close (tie.spec unbooted-requires returns)
+fresh-spec = tie.close (tie.spec started-requires returns)
