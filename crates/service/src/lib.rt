@@ -122,9 +122,11 @@ pub fn serve(
     c.number
 }
 
-// The three calls that a kernel makes most go straight to their crates: of what is handed through the dispatch of all calls, the counters are copied at each step.
+// ---- the three calls that a kernel makes most
 
-// get_frame leaves all loans but the answer as they are.
+// They go straight to their crates: on the way through the dispatch above the counters would be copied at every step.
+
+// get_frame, which leaves all loans but the answer as they are.
 pub fn serve_find(
     words: &[u64],
     records: &[u8],
@@ -143,6 +145,7 @@ pub fn serve_find(
     tell(answer, y)
 }
 
+// free_frame.
 pub fn serve_free(
     words: &mut [u64],
     records: &mut [u8],
@@ -163,6 +166,7 @@ pub fn serve_free(
     tell(answer, o.answer)
 }
 
+// try_alloc_frame. `flags` adds 1 for ZEROED, 2 for KERNEL, 4 for WAIT_OK.
 pub fn serve_alloc(
     words: &mut [u64],
     records: &mut [u8],
@@ -193,6 +197,8 @@ pub fn serve_alloc(
     words::put_counters(words, left);
     tell(answer, o.answer)
 }
+
+// ---- the calls that take or give bytes
 
 // A write leaves the state as it is, so that the words are only read.
 pub fn serve_write_with(
