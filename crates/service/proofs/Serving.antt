@@ -20,7 +20,7 @@ use Rattle.definition.specs.World.{World, decode}
 use Rattle.definition.specs.Torn.{bootCall, booted as bootedWorld, call, sound, untouched, unlessRefused as unlessBootRefused, written as writtenWorld}
 use Rattle.definition.proofs.Tests.{and-left, and-right}
 use Rattle.record.specs.Records.{withBytes}
-use Rattle.words.specs.Words.{Beside, wordIn, lowHalf, isKept, countersIn, counterWords}
+use Rattle.words.specs.Words.{Beside, wordIn, isKept, countersIn, counterWords}
 use Rattle.words.proofs.Words.{beside-same, kept-again, kept-from, counters-again}
 use Rattle.world.specs.Refusals.{numberIf}
 use Rattle.exam.specs.declared.Answer.{Answer}

@@ -4,7 +4,6 @@ use mathlib.Core.List.{List, [], _∷_, map}
 use mathlib.Core.Path.{_≡_, refl, ap, sym, _∙_}
 use native.Mathlib.Omega.{arith}
 use lib.ListN.{length, getD, take, length-map}
-use Rattle.definition.specs.declared.MemoryRegion.{MemoryRegion}
 use Rattle.map.specs.declared.Gathered.{Gathered}
 use Rattle.map.specs.Lending.{noRegion, nothing, enteredAll}
 use Rattle.map.proofs.Gathering.{Capped, Onward as OnwardRegions, onward-next as onward-region, onward-end as onward-ended}

@@ -8,7 +8,7 @@ use Prim.Native.Nat.{ℕ, _<_, _≤_, _+_, _-_, _*_, _^_}
 use native.Mathlib.Omega.{arith}
 use mathlib.Core.Logic.{_⊎_, ⊎-elim}
 use mathlib.Core.List.{List, [], _∷_}
-use lib.ListN.{length, getD, take}
+use lib.ListN.{length, getD}
 use lib.WfN.{Nat·lt-wfRel}
 use lib.Dec.{lit<, ltb}
 use borrow.Author.Tests.{lt-ltb, le-ltb}
