@@ -11,6 +11,7 @@ use borrow.Author.Tests.{eqb-true}
 use lib.Dec.{eqb}
 use lib.ListN.{length, getD, drop, drop-of-length-le}
 use lib.Seq.{drop-cons}
+use Rattle.definition.specs.Board.{Board}
 use Rattle.definition.specs.declared.Record.{Record}
 use Rattle.definition.specs.declared.Row.{Row}
 use Rattle.definition.specs.Basics.{any, range}
@@ -65,77 +66,82 @@ used-more (row ∷ rows) i h l p = go (eqb (row .pages) 0) refl i h l p (used-mo
     go false e zero h l p ih = omega arith
     go false e (suc j) h l p ih = omega (arith, ih j (omega arith) (omega arith) p)
 
-module _ {f : ℕ → Record} {n : ℕ} {rows : List Row} (S : Sane f n rows) (i : ℕ) where
-  pub row-good : i < length (usedRows rows) → Good f n (baseAt 0 (usedRows rows) i) (rowAt rows i)
-  row-good h = rw (← used-row rows i h) (good-at _ (S .good) i h)
+module _ {board : Board} where
+  module _ {f : ℕ → Record} {n : ℕ} {rows : List Row} (S : Sane board f n rows) (i : ℕ) where
+    pub row-good : i < length (usedRows rows) → Good board f n (baseAt board 0 (usedRows rows) i) (rowAt rows i)
+    row-good h = rw (← used-row rows i h) (good-at _ (S .good) i h)
 
-  pub row-used : i ≤ length (usedRows rows) → i < 8 → (rowAt rows i .pages ≡ 0 → ⊥) → i < length (usedRows rows)
-  row-used h l p = used-more rows i h (omega (arith, S .eight)) p
+    pub row-used : i ≤ length (usedRows rows) → i < 8 → (rowAt rows i .pages ≡ 0 → ⊥) → i < length (usedRows rows)
+    row-used h l p = used-more rows i h (omega (arith, S .eight)) p
 
-  -- a row with no pages is not in use: one in use has more pages than its tables take
-  pub row-last : i ≤ length (usedRows rows) → rowAt rows i .pages ≡ 0 → length (usedRows rows) ≤ i
-  row-last h p = go (decLe (length (usedRows rows)) i)
-    where
-      go : Dec (length (usedRows rows) ≤ i) → length (usedRows rows) ≤ i
-      go (yes k) = k
-      go (no k) = let g = row-good (omega arith) in absurd (omega (arith, g .tables))
+    -- a row with no pages is not in use: one in use has more pages than its tables take
+    pub row-last : i ≤ length (usedRows rows) → rowAt rows i .pages ≡ 0 → length (usedRows rows) ≤ i
+    row-last h p = go (decLe (length (usedRows rows)) i)
+      where
+        go : Dec (length (usedRows rows) ≤ i) → length (usedRows rows) ≤ i
+        go (yes k) = k
+        go (no k) = let g = row-good (omega arith) in absurd (omega (arith, g .tables))
 
-  pub row-eighth : 8 ≤ i → length (usedRows rows) ≤ i
-  row-eighth h = omega (arith, S .eight, used-most rows)
+    pub row-eighth : 8 ≤ i → length (usedRows rows) ≤ i
+    row-eighth h = omega (arith, S .eight, used-most rows)
 
-pub base-first : (base : ℕ) (rows : List Row) → baseAt base rows 0 ≡ base
-unfolding baseAt
-base-first base [] = refl
-base-first base (row ∷ rows) = refl
+module _ (board : Board) where
+  pub base-first : (base : ℕ) (rows : List Row) → baseAt board base rows 0 ≡ base
+  unfolding baseAt
+  base-first base [] = refl
+  base-first base (row ∷ rows) = refl
 
-base-next : (base : ℕ) (rows : List Row) (i : ℕ) → i < length rows → baseAt base rows (suc i) ≡ baseAt base rows i + managed (rowAt rows i .pages)
-unfolding baseAt
-base-next base [] i h = absurd (omega arith)
-base-next base (row ∷ rows) zero h = base-first (base + managed (row .pages)) rows
-base-next base (row ∷ rows) (suc i) h = base-next (base + managed (row .pages)) rows i (omega arith)
+  base-next : (base : ℕ) (rows : List Row) (i : ℕ) → i < length rows → baseAt board base rows (suc i) ≡ baseAt board base rows i + managed board (rowAt rows i .pages)
+  unfolding baseAt
+  base-next base [] i h = absurd (omega arith)
+  base-next base (row ∷ rows) zero h = base-first (base + managed board (row .pages)) rows
+  base-next base (row ∷ rows) (suc i) h = base-next (base + managed board (row .pages)) rows i (omega arith)
 
--- the pages of the next row follow
-pub base-row : (rows : List Row) (i : ℕ) → i < length (usedRows rows) → baseAt 0 (usedRows rows) (i + 1) ≡ baseAt 0 (usedRows rows) i + managed (rowAt rows i .pages)
-base-row rows i h = rw (add-one, ← used-row rows i h) (base-next 0 (usedRows rows) i h)
+  -- the pages of the next row follow
+  pub base-row : (rows : List Row) (i : ℕ) → i < length (usedRows rows) → baseAt board 0 (usedRows rows) (i + 1) ≡ baseAt board 0 (usedRows rows) i + managed board (rowAt rows i .pages)
+  base-row rows i h = rw (add-one, ← used-row rows i h) (base-next 0 (usedRows rows) i h)
 
 -- ---- the regions that they stand for
 
-pub stand-length : {f : ℕ → Record} {n base : ℕ} {fs : Frames} {rows : List Row} {rs : List AllocationRegion} → StandRows f n fs base rows rs → length rs ≡ length rows
-stand-length stand-none = refl
-stand-length (stand-more S Ss) = ap suc (stand-length Ss)
+module _ {board : Board} where
+  pub stand-length : {f : ℕ → Record} {n base : ℕ} {fs : Frames} {rows : List Row} {rs : List AllocationRegion} → StandRows board f n fs base rows rs → length rs ≡ length rows
+  stand-length stand-none = refl
+  stand-length (stand-more S Ss) = ap suc (stand-length Ss)
 
-module _ {f : ℕ → Record} {n : ℕ} {rows : List Row} {a : PhysicalFrameAllocator} (T : Table f n rows a) (i : ℕ) where
-  pub region-stands : i < length (usedRows rows) → StandsRow f n (baseAt 0 (usedRows rows) i) (rowAt rows i) (a .frames) (regionAt (a .regions) i)
-  region-stands h = rw (used-row rows i h) at (stands-at (T .stands) i h)
+  module _ {f : ℕ → Record} {n : ℕ} {rows : List Row} {a : PhysicalFrameAllocator} (T : Table board f n rows a) (i : ℕ) where
+    pub region-stands : i < length (usedRows rows) → StandsRow board f n (baseAt board 0 (usedRows rows) i) (rowAt rows i) (a .frames) (regionAt (a .regions) i)
+    region-stands h = rw (used-row rows i h) at (stands-at (T .stands) i h)
 
-  region-first : i < length (usedRows rows) → drop i (a .regions) ≡ regionAt (a .regions) i ∷ drop (i + 1) (a .regions)
-  region-first h = drop-at (a .regions) i _ (omega (arith, stand-length (T .stands)))
+    region-first : i < length (usedRows rows) → drop i (a .regions) ≡ regionAt (a .regions) i ∷ drop (i + 1) (a .regions)
+    region-first h = drop-at (a .regions) i _ (omega (arith, stand-length (T .stands)))
 
-  region-none : length (usedRows rows) ≤ i → drop i (a .regions) ≡ []
-  region-none h = drop-of-length-le (a .regions) {i = i} (omega (arith, stand-length (T .stands)))
+    region-none : length (usedRows rows) ≤ i → drop i (a .regions) ≡ []
+    region-none h = drop-of-length-le (a .regions) {i = i} (omega (arith, stand-length (T .stands)))
 
 -- ---- a test of the regions, one after another
 
--- the rows before i are in use, and some region passes the test exactly if one of those from i on does
-pub record Onward (f : ℕ → Record) (n : ℕ) (rows : List Row) (test : AllocationRegion → Bool) (i : ℕ) : Type 0 where
-  pub used : i ≤ length (usedRows rows)
-  pub left : (a : PhysicalFrameAllocator) → Table f n rows a → any test (a .regions) ≡ any test (drop i (a .regions))
+module _ (board : Board) where
+  -- the rows before i are in use, and some region passes the test exactly if one of those from i on does
+  pub record Onward (f : ℕ → Record) (n : ℕ) (rows : List Row) (test : AllocationRegion → Bool) (i : ℕ) : Type 0 where
+    pub used : i ≤ length (usedRows rows)
+    pub left : (a : PhysicalFrameAllocator) → Table board f n rows a → any test (a .regions) ≡ any test (drop i (a .regions))
 
-pub onward-none : {f : ℕ → Record} {n : ℕ} {rows : List Row} {test : AllocationRegion → Bool} → Onward f n rows test 0
-onward-none = record { used = omega arith; left = λ a T. refl }
+module _ {board : Board} where
+  pub onward-none : {f : ℕ → Record} {n : ℕ} {rows : List Row} {test : AllocationRegion → Bool} → Onward board f n rows test 0
+  onward-none = record { used = omega arith; left = λ a T. refl }
 
-module _ {f : ℕ → Record} {n : ℕ} {rows : List Row} {test : AllocationRegion → Bool} {i : ℕ} (O : Onward f n rows test i) where
-  -- the region of the row i fails the test
-  pub onward-row
-      : i < length (usedRows rows) → ((a : PhysicalFrameAllocator) → Table f n rows a → test (regionAt (a .regions) i) ≡ false) → Onward f n rows test (i + 1)
-  onward-row h fails = record { used = omega arith; left = λ a T. O .left a T ∙ any-on test (region-first T i h) (fails a T) }
+  module _ {f : ℕ → Record} {n : ℕ} {rows : List Row} {test : AllocationRegion → Bool} {i : ℕ} (O : Onward board f n rows test i) where
+    -- the region of the row i fails the test
+    pub onward-row
+        : i < length (usedRows rows) → ((a : PhysicalFrameAllocator) → Table board f n rows a → test (regionAt (a .regions) i) ≡ false) → Onward board f n rows test (i + 1)
+    onward-row h fails = record { used = omega arith; left = λ a T. O .left a T ∙ any-on test (region-first T i h) (fails a T) }
 
-  module _ {a : PhysicalFrameAllocator} (T : Table f n rows a) where
-    -- it passes
-    pub onward-found : i < length (usedRows rows) → test (regionAt (a .regions) i) ≡ true → any test (a .regions) ≡ true
-    onward-found h passes = O .left a T ∙ any-off test (region-first T i h) passes
+    module _ {a : PhysicalFrameAllocator} (T : Table board f n rows a) where
+      -- it passes
+      pub onward-found : i < length (usedRows rows) → test (regionAt (a .regions) i) ≡ true → any test (a .regions) ≡ true
+      onward-found h passes = O .left a T ∙ any-off test (region-first T i h) passes
 
-    -- no region is left
-    pub onward-end : length (usedRows rows) ≤ i → any test (a .regions) ≡ false
-    unfolding any
-    onward-end h = O .left a T ∙ ap (any test) (region-none T i h)
+      -- no region is left
+      pub onward-end : length (usedRows rows) ≤ i → any test (a .regions) ≡ false
+      unfolding any
+      onward-end h = O .left a T ∙ ap (any test) (region-none T i h)

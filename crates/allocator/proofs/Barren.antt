@@ -6,6 +6,7 @@ use mathlib.Core.List.{List, [], _∷_, _++_}
 use mathlib.Core.Option.{Option, none, some}
 use mathlib.Core.Path.{_≡_, refl, sym, ap, _∙_, subst, fun-ext}
 use native.Mathlib.Omega.{arith}
+use Rattle.definition.specs.Board.{Board}
 use Rattle.definition.specs.declared.Links.{Links}
 use Rattle.definition.specs.declared.Record.{Record}
 use Rattle.definition.specs.declared.Row.{Row}
@@ -79,17 +80,18 @@ slot-kind (some a) l z h e = go (a .allocated) (a .zeroed) z e
 sorted-nothing : (t o : Bool) (s : Levels) → Sorted t o (nothing s)
 sorted-nothing t o s p e = absurd (no-page refl e)
 
-sorted-pop : {s : Levels} {from first pages : ℕ} → Good s none from first pages → (l : ℕ) (z : Bool) → l < 3 → (t o : Bool) → wanted t o z ≡ true → Sorted t o (popFrom s (slot l z))
-unfolding popFrom
-sorted-pop {s} G l z h t o w p e = go (popBack (s .free (slot l z))) refl e
-  where
-    go : (x : Option Popped) → popBack (s .free (slot l z)) ≡ x → popped s (slot l z) x .page ≡ some p
-        → wanted t o (isZeroed (popped s (slot l z) x .levels .frames p)) ≡ true
-    go none d e = absurd (no-page refl e)
-    go (some u) d e =
-        let m : u .last ≡ p = cc in
-        let k = last-of (G .kept .listed (slot l z)) u d .slotted in
-        rw (slot-kind (s .frames p) l z h (subst (λ (q : ℕ). slotOf (s .frames q) ≡ slot l z) m k)) w
+module _ {board : Board} where
+  sorted-pop : {s : Levels} {from first pages : ℕ} → Good board s none from first pages → (l : ℕ) (z : Bool) → l < 3 → (t o : Bool) → wanted t o z ≡ true → Sorted t o (popFrom s (slot l z))
+  unfolding popFrom
+  sorted-pop {s} G l z h t o w p e = go (popBack (s .free (slot l z))) refl e
+    where
+      go : (x : Option Popped) → popBack (s .free (slot l z)) ≡ x → popped s (slot l z) x .page ≡ some p
+          → wanted t o (isZeroed (popped s (slot l z) x .levels .frames p)) ≡ true
+      go none d e = absurd (no-page refl e)
+      go (some u) d e =
+          let m : u .last ≡ p = cc in
+          let k = last-of (G .kept .listed (slot l z)) u d .slotted in
+          rw (slot-kind (s .frames p) l z h (subst (λ (q : ℕ). slotOf (s .frames q) ≡ slot l z) m k)) w
 
 sorted-or : (t o : Bool) (a b : Found) → Sorted t o a → Sorted t o b → Sorted t o (orElse a b)
 sorted-or t o a b A B = go (a .page) refl
@@ -98,35 +100,36 @@ sorted-or t o a b A B = go (a .page) refl
     go none e = rw (or-none a b e) B
     go (some p) e = rw (or-page a b p e) A
 
-sorted-level : {s : Levels} {from first pages : ℕ} → Good s none from first pages → (l : ℕ) → l < 3 → (t o : Bool) → Sorted t o (levelAllocate s l t o)
-unfolding levelAllocate
-sorted-level G l h t true = sorted-pop G l true h t true refl
-sorted-level {s} G l h true false =
-    sorted-or true false (popFrom s (slot l false)) (popFrom s (slot l true)) (sorted-pop G l false h true false refl) (sorted-pop G l true h true false refl)
-sorted-level {s} G l h false false =
-    sorted-or false false (popFrom s (slot l false)) (nothing s) (sorted-pop G l false h false false refl) (sorted-nothing false false s)
+module _ {board : Board} where
+  sorted-level : {s : Levels} {from first pages : ℕ} → Good board s none from first pages → (l : ℕ) → l < 3 → (t o : Bool) → Sorted t o (levelAllocate s l t o)
+  unfolding levelAllocate
+  sorted-level G l h t true = sorted-pop G l true h t true refl
+  sorted-level {s} G l h true false =
+      sorted-or true false (popFrom s (slot l false)) (popFrom s (slot l true)) (sorted-pop G l false h true false refl) (sorted-pop G l true h true false refl)
+  sorted-level {s} G l h false false =
+      sorted-or false false (popFrom s (slot l false)) (nothing s) (sorted-pop G l false h false false refl) (sorted-nothing false false s)
 
--- what was split is good again
-parts-good
-    : {s : Levels} {from first pages : ℕ} → Good s none from first pages → (left l : ℕ) → l + suc left ≡ 3 → (t o : Bool) (p : ℕ)
-    → doAllocate left (l + 1) s t o .page ≡ some p → Good (split (doAllocate left (l + 1) s t o .levels) p l) none from first pages
-parts-good {s} {from} {first} {pages} G left l h t o p e =
-    let F = fine-do left (l + 1) t o G (omega arith) in
-    good-split l (subst (λ (x : Option ℕ). Good (doAllocate left (l + 1) s t o .levels) x from first pages) e (F .good)) (F .ready p e)
+  -- what was split is good again
+  parts-good
+      : {s : Levels} {from first pages : ℕ} → Good board s none from first pages → (left l : ℕ) → l + suc left ≡ 3 → (t o : Bool) (p : ℕ)
+      → doAllocate left (l + 1) s t o .page ≡ some p → Good board (split (doAllocate left (l + 1) s t o .levels) p l) none from first pages
+  parts-good {s} {from} {first} {pages} G left l h t o p e =
+      let F = fine-do left (l + 1) t o G (omega arith) in
+      good-split l (subst (λ (x : Option ℕ). Good board (doAllocate left (l + 1) s t o .levels) x from first pages) e (F .good)) (F .ready p e)
 
-sorted-do
-    : {s : Levels} {from first pages : ℕ} → Good s none from first pages → (left l : ℕ) → l + left ≡ 3 → (t o : Bool) → Sorted t o (doAllocate left l s t o)
-unfolding doAllocate
-sorted-do {s} G zero l h t o = sorted-nothing t o s
-sorted-do {s} G (suc left) l h t o =
-    sorted-or t o (levelAllocate s l t o) (thenSplit l t o up) (sorted-level G l (omega arith) t o) (go (up .page) refl (sorted-do G left (l + 1) (omega arith) t o))
-  where
-    up : Found
-    up = doAllocate left (l + 1) s t o
+  sorted-do
+      : {s : Levels} {from first pages : ℕ} → Good board s none from first pages → (left l : ℕ) → l + left ≡ 3 → (t o : Bool) → Sorted t o (doAllocate left l s t o)
+  unfolding doAllocate
+  sorted-do {s} G zero l h t o = sorted-nothing t o s
+  sorted-do {s} G (suc left) l h t o =
+      sorted-or t o (levelAllocate s l t o) (thenSplit l t o up) (sorted-level G l (omega arith) t o) (go (up .page) refl (sorted-do G left (l + 1) (omega arith) t o))
+    where
+      up : Found
+      up = doAllocate left (l + 1) s t o
 
-    go : (x : Option ℕ) → up .page ≡ x → Sorted t o up → Sorted t o (thenSplit l t o up)
-    go none e ih = rw (parted-none l t o up e) ih
-    go (some p) e ih = rw (parted-page l t o up p e) (sorted-level (parts-good G left l h t o p e) l (omega arith) t o)
+      go : (x : Option ℕ) → up .page ≡ x → Sorted t o up → Sorted t o (thenSplit l t o up)
+      go none e ih = rw (parted-none l t o up e) ih
+      go (some p) e ih = rw (parted-page l t o up p e) (sorted-level (parts-good G left l h t o p e) l (omega arith) t o)
 
 -- ---- a level that lists a frame of such a kind has one to give
 
@@ -173,50 +176,51 @@ or-nothing s a b h e = go (a .page) refl
     go none d = let c = or-none a b d in c ∙ h (sym (ap (λ (x : Found). x .page) c) ∙ e)
     go (some p) d = absurd (or-left a b p d e)
 
-pub nothing-done
-    : {s : Levels} {from first pages : ℕ} → Good s none from first pages → (left l : ℕ) → l + left ≡ 3 → (t o : Bool)
-    → doAllocate left l s t o .page ≡ none → doAllocate left l s t o ≡ nothing s
-unfolding doAllocate
-nothing-done G zero l h t o e = refl
-nothing-done {s} G (suc left) l h t o e =
-    or-nothing s (levelAllocate s l t o) (thenSplit l t o up) (go (up .page) refl (nothing-done G left (l + 1) (omega arith) t o)) e
-  where
-    up : Found
-    up = doAllocate left (l + 1) s t o
-
-    go : (x : Option ℕ) → up .page ≡ x → (up .page ≡ none → up ≡ nothing s) → thenSplit l t o up .page ≡ none → thenSplit l t o up ≡ nothing s
-    go none d ih n = parted-none l t o up d ∙ ih d
-    go (some p) d ih n =
-        absurd
-        (level-gives (split (up .levels) p l) l t o (isZeroed (up .levels .frames p))
-        (children 511 (up .levels) p l (isZeroed (up .levels .frames p)) .free (slot l (isZeroed (up .levels .frames p)))) p
-        (sorted-do G left (l + 1) (omega arith) t o p d) (split-lists (up .levels) p l)
-        (sym (ap (λ (x : Found). x .page) (parted-page l t o up p d)) ∙ n))
-
-module _ {s : Levels} {from first pages : ℕ} (G : Good s none from first pages) (l : ℕ) (h : l < 3) (t o : Bool) where
-  found : Found
-  found = doAllocate (3 - l) l s t o
-
-  pub nothing-granted : allocate l s t o .page ≡ none → allocate l s t o .levels ≡ s
-  unfolding allocate found
-  nothing-granted n = go (found .page) refl
+module _ {board : Board} where
+  pub nothing-done
+      : {s : Levels} {from first pages : ℕ} → Good board s none from first pages → (left l : ℕ) → l + left ≡ 3 → (t o : Bool)
+      → doAllocate left l s t o .page ≡ none → doAllocate left l s t o ≡ nothing s
+  unfolding doAllocate
+  nothing-done G zero l h t o e = refl
+  nothing-done {s} G (suc left) l h t o e =
+      or-nothing s (levelAllocate s l t o) (thenSplit l t o up) (go (up .page) refl (nothing-done G left (l + 1) (omega arith) t o)) e
     where
-      go : (x : Option ℕ) → found .page ≡ x → setAllocated found .levels ≡ s
-      go none e = ap (λ (x : Found). x .levels) (granted-none found e ∙ nothing-done G (3 - l) l (omega arith) t o e)
-      go (some p) e = absurd (no-page n (ap (λ (x : Found). x .page) (granted-page found p e)))
+      up : Found
+      up = doAllocate left (l + 1) s t o
 
-  -- the frame that is found is of the region, and held
-  pub granted-held : (p : ℕ) → allocate l s t o .page ≡ some p → Inside first pages p × (isAllocated (allocate l s t o .levels .frames p) ≡ true)
-  unfolding allocate found
-  granted-held p n = go (found .page) refl
-    where
-      go : (x : Option ℕ) → found .page ≡ x → Inside first pages p × (isAllocated (setAllocated found .levels .frames p) ≡ true)
-      go none e = absurd (no-page e (sym (ap (λ (x : Found). x .page) (granted-none found e)) ∙ n))
-      go (some q) e =
-          let d : some q ≡ some p = sym (ap (λ (x : Found). x .page) (granted-page found q e)) ∙ n in
-          let m : q ≡ p = cc in
-          let y : Ready (found .levels) first pages l p false = fine-do (3 - l) l t o G (omega arith) .ready p (e ∙ d) in
-          (y .inside, rw (granted-page found p (e ∙ d), y .here, upd-same (found .levels .frames) p) refl)
+      go : (x : Option ℕ) → up .page ≡ x → (up .page ≡ none → up ≡ nothing s) → thenSplit l t o up .page ≡ none → thenSplit l t o up ≡ nothing s
+      go none d ih n = parted-none l t o up d ∙ ih d
+      go (some p) d ih n =
+          absurd
+          (level-gives (split (up .levels) p l) l t o (isZeroed (up .levels .frames p))
+          (children 511 (up .levels) p l (isZeroed (up .levels .frames p)) .free (slot l (isZeroed (up .levels .frames p)))) p
+          (sorted-do G left (l + 1) (omega arith) t o p d) (split-lists (up .levels) p l)
+          (sym (ap (λ (x : Found). x .page) (parted-page l t o up p d)) ∙ n))
+
+  module _ {s : Levels} {from first pages : ℕ} (G : Good board s none from first pages) (l : ℕ) (h : l < 3) (t o : Bool) where
+    found : Found
+    found = doAllocate (3 - l) l s t o
+
+    pub nothing-granted : allocate l s t o .page ≡ none → allocate l s t o .levels ≡ s
+    unfolding allocate found
+    nothing-granted n = go (found .page) refl
+      where
+        go : (x : Option ℕ) → found .page ≡ x → setAllocated found .levels ≡ s
+        go none e = ap (λ (x : Found). x .levels) (granted-none found e ∙ nothing-done G (3 - l) l (omega arith) t o e)
+        go (some p) e = absurd (no-page n (ap (λ (x : Found). x .page) (granted-page found p e)))
+
+    -- the frame that is found is of the region, and held
+    pub granted-held : (p : ℕ) → allocate l s t o .page ≡ some p → Inside board first pages p × (isAllocated (allocate l s t o .levels .frames p) ≡ true)
+    unfolding allocate found
+    granted-held p n = go (found .page) refl
+      where
+        go : (x : Option ℕ) → found .page ≡ x → Inside board first pages p × (isAllocated (setAllocated found .levels .frames p) ≡ true)
+        go none e = absurd (no-page e (sym (ap (λ (x : Found). x .page) (granted-none found e)) ∙ n))
+        go (some q) e =
+            let d : some q ≡ some p = sym (ap (λ (x : Found). x .page) (granted-page found q e)) ∙ n in
+            let m : q ≡ p = cc in
+            let y : Ready board (found .levels) first pages l p false = fine-do (3 - l) l t o G (omega arith) .ready p (e ∙ d) in
+            (y .inside, rw (granted-page found p (e ∙ d), y .here, upd-same (found .levels .frames) p) refl)
 
 -- ---- a region whose state is as it was
 
@@ -224,13 +228,14 @@ row-same : {a b : PhysAddr} {c d : ℕ} {x y : List Links} → a ≡ b → c ≡
     → _≡_ {A = Row} (record { start = a; pages = c; lists = x }) (record { start = b; pages = d; lists = y })
 row-same p q r = cc
 
--- its records and its row are too
-pub unchanged
-    : {f g : ℕ → Record} {n m first : ℕ} {row r : Row} → SoundRow f n first row → Becomes f first row g m r (stateOf f row) → (g ≡ f) × (r ≡ row)
-unchanged {f} {g} {first = first} {row = row} R B =
-    let D = determined R (rep-sound (B .rep)) (B .pages) (sym (rep-state (B .rep))) in
-    (fun-ext (λ q. at (D .0) q (dec-inside first (row .pages) q)), row-same (B .start) (B .pages) (sym (D .1)))
-  where
-    at : ((q : ℕ) → Inside first (row .pages) q → f q ≡ g q) → (q : ℕ) → Dec (Inside first (row .pages) q) → g q ≡ f q
-    at D q (yes i) = sym (D q i)
-    at D q (no o) = B .outside q o
+module _ {board : Board} where
+  -- its records and its row are too
+  pub unchanged
+      : {f g : ℕ → Record} {n m first : ℕ} {row r : Row} → SoundRow board f n first row → Becomes board f first row g m r (stateOf f row) → (g ≡ f) × (r ≡ row)
+  unchanged {f} {g} {first = first} {row = row} R B =
+      let D = determined R (rep-sound (B .rep)) (B .pages) (sym (rep-state (B .rep))) in
+      (fun-ext (λ q. at (D .0) q (dec-inside first (row .pages) q)), row-same (B .start) (B .pages) (sym (D .1)))
+    where
+      at : ((q : ℕ) → Inside board first (row .pages) q → f q ≡ g q) → (q : ℕ) → Dec (Inside board first (row .pages) q) → g q ≡ f q
+      at D q (yes i) = sym (D q i)
+      at D q (no o) = B .outside q o

@@ -8,6 +8,7 @@ use native.Mathlib.Omega.{arith}
 use borrow.Author.Tests.{eq-eqb, ne-eqb}
 use lib.Dec.{eqb}
 use lib.ListN.{getD, length}
+use Rattle.definition.specs.Board.{Board}
 use Rattle.definition.specs.declared.Record.{Record}
 use Rattle.definition.specs.declared.Links.{Links}
 use Rattle.definition.specs.declared.Row.{Row}
@@ -41,13 +42,14 @@ empty-map : (g : ℕ → ℕ) (xs : List ℕ) → isEmpty (map g xs) ≡ eqb (le
 empty-map g [] = sym (eq-eqb 0 0 refl)
 empty-map g (x ∷ xs) = sym (ne-eqb (length (x ∷ xs)) 0 (λ e. omega arith))
 
-module _ {f : ℕ → Record} {n base : ℕ} {row : Row} {fs : Frames} {r : AllocationRegion} (S : StandsRow f n base row fs r) where
-  filled-counted : (k : ℕ) → k < 6 → filledAt r k ≡ countedAt (row .lists) k
-  filled-counted k h =
-      ap not
-      (ap isEmpty (S .same .free k)
-      ∙ empty-map (shift (fromOf row) base) (stateOf f row .free k)
-      ∙ ap (λ (m : ℕ). eqb m 0) (sym (S .sound .lists k h .counted)))
+module _ {board : Board} where
+  module _ {f : ℕ → Record} {n base : ℕ} {row : Row} {fs : Frames} {r : AllocationRegion} (S : StandsRow board f n base row fs r) where
+    filled-counted : (k : ℕ) → k < 6 → filledAt r k ≡ countedAt (row .lists) k
+    filled-counted k h =
+        ap not
+        (ap isEmpty (S .same .free k)
+        ∙ empty-map (shift (fromOf board row) base) (stateOf f row .free k)
+        ∙ ap (λ (m : ℕ). eqb m 0) (sym (S .sound .lists k h .counted)))
 
-  pub lists-same : (level : ℕ) → level < 3 → listsIn level r ≡ listsSome row level
-  lists-same level h = any-same (level * 2) (6 - level * 2) (λ k m. filled-counted k (omega arith))
+    pub lists-same : (level : ℕ) → level < 3 → listsIn level r ≡ listsSome row level
+    lists-same level h = any-same (level * 2) (6 - level * 2) (λ k m. filled-counted k (omega arith))

@@ -6,6 +6,7 @@ use mathlib.Core.List.{List, [], _∷_}
 use mathlib.Core.Option.{Option, none, some}
 use mathlib.Core.Path.{_≡_, refl, sym, ap, _∙_}
 use native.Mathlib.Omega.{arith}
+use Rattle.definition.specs.Board.{Board}
 use Rattle.definition.specs.declared.Record.{Record}
 use Rattle.definition.specs.declared.Row.{Row}
 use Rattle.definition.specs.Frame.{Found, Frames, allocate}
@@ -42,10 +43,11 @@ pass-nothing l t o fs (r ∷ rs) e = go (allocate l (levelsOf fs r) t o) (alloca
 
 -- ---- two passes
 
-pub turned-then
-    : {f g h : ℕ → Record} {n : ℕ} {rows rows2 rows3 : List Row} {a b : PhysicalFrameAllocator} → Turned f rows g n rows2 a → Turned g rows2 h n rows3 b
-    → Turned f rows h n rows3 b
-turned-then A B = record { table = B .table; spans = B .spans ∙ A .spans; outside = λ q k. B .outside q (rw (A .spans) k) ∙ A .outside q k }
+module _ {board : Board} where
+  pub turned-then
+      : {f g h : ℕ → Record} {n : ℕ} {rows rows2 rows3 : List Row} {a b : PhysicalFrameAllocator} → Turned board f rows g n rows2 a → Turned board g rows2 h n rows3 b
+      → Turned board f rows h n rows3 b
+  turned-then A B = record { table = B .table; spans = B .spans ∙ A .spans; outside = λ q k. B .outside q (rw (A .spans) k) ∙ A .outside q k }
 
 first-is : (a b : Allocated) (p : ℕ) → a .page ≡ some p → orSecondPass a b ≡ a
 first-is a b p e = rw e refl
@@ -53,20 +55,21 @@ first-is a b p e = rw e refl
 second-is : (a b : Allocated) → a .page ≡ none → orSecondPass a b ≡ b
 second-is a b e = rw e refl
 
-module _ {f g : ℕ → Record} {n : ℕ} {rows : List Row} {r : Picked} (l : ℕ) (z : Bool) (P : PicksBy (passBy l false z) f rows g n r) where
-  pub picks-first : r .found ≡ true → PicksBy (doAlloc l z) f rows g n r
-  unfolding doAlloc
-  picks-first e a T = rw (first-is (passBy l false z a) (passBy l true false a) (numberAt (r .rows) (r .spot)) (P a T .page e)) (P a T)
+module _ {board : Board} where
+  module _ {f g : ℕ → Record} {n : ℕ} {rows : List Row} {r : Picked} (l : ℕ) (z : Bool) (P : PicksBy board (passBy l false z) f rows g n r) where
+    pub picks-first : r .found ≡ true → PicksBy board (doAlloc l z) f rows g n r
+    unfolding doAlloc
+    picks-first e a T = rw (first-is (passBy l false z a) (passBy l true false a) (numberAt board (r .rows) (r .spot)) (P a T .page e)) (P a T)
 
-  -- what the second pass asks of the table that the first leaves
-  pub second-asks : Sane f n rows → Sane g n (r .rows)
-  second-asks S = P (standing f rows) (sane-table S) .turned .table .sane
+    -- what the second pass asks of the table that the first leaves
+    pub second-asks : Sane board f n rows → Sane board g n (r .rows)
+    second-asks S = P (standing board f rows) (sane-table S) .turned .table .sane
 
-  pub picks-second : {h : ℕ → Record} {r2 : Picked} → r .found ≡ false → PicksBy (passBy l true false) g (r .rows) h n r2 → PicksBy (doAlloc l z) f rows h n r2
-  unfolding doAlloc
-  picks-second e Q a T =
-      let k = P a T .none-found e in
-      let A : Turned f rows g n (r .rows) a = rw (pass-nothing l false z (a .frames) (a .regions) k) at (P a T .turned) in
-      let y = Q a (A .table) in
-      rw (second-is (passBy l false z a) (passBy l true false a) k)
-      (record { turned = turned-then A (y .turned); none-found = y .none-found; page = y .page; spot = y .spot; held = y .held })
+    pub picks-second : {h : ℕ → Record} {r2 : Picked} → r .found ≡ false → PicksBy board (passBy l true false) g (r .rows) h n r2 → PicksBy board (doAlloc l z) f rows h n r2
+    unfolding doAlloc
+    picks-second e Q a T =
+        let k = P a T .none-found e in
+        let A : Turned board f rows g n (r .rows) a = rw (pass-nothing l false z (a .frames) (a .regions) k) at (P a T .turned) in
+        let y = Q a (A .table) in
+        rw (second-is (passBy l false z a) (passBy l true false a) k)
+        (record { turned = turned-then A (y .turned); none-found = y .none-found; page = y .page; spot = y .spot; held = y .held })

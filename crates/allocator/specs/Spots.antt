@@ -10,7 +10,7 @@ use Rattle.definition.specs.declared.Row.{Row}
 use lib.Dec.{eqb}
 use lib.ListN.{getD}
 use Rattle.definition.specs.Basics.{upd, any, range}
-use Rattle.definition.specs.Board.{standard}
+use Rattle.definition.specs.Board.{Board}
 use Rattle.definition.specs.Frame.{Frames, splitAndKeep}
 use Rattle.definition.specs.Allocator.{PhysicalFrameAllocator, Allocated, freeIn, isManaged, isListed, doAlloc, pass}
 use Rattle.definition.specs.World.{frameOf, noLinks}
@@ -20,39 +20,8 @@ use Rattle.world.specs.Tables.{Sane, Table, Turned, Spotted}
 use Rattle.allocator.specs.declared.Spot.{Spot}
 use Rattle.allocator.specs.declared.Seen.{Seen}
 
--- a spot in the rows, and the page frame number of its page
-abbrev pub numberAt : List Row → Spot → ℕ
-numberAt rows s = shift (fromOf (rowAt rows (s .index))) (s .base) (s .page)
-
--- a page of one of the rows in use
-abbrev pub InRows : List Row → Spot → Type 0
-InRows rows s = Spotted rows (s .index) (s .base) (s .page) (numberAt rows s)
-
--- a held frame starts there
-abbrev pub HeldAt : (ℕ → Record) → List Row → Spot → Type 0
-HeldAt f rows s = Held (stateOf f (rowAt rows (s .index))) (s .base) (rowAt rows (s .index) .pages) (s .page)
-
--- what stands at the page frame number p
-pub record Sees (f : ℕ → Record) (rows : List Row) (p : ℕ) (a : PhysicalFrameAllocator) (r : Seen) : Type 0 where
-  pub managed : r .managed ≡ isManaged standard (a .regions) p
-  pub spot : r .managed ≡ true → Spotted rows (r .spot .index) (r .spot .base) (r .spot .page) p
-  pub marks : r .managed ≡ true → r .marks ≡ f (r .spot .page) .marks
-  pub level : r .managed ≡ true → r .level ≡ f (r .spot .page) .level
-  pub frame : r .managed ≡ true → a .frames p ≡ frameOf (f (r .spot .page))
-
-abbrev pub SeesAll : (ℕ → Record) → ℕ → List Row → ℕ → Seen → Type 0
-SeesAll f n rows p r = (a : PhysicalFrameAllocator) → Table f n rows a → Sees f rows p a r
-
--- the table became that of what `op` makes of its allocator
-abbrev pub TurnsBy : (PhysicalFrameAllocator → PhysicalFrameAllocator) → (ℕ → Record) → List Row → (ℕ → Record) → ℕ → List Row → Type 0
-TurnsBy op f rows g n rows2 = (a : PhysicalFrameAllocator) → Table f n rows a → Turned f rows g n rows2 (op a)
-
 abbrev pub withFramesOf : PhysicalFrameAllocator → Frames → PhysicalFrameAllocator
 withFramesOf a fs = record { frames = fs; regions = a .regions }
-
--- frame.rs 611, free
-abbrev pub freeAt : ℕ → PhysicalFrameAllocator → PhysicalFrameAllocator
-freeAt p a = freeIn standard p (a .frames) (a .regions)
 
 -- frame.rs 203, split_and_keep
 abbrev pub splitAt : ℕ → PhysicalFrameAllocator → PhysicalFrameAllocator
@@ -68,17 +37,6 @@ pub record Picked : Type 0 where
   pub found : Bool
   pub spot : Spot
 
--- what a search over the regions leaves, and the page that it found
-pub record Picks (f : ℕ → Record) (rows : List Row) (g : ℕ → Record) (n : ℕ) (r : Picked) (x : Allocated) : Type 0 where
-  pub turned : Turned f rows g n (r .rows) (x .allocator)
-  pub none-found : r .found ≡ false → x .page ≡ none
-  pub page : r .found ≡ true → x .page ≡ some (numberAt (r .rows) (r .spot))
-  pub spot : r .found ≡ true → InRows (r .rows) (r .spot)
-  pub held : r .found ≡ true → HeldAt g (r .rows) (r .spot)
-
-abbrev pub PicksBy : (PhysicalFrameAllocator → Allocated) → (ℕ → Record) → List Row → (ℕ → Record) → ℕ → Picked → Type 0
-PicksBy op f rows g n r = (a : PhysicalFrameAllocator) → Table f n rows a → Picks f rows g n r (op a)
-
 abbrev pub passBy : (level : ℕ) (tryZero onlyZero : Bool) → PhysicalFrameAllocator → Allocated
 passBy level tryZero onlyZero a = pass level tryZero onlyZero (a .frames) (a .regions)
 
@@ -86,5 +44,48 @@ passBy level tryZero onlyZero a = pass level tryZero onlyZero (a .frames) (a .re
 abbrev pub listsSome : Row → ℕ → Bool
 listsSome row level = any (λ k. not (eqb (getD (row .lists) k noLinks .count) 0)) (range (level * 2) (6 - level * 2))
 
-abbrev pub ListedAll : (ℕ → Record) → ℕ → List Row → ℕ → Bool → Type 0
-ListedAll f n rows level r = (a : PhysicalFrameAllocator) → Table f n rows a → r ≡ isListed level (a .regions)
+module _ (board : Board) where
+  -- a spot in the rows, and the page frame number of its page
+  abbrev pub numberAt : List Row → Spot → ℕ
+  numberAt rows s = shift (fromOf board (rowAt rows (s .index))) (s .base) (s .page)
+
+  -- a page of one of the rows in use
+  abbrev pub InRows : List Row → Spot → Type 0
+  InRows rows s = Spotted board rows (s .index) (s .base) (s .page) (numberAt rows s)
+
+  -- a held frame starts there
+  abbrev pub HeldAt : (ℕ → Record) → List Row → Spot → Type 0
+  HeldAt f rows s = Held board (stateOf f (rowAt rows (s .index))) (s .base) (rowAt rows (s .index) .pages) (s .page)
+
+  -- what stands at the page frame number p
+  pub record Sees (f : ℕ → Record) (rows : List Row) (p : ℕ) (a : PhysicalFrameAllocator) (r : Seen) : Type 0 where
+    pub managed : r .managed ≡ isManaged board (a .regions) p
+    pub spot : r .managed ≡ true → Spotted board rows (r .spot .index) (r .spot .base) (r .spot .page) p
+    pub marks : r .managed ≡ true → r .marks ≡ f (r .spot .page) .marks
+    pub level : r .managed ≡ true → r .level ≡ f (r .spot .page) .level
+    pub frame : r .managed ≡ true → a .frames p ≡ frameOf (f (r .spot .page))
+
+  abbrev pub SeesAll : (ℕ → Record) → ℕ → List Row → ℕ → Seen → Type 0
+  SeesAll f n rows p r = (a : PhysicalFrameAllocator) → Table board f n rows a → Sees f rows p a r
+
+  -- the table became that of what `op` makes of its allocator
+  abbrev pub TurnsBy : (PhysicalFrameAllocator → PhysicalFrameAllocator) → (ℕ → Record) → List Row → (ℕ → Record) → ℕ → List Row → Type 0
+  TurnsBy op f rows g n rows2 = (a : PhysicalFrameAllocator) → Table board f n rows a → Turned board f rows g n rows2 (op a)
+
+  -- frame.rs 611, free
+  abbrev pub freeAt : ℕ → PhysicalFrameAllocator → PhysicalFrameAllocator
+  freeAt p a = freeIn board p (a .frames) (a .regions)
+
+  -- what a search over the regions leaves, and the page that it found
+  pub record Picks (f : ℕ → Record) (rows : List Row) (g : ℕ → Record) (n : ℕ) (r : Picked) (x : Allocated) : Type 0 where
+    pub turned : Turned board f rows g n (r .rows) (x .allocator)
+    pub none-found : r .found ≡ false → x .page ≡ none
+    pub page : r .found ≡ true → x .page ≡ some (numberAt (r .rows) (r .spot))
+    pub spot : r .found ≡ true → InRows (r .rows) (r .spot)
+    pub held : r .found ≡ true → HeldAt g (r .rows) (r .spot)
+
+  abbrev pub PicksBy : (PhysicalFrameAllocator → Allocated) → (ℕ → Record) → List Row → (ℕ → Record) → ℕ → Picked → Type 0
+  PicksBy op f rows g n r = (a : PhysicalFrameAllocator) → Table board f n rows a → Picks f rows g n r (op a)
+
+  abbrev pub ListedAll : (ℕ → Record) → ℕ → List Row → ℕ → Bool → Type 0
+  ListedAll f n rows level r = (a : PhysicalFrameAllocator) → Table board f n rows a → r ≡ isListed level (a .regions)

@@ -7,6 +7,7 @@ ghost use mathlib.Core.Path.{_≡_};
 ghost use mathlib.Core.Bool.{false};
 ghost use Prim.Native.Nat.{_/_, _≤_, _<_};
 ghost use lib.ListN.{length};
+ghost use Rattle.definition.specs.Board.{standard};
 ghost use Rattle.definition.specs.World.{recordAt};
 ghost use Rattle.definition.specs.Allocator.{doAlloc};
 ghost use Rattle.record.specs.Records.{pagesIn};
@@ -44,8 +45,8 @@ pub struct Seen {
 
 // get_frame, frame.rs 742.
 pub fn see(words: &[u64], records: &[u8], pa: PhysAddr) -> Seen
-    requires { ⌜ (92 ≤ length (now words)) × Sane (recordAt (now records)) (pagesIn (now records)) (rowsIn (now words)) ⌝ }
-    ensures { λ r. ⌜ SeesAll (recordAt (now (records .entry))) (pagesIn (now (records .entry))) (rowsIn (now (words .entry))) (pa .0 / 4096) r ⌝ }
+    requires { ⌜ (92 ≤ length (now words)) × Sane standard (recordAt (now records)) (pagesIn (now records)) (rowsIn (now words)) ⌝ }
+    ensures { λ r. ⌜ SeesAll standard (recordAt (now (records .entry))) (pagesIn (now (records .entry))) (rowsIn (now (words .entry))) (pa .0 / 4096) r ⌝ }
 {
     let mut base: usize = 0;
     let mut i: usize = 0;
@@ -93,9 +94,9 @@ pub fn nothing_seen() -> Seen
 
 // Whether some list holds a frame of the level or above.
 pub fn is_listed(words: &[u64], records: &[u8], level: usize) -> bool
-    requires { ⌜ (92 ≤ length (now words)) × Sane (recordAt (now records)) (pagesIn (now records)) (rowsIn (now words)) ⌝ }
+    requires { ⌜ (92 ≤ length (now words)) × Sane standard (recordAt (now records)) (pagesIn (now records)) (rowsIn (now words)) ⌝ }
     requires { ⌜ level < 3 ⌝ }
-    ensures { λ r. ⌜ ListedAll (recordAt (now (records .entry))) (pagesIn (now (records .entry))) (rowsIn (now (words .entry))) level r ⌝ }
+    ensures { λ r. ⌜ ListedAll standard (recordAt (now (records .entry))) (pagesIn (now (records .entry))) (rowsIn (now (words .entry))) level r ⌝ }
 {
     let mut i: usize = 0;
     while i < 8 {
@@ -130,9 +131,9 @@ fn lists_some(row: Row, level: usize) -> bool
 
 // free, frame.rs 611, of a held frame.
 pub fn free(words: &mut [u64], records: &mut [u8], spot: Spot)
-    requires { ⌜ (92 ≤ length (now words)) × Sane (recordAt (now records)) (pagesIn (now records)) (rowsIn (now words)) ⌝ }
-    requires { ⌜ InRows (rowsIn (now words)) spot × HeldAt (recordAt (now records)) (rowsIn (now words)) spot ⌝ }
-    ensures { λ _. ⌜ TurnsBy (freeAt (numberAt (rowsIn (now (words .entry))) spot)) (recordAt (now (records .entry))) (rowsIn (now (words .entry))) (recordAt (now (records .exit))) (pagesIn (now (records .exit))) (rowsIn (now (words .exit))) ⌝ }
+    requires { ⌜ (92 ≤ length (now words)) × Sane standard (recordAt (now records)) (pagesIn (now records)) (rowsIn (now words)) ⌝ }
+    requires { ⌜ InRows standard (rowsIn (now words)) spot × HeldAt standard (recordAt (now records)) (rowsIn (now words)) spot ⌝ }
+    ensures { λ _. ⌜ TurnsBy standard (freeAt standard (numberAt standard (rowsIn (now (words .entry))) spot)) (recordAt (now (records .entry))) (rowsIn (now (words .entry))) (recordAt (now (records .exit))) (pagesIn (now (records .exit))) (rowsIn (now (words .exit))) ⌝ }
     ensures { λ _. ⌜ RowsBeside (now (words .entry)) (now (words .exit)) ⌝ }
 {
     region::free(records, spot.base, words, spot.index, spot.page);
@@ -140,9 +141,9 @@ pub fn free(words: &mut [u64], records: &mut [u8], spot: Spot)
 
 // split_frame, frame.rs 753, of a held frame.
 pub fn split_frame(words: &[u64], records: &mut [u8], spot: Spot)
-    requires { ⌜ (92 ≤ length (now words)) × Sane (recordAt (now records)) (pagesIn (now records)) (rowsIn (now words)) ⌝ }
-    requires { ⌜ InRows (rowsIn (now words)) spot × HeldAt (recordAt (now records)) (rowsIn (now words)) spot ⌝ }
-    ensures { λ _. ⌜ TurnsBy (splitAt (numberAt (rowsIn (now (words .entry))) spot)) (recordAt (now (records .entry))) (rowsIn (now (words .entry))) (recordAt (now (records .exit))) (pagesIn (now (records .exit))) (rowsIn (now (words .entry))) ⌝ }
+    requires { ⌜ (92 ≤ length (now words)) × Sane standard (recordAt (now records)) (pagesIn (now records)) (rowsIn (now words)) ⌝ }
+    requires { ⌜ InRows standard (rowsIn (now words)) spot × HeldAt standard (recordAt (now records)) (rowsIn (now words)) spot ⌝ }
+    ensures { λ _. ⌜ TurnsBy standard (splitAt (numberAt standard (rowsIn (now (words .entry))) spot)) (recordAt (now (records .entry))) (rowsIn (now (words .entry))) (recordAt (now (records .exit))) (pagesIn (now (records .exit))) (rowsIn (now (words .entry))) ⌝ }
 {
     let row = words::row_at(words, spot.index);
     region::split_and_keep(records, spot.base, row, spot.page);
@@ -150,9 +151,9 @@ pub fn split_frame(words: &[u64], records: &mut [u8], spot: Spot)
 
 // set_not_zero, zero but for the bytes, and set_kernel (frame.rs 443, 430, 470): the marks of a held frame.
 pub fn set_marks(words: &[u64], records: &mut [u8], spot: Spot, zeroed: bool, kernel: bool)
-    requires { ⌜ (92 ≤ length (now words)) × Sane (recordAt (now records)) (pagesIn (now records)) (rowsIn (now words)) ⌝ }
-    requires { ⌜ InRows (rowsIn (now words)) spot × HeldAt (recordAt (now records)) (rowsIn (now words)) spot ⌝ }
-    ensures { λ _. ⌜ TurnsBy (markAt zeroed kernel (numberAt (rowsIn (now (words .entry))) spot)) (recordAt (now (records .entry))) (rowsIn (now (words .entry))) (recordAt (now (records .exit))) (pagesIn (now (records .exit))) (rowsIn (now (words .entry))) ⌝ }
+    requires { ⌜ (92 ≤ length (now words)) × Sane standard (recordAt (now records)) (pagesIn (now records)) (rowsIn (now words)) ⌝ }
+    requires { ⌜ InRows standard (rowsIn (now words)) spot × HeldAt standard (recordAt (now records)) (rowsIn (now words)) spot ⌝ }
+    ensures { λ _. ⌜ TurnsBy standard (markAt zeroed kernel (numberAt standard (rowsIn (now (words .entry))) spot)) (recordAt (now (records .entry))) (rowsIn (now (words .entry))) (recordAt (now (records .exit))) (pagesIn (now (records .exit))) (rowsIn (now (words .entry))) ⌝ }
 {
     let row = words::row_at(words, spot.index);
     region::set_marks(records, spot.base, row, spot.page, zeroed, kernel);
@@ -172,9 +173,9 @@ fn pass(
     try_zero: bool,
     only_zero: bool,
 ) -> Picked
-    requires { ⌜ (92 ≤ length (now words)) × Sane (recordAt (now records)) (pagesIn (now records)) (rowsIn (now words)) ⌝ }
+    requires { ⌜ (92 ≤ length (now words)) × Sane standard (recordAt (now records)) (pagesIn (now records)) (rowsIn (now words)) ⌝ }
     requires { ⌜ level < 3 ⌝ }
-    ensures { λ r. ⌜ PicksBy (passBy level «try_zero» «only_zero») (recordAt (now (records .entry))) (rowsIn (now (words .entry))) (recordAt (now (records .exit))) (pagesIn (now (records .exit))) (record { rows = rowsIn (now (words .exit)); found = r .found; spot = r .spot }) ⌝ }
+    ensures { λ r. ⌜ PicksBy standard (passBy level «try_zero» «only_zero») (recordAt (now (records .entry))) (rowsIn (now (words .entry))) (recordAt (now (records .exit))) (pagesIn (now (records .exit))) (record { rows = rowsIn (now (words .exit)); found = r .found; spot = r .spot }) ⌝ }
     ensures { λ _. ⌜ RowsBeside (now (words .entry)) (now (words .exit)) ⌝ }
 {
     let mut base: usize = 0;
@@ -216,9 +217,9 @@ fn nothing_picked() -> Picked
 
 // __do_alloc, frame.rs 594: zeroed only where that was asked, else dirty only; then either kind.
 pub fn do_alloc(words: &mut [u64], records: &mut [u8], level: usize, needs_zero: bool) -> Picked
-    requires { ⌜ (92 ≤ length (now words)) × Sane (recordAt (now records)) (pagesIn (now records)) (rowsIn (now words)) ⌝ }
+    requires { ⌜ (92 ≤ length (now words)) × Sane standard (recordAt (now records)) (pagesIn (now records)) (rowsIn (now words)) ⌝ }
     requires { ⌜ level < 3 ⌝ }
-    ensures { λ r. ⌜ PicksBy (doAlloc level «needs_zero») (recordAt (now (records .entry))) (rowsIn (now (words .entry))) (recordAt (now (records .exit))) (pagesIn (now (records .exit))) (record { rows = rowsIn (now (words .exit)); found = r .found; spot = r .spot }) ⌝ }
+    ensures { λ r. ⌜ PicksBy standard (doAlloc level «needs_zero») (recordAt (now (records .entry))) (rowsIn (now (words .entry))) (recordAt (now (records .exit))) (pagesIn (now (records .exit))) (record { rows = rowsIn (now (words .exit)); found = r .found; spot = r .spot }) ⌝ }
     ensures { λ _. ⌜ RowsBeside (now (words .entry)) (now (words .exit)) ⌝ }
 {
     let picked = pass(words, records, level, false, needs_zero);

@@ -102,7 +102,7 @@ module _ (w : ℕ → ℕ) (most : (h : ℕ) → w h ≤ 262144) (f : Records) w
       go true h = omega arith
       go false h = omega (arith, most at)
 
-pub held-most : (kernel : Bool) (f : Records) (base : ℕ) (row : Row) → heldRow kernel f (placedAt base row) ≤ 262144 * managedRow row
+pub held-most : (kernel : Bool) (f : Records) (base : ℕ) (row : Row) → heldRow standard kernel f (placedAt base row) ≤ 262144 * managedRow row
 held-most kernel f base row =
     let e : base + managedRow row - base ≡ managedRow row = omega arith in
     rw e (heads-sum (λ h. heldAs kernel (f h)) (λ h. held-record kernel (f h)) f (managedRow row) base (base + managedRow row))

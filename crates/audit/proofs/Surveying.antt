@@ -43,9 +43,9 @@ module _ (f : Records) (n : ℕ) (rows : List Row) where
     pub booted : all (rowAsBoot standard) used ≡ all (rowAsBoot standard) (drop (s .used) used)
     pub totals : total (regionsOf standard rows) ≡ s .total + total (bareRegions standard (drop (s .used) used))
     pub manages : s .managed + leftOf managedRow rows (s .used) ≡ managedPages standard (regionsOf standard rows)
-    pub whole : all (wholeRow f) (placed standard rows) ≡ all (wholeRow f) (placedFrom standard (s .managed) (drop (s .used) used))
-    pub pages : sum (heldRow false f) (placed standard rows) ≡ s .page + sum (heldRow false f) (placedFrom standard (s .managed) (drop (s .used) used))
-    pub kernels : sum (heldRow true f) (placed standard rows) ≡ s .kernel + sum (heldRow true f) (placedFrom standard (s .managed) (drop (s .used) used))
+    pub whole : all (wholeRow standard f) (placed standard rows) ≡ all (wholeRow standard f) (placedFrom standard (s .managed) (drop (s .used) used))
+    pub pages : sum (heldRow standard false f) (placed standard rows) ≡ s .page + sum (heldRow standard false f) (placedFrom standard (s .managed) (drop (s .used) used))
+    pub kernels : sum (heldRow standard true f) (placed standard rows) ≡ s .kernel + sum (heldRow standard true f) (placedFrom standard (s .managed) (drop (s .used) used))
     pub idles : leftOf idleRow rows 0 + s .page + s .kernel ≡ s .total + leftOf idleRow rows (s .used)
     pub count : length used ≡ s .used + length (usedRows (drop (s .used) rows))
 
@@ -103,11 +103,11 @@ module _ (f : Records) (n : ℕ) (rows : List Row) where
             let g = and-right (all (rowAsBoot standard) used) _ b in
             let most = leb-true (managedPages standard (regionsOf standard rows)) n (and-left _ _ g) in
             let room : s .managed + managedRow row ≤ n = omega (arith, v .manages, left-more managedRow rows (s .used) inside) in
-            let w = sym (v .whole) ∙ whole-rows f (placed standard rows) ∙ and-right (leb (managedPages standard (regionsOf standard rows)) n) _ g in
+            let w = sym (v .whole) ∙ whole-rows standard f (placed standard rows) ∙ and-right (leb (managedPages standard (regionsOf standard rows)) n) _ g in
             false≢true
             (sym e
             ∙ seen .exact
-            ∙ and-true (used-booted rows (s .used) (and-left _ _ b) inside) (and-true (le-leb _ _ room) (all-first (wholeRow f) next w))) in
+            ∙ and-true (used-booted rows (s .used) (and-left _ _ b) inside) (and-true (le-leb _ _ room) (all-first (wholeRow standard f) next w))) in
             record { exact = d ∙ refuse refused; found = λ t. absurd (false≢true (sym d ∙ t)) }
 
         pub past-row : r .ok ≡ true → Surveying r
@@ -133,9 +133,9 @@ module _ (f : Records) (n : ℕ) (rows : List Row) where
               booted = rw (a .used) (v .booted ∙ all-on (rowAsBoot standard) first-left (and-left _ _ tests));
               totals = rw (a .used) (omega (arith, v .totals, a .total, total-on first-left));
               manages = rw (a .used) (omega (arith, v .manages, a .manages, managed-left));
-              whole = rw (a .used, a .manages) (v .whole ∙ all-on (wholeRow f) next (and-right (leb (s .managed + managedRow row) n) _ others));
-              pages = rw (a .used, a .manages) (omega (arith, v .pages, a .page, sum-on (heldRow false f) next));
-              kernels = rw (a .used, a .manages) (omega (arith, v .kernels, a .kernel, sum-on (heldRow true f) next));
+              whole = rw (a .used, a .manages) (v .whole ∙ all-on (wholeRow standard f) next (and-right (leb (s .managed + managedRow row) n) _ others));
+              pages = rw (a .used, a .manages) (omega (arith, v .pages, a .page, sum-on (heldRow standard false f) next));
+              kernels = rw (a .used, a .manages) (omega (arith, v .kernels, a .kernel, sum-on (heldRow standard true f) next));
               idles = rw (a .used) (omega (arith, v .idles, a .total, a .page, a .kernel, a .pages, b .tables, idle-left));
               count = rw (a .used) counts;
             }
@@ -150,9 +150,9 @@ module _ (f : Records) (n : ℕ) (rows : List Row) where
       unfolding placedFrom
       none-placed = ap (placedFrom standard (s .managed)) none
 
-      none-held : (kernel : Bool) → sum (heldRow kernel f) (placedFrom standard (s .managed) (drop (s .used) used)) ≡ 0
+      none-held : (kernel : Bool) → sum (heldRow standard kernel f) (placedFrom standard (s .managed) (drop (s .used) used)) ≡ 0
       unfolding sum
-      none-held kernel = ap (sum (heldRow kernel f)) none-placed
+      none-held kernel = ap (sum (heldRow standard kernel f)) none-placed
 
       none-total : total (bareRegions standard (drop (s .used) used)) ≡ 0
       unfolding sum bareRegions
@@ -173,7 +173,7 @@ module _ (f : Records) (n : ℕ) (rows : List Row) where
           (v .booted ∙ ap (all (rowAsBoot standard)) none)
           (and-true
           (le-leb (managedPages standard (regionsOf standard rows)) n (omega (arith, v .fits, manages-all)))
-          (sym (whole-rows f (placed standard rows)) ∙ v .whole ∙ ap (all (wholeRow f)) none-placed)) in
+          (sym (whole-rows standard f (placed standard rows)) ∙ v .whole ∙ ap (all (wholeRow standard f)) none-placed)) in
           ap (λ (k : ℕ). all isNoRow (drop k rows)) (sym ends)
           ∙ sym (and-true-right _)
           ∙ ap (λ (t : Bool). all isNoRow (drop (length used) rows) && t) (sym passed)
@@ -188,8 +188,8 @@ module _ (f : Records) (n : ℕ) (rows : List Row) where
               used = sym ends;
               total = omega (arith, v .totals, none-total);
               manages = manages-all;
-              page = omega (arith, v .pages, none-held false, held-rows f (placed standard rows) false);
-              kernel = omega (arith, v .kernels, none-held true, held-rows f (placed standard rows) true);
+              page = omega (arith, v .pages, none-held false, held-rows standard f (placed standard rows) false);
+              kernel = omega (arith, v .kernels, none-held true, held-rows standard f (placed standard rows) true);
               idle = omega (arith, v .idles, none-left idleRow, idle-all rows);
             };
           }

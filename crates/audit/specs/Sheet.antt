@@ -63,16 +63,16 @@ pub record Few (s : Surveyed) : Type 0 where
 -- what the sheet asks of a row in use, whose first managed page has the number base, where there are records for n pages
 abbrev pub rowTest : Records → (n base : ℕ) → Row → Bool
 rowTest f n base row =
-    rowAsBoot standard row && (leb (base + managed standard (bareRegion standard row)) n && wholeRow f (placedAt base row))
+    rowAsBoot standard row && (leb (base + managed standard (bareRegion standard row)) n && wholeRow standard f (placedAt base row))
 
 -- what such a row adds; all that its region manages is held or listed
 pub record Added (f : Records) (row : Row) (s r : Surveyed) : Type 0 where
   pub used : r .used ≡ s .used + 1
   pub total : r .total ≡ s .total + row .pages
   pub manages : r .managed ≡ s .managed + managed standard (bareRegion standard row)
-  pub page : r .page ≡ s .page + heldRow false f (placedAt (s .managed) row)
-  pub kernel : r .kernel ≡ s .kernel + heldRow true f (placedAt (s .managed) row)
-  pub pages : listedPages (placedAt 0 row) + heldRow false f (placedAt (s .managed) row) + heldRow true f (placedAt (s .managed) row)
+  pub page : r .page ≡ s .page + heldRow standard false f (placedAt (s .managed) row)
+  pub kernel : r .kernel ≡ s .kernel + heldRow standard true f (placedAt (s .managed) row)
+  pub pages : listedPages (placedAt 0 row) + heldRow standard false f (placedAt (s .managed) row) + heldRow standard true f (placedAt (s .managed) row)
       ≡ managed standard (bareRegion standard row)
 
 pub record Visited (f : Records) (n : ℕ) (row : Row) (s r : Surveyed) : Type 0 where

@@ -52,7 +52,7 @@ laid-bare (row ∷ rows) = ap (λ (rs : List AllocationRegion). bareRegion stand
 
 -- the frames of a region laid out over those that are there
 abbrev over : Row → Frames → Levels
-over row fs = organize (managed (row .pages)) (levelsOf fs (bareRegion standard row)) (fromOf row) (fromOf row) (managed (row .pages))
+over row fs = organize (managed standard (row .pages)) (levelsOf fs (bareRegion standard row)) (fromOf standard row) (fromOf standard row) (managed standard (row .pages))
 
 lay-head : (row : Row) (rows : List Row) → layRows (row ∷ rows) ≡ laidOut (bareRegion standard row) (layRows rows .regions) (over row (layRows rows .frames))
 unfolding layRows fromOf managed
@@ -63,47 +63,47 @@ module _ (row : Row) (base : ℕ) (s : Levels) (fs : Frames) where
   begins from = omega arith
 
   carried
-      : Shifted (fromOf row) base (row .pages) s (levelsOf fs (bareRegion standard row))
-      → Carried (fromOf row) base (row .pages) (levelsOf fs (bareRegion standard row)) (organize (managed (row .pages)) s base (fromOf row) (managed (row .pages))) (over row fs)
+      : Shifted standard (fromOf standard row) base (row .pages) s (levelsOf fs (bareRegion standard row))
+      → Carried standard (fromOf standard row) base (row .pages) (levelsOf fs (bareRegion standard row)) (organize (managed standard (row .pages)) s base (fromOf standard row) (managed standard (row .pages))) (over row fs)
   carried S =
       subst
-      (λ (x : ℕ). Carried (fromOf row) base (row .pages) (levelsOf fs (bareRegion standard row)) (organize (managed (row .pages)) s base x (managed (row .pages)))
-      (organize (managed (row .pages)) (levelsOf fs (bareRegion standard row)) x x (managed (row .pages))))
-      (begins (fromOf row))
-      (carried-organize (managed (row .pages)) S base (managed (row .pages)) (omega arith) (omega arith))
+      (λ (x : ℕ). Carried standard (fromOf standard row) base (row .pages) (levelsOf fs (bareRegion standard row)) (organize (managed standard (row .pages)) s base x (managed standard (row .pages)))
+      (organize (managed standard (row .pages)) (levelsOf fs (bareRegion standard row)) x x (managed standard (row .pages))))
+      (begins (fromOf standard row))
+      (carried-organize (managed standard (row .pages)) S base (managed standard (row .pages)) (omega arith) (omega arith))
 
   -- a state in which no frame of the region starts, by page numbers and by page frame numbers
   blank-same
-      : ((q : ℕ) → Inside base (row .pages) q → s .frames q ≡ none) → ((k : ℕ) → s .free k ≡ []) → ((p : ℕ) → Inside (fromOf row) (row .pages) p → fs p ≡ none)
-      → Shifted (fromOf row) base (row .pages) s (levelsOf fs (bareRegion standard row))
+      : ((q : ℕ) → Inside standard base (row .pages) q → s .frames q ≡ none) → ((k : ℕ) → s .free k ≡ []) → ((p : ℕ) → Inside standard (fromOf standard row) (row .pages) p → fs p ≡ none)
+      → Shifted standard (fromOf standard row) base (row .pages) s (levelsOf fs (bareRegion standard row))
   blank-same blank empty there =
       record {
-        frames = λ q i. there (shift (fromOf row) base q) (shift-in q i) ∙ sym (blank q i);
+        frames = λ q i. there (shift (fromOf standard row) base q) (shift-in q i) ∙ sym (blank q i);
         free = λ k. rw (empty k) refl;
         inside = λ k. rw (empty k) all-none;
       }
 
 -- outside the region nothing changes
-lay-outside : (row : Row) (rows : List Row) (p : ℕ) → (Inside (fromOf row) (row .pages) p → ⊥) → layRows (row ∷ rows) .frames p ≡ layRows rows .frames p
+lay-outside : (row : Row) (rows : List Row) (p : ℕ) → (Inside standard (fromOf standard row) (row .pages) p → ⊥) → layRows (row ∷ rows) .frames p ≡ layRows rows .frames p
 lay-outside row rows p o =
     rw (lay-head row rows)
-    (carried row (fromOf row) (levelsOf (layRows rows .frames) (bareRegion standard row)) (layRows rows .frames)
+    (carried row (fromOf standard row) (levelsOf (layRows rows .frames) (bareRegion standard row)) (layRows rows .frames)
     (record { frames = λ q i. ap (layRows rows .frames) (back q (i .low)); free = λ k. refl; inside = λ k. all-none })
     .outside p o)
   where
-    back : (q : ℕ) → fromOf row ≤ q → shift (fromOf row) (fromOf row) q ≡ q
+    back : (q : ℕ) → fromOf standard row ≤ q → shift (fromOf standard row) (fromOf standard row) q ≡ q
     back q h = omega arith
 
 -- ---- several regions
 
 -- no frame starts outside the regions
-lay-none : (rows : List Row) (p : ℕ) → Each (λ (t : Row). Inside (fromOf t) (t .pages) p → ⊥) rows → layRows rows .frames p ≡ none
+lay-none : (rows : List Row) (p : ℕ) → Each (λ (t : Row). Inside standard (fromOf standard t) (t .pages) p → ⊥) rows → layRows rows .frames p ≡ none
 unfolding layRows
 lay-none [] p each-none = refl
 lay-none (row ∷ rows) p (each-more o os) = lay-outside row rows p o ∙ lay-none rows p os
 
-beside-all : (row : Row) {rows : List Row} → Each (λ (t : Row). Parted row t) rows → (p : ℕ) → Inside (fromOf row) (row .pages) p
-    → Each (λ (t : Row). Inside (fromOf t) (t .pages) p → ⊥) rows
+beside-all : (row : Row) {rows : List Row} → Each (λ (t : Row). Parted standard row t) rows → (p : ℕ) → Inside standard (fromOf standard row) (row .pages) p
+    → Each (λ (t : Row). Inside standard (fromOf standard t) (t .pages) p → ⊥) rows
 beside-all row each-none p i = each-none
 beside-all row (each-more a rest) p i = each-more (λ j. a p i j) (beside-all row rest p i)
 
@@ -114,10 +114,10 @@ each-of (each-more a rest) (suc i) h = each-of rest i (omega arith)
 
 -- the region i, laid out from any state in which none of its frames starts
 pub lay-at
-    : (rows : List Row) → Disjoint rows → (i : ℕ) → i < length rows → (base : ℕ) (s : Levels)
-    → ((q : ℕ) → Inside base (rowAt rows i .pages) q → s .frames q ≡ none) → ((k : ℕ) → s .free k ≡ [])
-    → Shifted (fromOf (rowAt rows i)) base (rowAt rows i .pages)
-    (organize (managed (rowAt rows i .pages)) s base (fromOf (rowAt rows i)) (managed (rowAt rows i .pages)))
+    : (rows : List Row) → Disjoint standard rows → (i : ℕ) → i < length rows → (base : ℕ) (s : Levels)
+    → ((q : ℕ) → Inside standard base (rowAt rows i .pages) q → s .frames q ≡ none) → ((k : ℕ) → s .free k ≡ [])
+    → Shifted standard (fromOf standard (rowAt rows i)) base (rowAt rows i .pages)
+    (organize (managed standard (rowAt rows i .pages)) s base (fromOf standard (rowAt rows i)) (managed standard (rowAt rows i .pages)))
     (levelsOf (layRows rows .frames) (regionAt (layRows rows .regions) i))
 lay-at [] D i h base s blank empty = absurd (omega arith)
 lay-at (row ∷ rows) (disjoint-more a rest) zero h base s blank empty =
@@ -131,9 +131,9 @@ lay-at (row ∷ rows) (disjoint-more a rest) (suc i) h base s blank empty =
     behind (λ p j. lay-outside row rows p (λ x. parted p x j)) S
   where
     behind
-        : {u : Levels} → ((p : ℕ) → Inside (fromOf (rowAt rows i)) (rowAt rows i .pages) p → layRows (row ∷ rows) .frames p ≡ layRows rows .frames p)
-        → Shifted (fromOf (rowAt rows i)) base (rowAt rows i .pages) u (levelsOf (layRows rows .frames) (regionAt (layRows rows .regions) i))
-        → Shifted (fromOf (rowAt rows i)) base (rowAt rows i .pages) u (levelsOf (layRows (row ∷ rows) .frames) (regionAt (layRows (row ∷ rows) .regions) (suc i)))
+        : {u : Levels} → ((p : ℕ) → Inside standard (fromOf standard (rowAt rows i)) (rowAt rows i .pages) p → layRows (row ∷ rows) .frames p ≡ layRows rows .frames p)
+        → Shifted standard (fromOf standard (rowAt rows i)) base (rowAt rows i .pages) u (levelsOf (layRows rows .frames) (regionAt (layRows rows .regions) i))
+        → Shifted standard (fromOf standard (rowAt rows i)) base (rowAt rows i .pages) u (levelsOf (layRows (row ∷ rows) .frames) (regionAt (layRows (row ∷ rows) .regions) (suc i)))
     behind same S =
         record {
           frames = λ q j. same _ (shift-in q j) ∙ S .frames q j;
@@ -162,7 +162,7 @@ laid-many (row ∷ rows) = ap suc (laid-many rows)
 
 -- ---- regions that do not overlap share no page frame
 
-parted : (r t : Row) → shares standard (bareRegion standard r) (bareRegion standard t) ≡ false → Parted r t
+parted : (r t : Row) → shares standard (bareRegion standard r) (bareRegion standard t) ≡ false → Parted standard r t
 unfolding fromOf managed
 parted r t e p a b =
     let x = r .start .0 / standard .page in
@@ -171,14 +171,14 @@ parted r t e p a b =
     let v : y < x + r .pages = omega (arith, b .low, a .high) in
     false≢true (sym e ∙ and-true (lt-ltb x (y + t .pages) u) (lt-ltb y (x + r .pages) v))
 
-beside : (r : Row) (rows : List Row) → any (shares standard (bareRegion standard r)) (bareRegions standard rows) ≡ false → Each (λ (t : Row). Parted r t) rows
+beside : (r : Row) (rows : List Row) → any (shares standard (bareRegion standard r)) (bareRegions standard rows) ≡ false → Each (λ (t : Row). Parted standard r t) rows
 unfolding any bareRegions
 beside r [] e = each-none
 beside r (t ∷ ts) e =
     let n = neither (shares standard (bareRegion standard r) (bareRegion standard t)) _ e in
     each-more (parted r t (n .0)) (beside r ts (n .1))
 
-pub disjoint : (rows : List Row) → overlap standard (bareRegions standard rows) ≡ false → Disjoint rows
+pub disjoint : (rows : List Row) → overlap standard (bareRegions standard rows) ≡ false → Disjoint standard rows
 unfolding overlap bareRegions
 disjoint [] e = disjoint-none
 disjoint (row ∷ rows) e =

@@ -103,7 +103,7 @@ module _
     store = bootWith (layRows (usedRows rows)) (memoryOf standard (w .memory) (regionsOf standard rows)) (length (w .queue))
 
     managed-is : managedPages standard (layRows (usedRows rows) .regions) ≡ managedPages standard (regionsOf standard rows)
-    managed-is = laid-spans managed-spans (usedRows rows)
+    managed-is = laid-spans (managed-spans standard) (usedRows rows)
 
     fits : standard .page * managedPages standard (regionsOf standard rows) ≤ length (w .memory)
     unfolding loansLong
@@ -111,7 +111,7 @@ module _
         let m = managedPages standard (regionsOf standard rows) in
         leb-true (standard .page * m) (length (w .memory)) (and-right (leb (recordSize * m) (length (w .records))) _ (A .long))
 
-    stands : Stands after store
+    stands : Stands standard after store
     stands =
         record {
           eight = Y .eight;
@@ -124,9 +124,9 @@ module _
           room = refl;
           fits = omega (arith, fits, managed-is);
           memory =
-              memory-same (regionsOf standard rows) (layRows (usedRows rows) .regions) (laid-bare (usedRows rows) ∙ sym (bare-twice (usedRows rows)))
+              memory-same standard (regionsOf standard rows) (layRows (usedRows rows) .regions) (laid-bare (usedRows rows) ∙ sym (bare-twice (usedRows rows)))
               (memoryOf standard (w .memory) (regionsOf standard rows)) (w .memory)
-              (memory-back (w .memory) (regionsOf standard rows) fits (A .apart));
+              (memory-back standard (w .memory) (regionsOf standard rows) fits (A .apart));
         }
 
     written : encode standard store w ≡ after

@@ -38,24 +38,24 @@ use Rattle.boot.proofs.Laying.{disjoint, laid-many, laid-pages, laid-st
 
 -- ---- where the rows' pages begin
 
-base-next : (base : ℕ) (rows : List Row) (i : ℕ) → i < length rows → baseAt base rows (suc i) ≡ baseAt base rows i + managed (rowAt rows i .pages)
+base-next : (base : ℕ) (rows : List Row) (i : ℕ) → i < length rows → baseAt standard base rows (suc i) ≡ baseAt standard base rows i + managed standard (rowAt rows i .pages)
 unfolding baseAt
 base-next base [] i h = absurd (omega arith)
-base-next base (row ∷ rows) zero h = base-first (base + managed (row .pages)) rows
-base-next base (row ∷ rows) (suc i) h = base-next (base + managed (row .pages)) rows i (omega arith)
+base-next base (row ∷ rows) zero h = base-first standard (base + managed standard (row .pages)) rows
+base-next base (row ∷ rows) (suc i) h = base-next (base + managed standard (row .pages)) rows i (omega arith)
 
 base-within
     : (base : ℕ) (rows : List Row) (i : ℕ) → i < length rows
-    → baseAt base rows i + managed (rowAt rows i .pages) ≤ base + managedPages standard (bareRegions standard rows)
+    → baseAt standard base rows i + managed standard (rowAt rows i .pages) ≤ base + managedPages standard (bareRegions standard rows)
 unfolding baseAt bareRegions sum managed
 base-within base [] i h = absurd (omega arith)
 base-within base (row ∷ rows) zero h = omega arith
-base-within base (row ∷ rows) (suc i) h = omega (arith, base-within (base + managed (row .pages)) rows i (omega arith))
+base-within base (row ∷ rows) (suc i) h = omega (arith, base-within (base + managed standard (row .pages)) rows i (omega arith))
 
-base-end : (base : ℕ) (rows : List Row) → baseAt base rows (length rows) ≡ base + managedPages standard (bareRegions standard rows)
+base-end : (base : ℕ) (rows : List Row) → baseAt standard base rows (length rows) ≡ base + managedPages standard (bareRegions standard rows)
 unfolding baseAt bareRegions sum managed
 base-end base [] = omega arith
-base-end base (row ∷ rows) = omega (arith, base-end (base + managed (row .pages)) rows)
+base-end base (row ∷ rows) = omega (arith, base-end (base + managed standard (row .pages)) rows)
 
 row-total : (rows : List Row) (i : ℕ) → i < length rows → rowAt rows i .pages ≤ total (bareRegions standard rows)
 unfolding bareRegions sum
@@ -66,18 +66,18 @@ row-total (row ∷ rows) (suc i) h = omega (arith, row-total rows i (omega arith
 -- ---- a row beside a change
 
 module _
-    {f g : ℕ → Record} {n base : ℕ} {row r : Row} {u : Levels} (B : Becomes f base row g n r u)
-    {base2 : ℕ} (row2 : Row) (apart : (q : ℕ) → Inside base2 (row2 .pages) q → Inside base (row .pages) q → ⊥)
+    {f g : ℕ → Record} {n base : ℕ} {row r : Row} {u : Levels} (B : Becomes standard f base row g n r u)
+    {base2 : ℕ} (row2 : Row) (apart : (q : ℕ) → Inside standard base2 (row2 .pages) q → Inside standard base (row .pages) q → ⊥)
   where
-    state-frames : (q : ℕ) → Inside base2 (row2 .pages) q → stateOf g row2 .frames q ≡ stateOf f row2 .frames q
+    state-frames : (q : ℕ) → Inside standard base2 (row2 .pages) q → stateOf g row2 .frames q ≡ stateOf f row2 .frames q
     unfolding stateOf
     state-frames q i = ap frameOf (B .outside q (apart q i))
 
-    state-free : SoundRow f n base2 row2 → stateOf g row2 .free ≡ stateOf f row2 .free
+    state-free : SoundRow standard f n base2 row2 → stateOf g row2 .free ≡ stateOf f row2 .free
     state-free R = ap (λ (s : Levels). s .free) (rep-state (beside B R apart))
 
     -- it stands for what it stood for
-    stands-still : {fs : Frames} {x : AllocationRegion} → StandsRow f n base2 row2 fs x → StandsRow g n base2 row2 fs x
+    stands-still : {fs : Frames} {x : AllocationRegion} → StandsRow standard f n base2 row2 fs x → StandsRow standard g n base2 row2 fs x
     stands-still S =
         record {
           sound = rep-sound (beside B (S .sound) apart);
@@ -87,22 +87,22 @@ module _
           same =
               record {
                 frames = λ q i. S .same .frames q i ∙ sym (state-frames q i);
-                free = λ k. S .same .free k ∙ ap (λ (h : ℕ → List ℕ). map (shift (fromOf row2) base2) (h k)) (sym (state-free (S .sound)));
-                inside = λ k. subst (λ (h : ℕ → List ℕ). All (λ (q : ℕ). Inside base2 (row2 .pages) q) (h k)) (sym (state-free (S .sound))) (S .same .inside k);
+                free = λ k. S .same .free k ∙ ap (λ (h : ℕ → List ℕ). map (shift (fromOf standard row2) base2) (h k)) (sym (state-free (S .sound)));
+                inside = λ k. subst (λ (h : ℕ → List ℕ). All (λ (q : ℕ). Inside standard base2 (row2 .pages) q) (h k)) (sym (state-free (S .sound))) (S .same .inside k);
               };
         }
 
 -- ---- the region that is laid out
 
 same-after
-    : {f g : ℕ → Record} {n base : ℕ} {row r : Row} {u t : Levels} → Becomes f base row g n r u → Shifted (fromOf row) base (row .pages) u t
-    → Shifted (fromOf r) base (r .pages) (stateOf g r) t
+    : {f g : ℕ → Record} {n base : ℕ} {row r : Row} {u t : Levels} → Becomes standard f base row g n r u → Shifted standard (fromOf standard row) base (row .pages) u t
+    → Shifted standard (fromOf standard r) base (r .pages) (stateOf g r) t
 same-after {g = g} {base = base} {row = row} {r = r} {u = u} {t = t} B S =
-    subst (λ (a : ℕ). Shifted a base (r .pages) (stateOf g r) t) (sym (from-same B))
-    (subst (λ (p : ℕ). Shifted (fromOf row) base p (stateOf g r) t) (sym (B .pages))
-    (subst (λ (s : Levels). Shifted (fromOf row) base (row .pages) s t) (sym (rep-state (B .rep))) S))
+    subst (λ (a : ℕ). Shifted standard a base (r .pages) (stateOf g r) t) (sym (from-same B))
+    (subst (λ (p : ℕ). Shifted standard (fromOf standard row) base p (stateOf g r) t) (sym (B .pages))
+    (subst (λ (s : Levels). Shifted standard (fromOf standard row) base (row .pages) s t) (sym (rep-state (B .rep))) S))
 
-from-empty : (k : Row) → fromOf (emptyRow (k .start) (k .pages)) ≡ fromOf k
+from-empty : (k : Row) → fromOf standard (emptyRow (k .start) (k .pages)) ≡ fromOf standard k
 unfolding fromOf
 from-empty k = refl
 
@@ -120,23 +120,23 @@ unfolding stateOf pagesOf walk
 empty-lists f start pages l = rw (no-list l) refl
 
 module _
-    (ks : List Row) (D : Disjoint ks) (i : ℕ) (h : i < length ks) (aligned : rowAt ks i .start .0 % standard .page ≡ 0)
+    (ks : List Row) (D : Disjoint standard ks) (i : ℕ) (h : i < length ks) (aligned : rowAt ks i .start .0 % standard .page ≡ 0)
     {f g : ℕ → Record} {n base : ℕ} {r : Row}
-    (small : base + managed (rowAt ks i .pages) < 2 ^ 32) (fits : base + managed (rowAt ks i .pages) ≤ n)
-    (B : Becomes f base (emptyRow (rowAt ks i .start) (rowAt ks i .pages)) g n r (newState f base (rowAt ks i .start) (rowAt ks i .pages)))
+    (small : base + managed standard (rowAt ks i .pages) < 2 ^ 32) (fits : base + managed standard (rowAt ks i .pages) ≤ n)
+    (B : Becomes standard f base (emptyRow (rowAt ks i .start) (rowAt ks i .pages)) g n r (newState standard f base (rowAt ks i .start) (rowAt ks i .pages)))
   where
-    none-free : (l : ℕ) → blankState f base (rowAt ks i .start) (rowAt ks i .pages) .free l ≡ []
-    none-free l = empty-lists (cleared f base (managed (rowAt ks i .pages))) (rowAt ks i .start) (rowAt ks i .pages) l
+    none-free : (l : ℕ) → blankState standard f base (rowAt ks i .start) (rowAt ks i .pages) .free l ≡ []
+    none-free l = empty-lists (cleared f base (managed standard (rowAt ks i .pages))) (rowAt ks i .start) (rowAt ks i .pages) l
 
     laid-same
-        : Shifted (fromOf (emptyRow (rowAt ks i .start) (rowAt ks i .pages))) base (rowAt ks i .pages) (newState f base (rowAt ks i .start) (rowAt ks i .pages))
+        : Shifted standard (fromOf standard (emptyRow (rowAt ks i .start) (rowAt ks i .pages))) base (rowAt ks i .pages) (newState standard f base (rowAt ks i .start) (rowAt ks i .pages))
         (levelsOf (layRows ks .frames) (regionAt (layRows ks .regions) i))
     laid-same =
         rw (from-empty (rowAt ks i))
-        (lay-at ks D i h base (blankState f base (rowAt ks i .start) (rowAt ks i .pages))
+        (lay-at ks D i h base (blankState standard f base (rowAt ks i .start) (rowAt ks i .pages))
         (blank f n base (rowAt ks i .start) (rowAt ks i .pages) small fits) none-free)
 
-    new-stands : StandsRow g n base r (layRows ks .frames) (regionAt (layRows ks .regions) i)
+    new-stands : StandsRow standard g n base r (layRows ks .frames) (regionAt (layRows ks .regions) i)
     new-stands =
         record {
           sound = rep-sound (B .rep);
@@ -151,7 +151,7 @@ module _
 stand-all
     : {f : ℕ → Record} {n : ℕ} {fs : Frames} (base : ℕ) (ks xs : List Row) (rs : List AllocationRegion) → length xs ≡ length ks → length rs ≡ length ks
     → ((j : ℕ) → j < length ks → rowAt xs j .pages ≡ rowAt ks j .pages)
-    → ((j : ℕ) → j < length ks → StandsRow f n (baseAt base ks j) (rowAt xs j) fs (regionAt rs j)) → StandRows f n fs base xs rs
+    → ((j : ℕ) → j < length ks → StandsRow standard f n (baseAt standard base ks j) (rowAt xs j) fs (regionAt rs j)) → StandRows standard f n fs base xs rs
 unfolding baseAt
 stand-all base [] [] [] e d p S = stand-none
 stand-all base [] (x ∷ xs) rs e d p S = absurd (omega arith)
@@ -160,8 +160,8 @@ stand-all base (k ∷ ks) [] rs e d p S = absurd (omega arith)
 stand-all base (k ∷ ks) (x ∷ xs) [] e d p S = absurd (omega arith)
 stand-all {f} {n} {fs} base (k ∷ ks) (x ∷ xs) (r ∷ rs) e d p S =
     stand-more (S 0 (omega arith))
-    (subst (λ (m : ℕ). StandRows f n fs (base + managed m) xs rs) (sym (p 0 (omega arith)))
-    (stand-all (base + managed (k .pages)) ks xs rs (omega arith) (omega arith) (λ j h. p (suc j) (omega arith)) (λ j h. S (suc j) (omega arith))))
+    (subst (λ (m : ℕ). StandRows standard f n fs (base + managed standard m) xs rs) (sym (p 0 (omega arith)))
+    (stand-all (base + managed standard (k .pages)) ks xs rs (omega arith) (omega arith) (λ j h. p (suc j) (omega arith)) (λ j h. S (suc j) (omega arith))))
 
 -- ---- the invariant
 
@@ -169,8 +169,8 @@ pub record Laid (f : ℕ → Record) (ks : List Row) (g : ℕ → Record) (n : �
   pub xs : List Row
   pub shape : rows ≡ eight xs
   pub long : length xs ≡ length ks
-  pub stands : (j : ℕ) → j < i → StandsRow g n (baseAt 0 ks j) (rowAt xs j) (layRows ks .frames) (regionAt (layRows ks .regions) j)
-  pub based : base ≡ baseAt 0 ks i
+  pub stands : (j : ℕ) → j < i → StandsRow standard g n (baseAt standard 0 ks j) (rowAt xs j) (layRows ks .frames) (regionAt (layRows ks .regions) j)
+  pub based : base ≡ baseAt standard 0 ks i
   pub outside : (q : ℕ) → base ≤ q → g q ≡ f q
 
 eight-put : (xs : List Row) (i : ℕ) (r : Row) → i < length xs → set (eight xs) i r ≡ eight (set xs i r)
@@ -182,35 +182,35 @@ eight-put xs i r h =
 -- a row that stands has its region's pages
 same-pages
     : (ks xs : List Row) {g : ℕ → Record} {n j : ℕ} → j < length ks
-    → StandsRow g n (baseAt 0 ks j) (rowAt xs j) (layRows ks .frames) (regionAt (layRows ks .regions) j) → rowAt xs j .pages ≡ rowAt ks j .pages
+    → StandsRow standard g n (baseAt standard 0 ks j) (rowAt xs j) (layRows ks .frames) (regionAt (layRows ks .regions) j) → rowAt xs j .pages ≡ rowAt ks j .pages
 same-pages ks xs {j = j} h S = sym (S .pages) ∙ laid-pages ks j h
 
 -- a turn of the loop, on the rows ks
 module _
-    {f : ℕ → Record} (ks : List Row) (D : Disjoint ks) {g : ℕ → Record} {n : ℕ} {rows : List Row} {base i : ℕ} (L : Laid f ks g n rows base i) (h : i < length ks)
+    {f : ℕ → Record} (ks : List Row) (D : Disjoint standard ks) {g : ℕ → Record} {n : ℕ} {rows : List Row} {base i : ℕ} (L : Laid f ks g n rows base i) (h : i < length ks)
     (aligned : rowAt ks i .start .0 % standard .page ≡ 0)
-    (small : base + managed (rowAt ks i .pages) < 2 ^ 32) (fits : base + managed (rowAt ks i .pages) ≤ n)
+    (small : base + managed standard (rowAt ks i .pages) < 2 ^ 32) (fits : base + managed standard (rowAt ks i .pages) ≤ n)
     {g2 : ℕ → Record} {r : Row}
-    (B : Becomes g base (emptyRow (rowAt ks i .start) (rowAt ks i .pages)) g2 n r (newState g base (rowAt ks i .start) (rowAt ks i .pages)))
+    (B : Becomes standard g base (emptyRow (rowAt ks i .start) (rowAt ks i .pages)) g2 n r (newState standard g base (rowAt ks i .start) (rowAt ks i .pages)))
   where
     inside : i < length (L .xs)
     inside = omega (arith, L .long)
 
     abbrev At : ℕ → Row → Type 0
-    At j row = StandsRow g2 n (baseAt 0 ks j) row (layRows ks .frames) (regionAt (layRows ks .regions) j)
+    At j row = StandsRow standard g2 n (baseAt standard 0 ks j) row (layRows ks .frames) (regionAt (layRows ks .regions) j)
 
     here : At i r
     here =
-        subst (λ (b : ℕ). StandsRow g2 n b r (layRows ks .frames) (regionAt (layRows ks .regions) i)) (L .based)
+        subst (λ (b : ℕ). StandsRow standard g2 n b r (layRows ks .frames) (regionAt (layRows ks .regions) i)) (L .based)
         (new-stands ks D i h aligned small fits B)
 
     passed : (j : ℕ) → j < i → At j (rowAt (L .xs) j)
     passed j l =
         let S = L .stands j l in
         let p = same-pages ks (L .xs) (omega arith) S in
-        let b = base-rises noPlace 0 ks j i l (omega arith) in
+        let b = base-rises standard noPlace 0 ks j i l (omega arith) in
         stands-still B (rowAt (L .xs) j)
-        (λ q x y. absurd (omega (arith, x .high, y .low, ap managed p, b, L .based)))
+        (λ q x y. absurd (omega (arith, x .high, y .low, ap (managed standard) p, b, L .based)))
         S
 
     stands-next : (j : ℕ) → j < i + 1 → At j (rowAt (set (L .xs) i r) j)
@@ -222,14 +222,14 @@ module _
             (subst (λ (row : Row). At i row) (sym (getD-set-same (L .xs) i r _ inside)) here)
         go (no d) = subst (λ (row : Row). At j row) (sym (getD-set-other (L .xs) i j r _ d)) (passed j (omega arith))
 
-    laid-next : Laid f ks g2 n (set rows i r) (base + managed (rowAt ks i .pages)) (i + 1)
+    laid-next : Laid f ks g2 n (set rows i r) (base + managed standard (rowAt ks i .pages)) (i + 1)
     laid-next =
         record {
           xs = set (L .xs) i r;
           shape = ap (λ (x : List Row). set x i r) (L .shape) ∙ eight-put (L .xs) i r inside;
           long = length-set (L .xs) i r ∙ L .long;
           stands = stands-next;
-          based = ap (λ (b : ℕ). b + managed (rowAt ks i .pages)) (L .based) ∙ sym (base-next 0 ks i h) ∙ ap (baseAt 0 ks) (sym (add-one i));
+          based = ap (λ (b : ℕ). b + managed standard (rowAt ks i .pages)) (L .based) ∙ sym (base-next 0 ks i h) ∙ ap (baseAt standard 0 ks) (sym (add-one i));
           outside = λ q l. B .outside q (λ x. absurd (omega (arith, x .high))) ∙ L .outside q (omega arith);
         }
 
@@ -252,7 +252,7 @@ module _
     pub done-unused : drop (length (usedRows rows)) rows ≡ replicate (8 - length (usedRows rows)) noRow
     done-unused = rw (used-now, L .shape) (eight-unused (L .xs))
 
-    pub done-stands : StandRows g n (layRows ks .frames) 0 (usedRows rows) (layRows ks .regions)
+    pub done-stands : StandRows standard g n (layRows ks .frames) 0 (usedRows rows) (layRows ks .regions)
     done-stands = rw used-now (stand-all 0 ks (L .xs) (layRows ks .regions) (L .long) (laid-many ks) pages-at (L .stands))
 
     pub done-outside : (q : ℕ) → managedPages standard (bareRegions standard ks) ≤ q → g q ≡ f q
@@ -261,7 +261,7 @@ module _
 -- ---- the loop, on the rows that are kept
 
 module _ (rows : List Row) (used n : ℕ) (R : Ready rows used n) where
-  apart : Disjoint (usedRows rows)
+  apart : Disjoint standard (usedRows rows)
   apart = disjoint (usedRows rows) (R .apart)
 
   pub laid-none : (f : ℕ → Record) → Laid f (usedRows rows) f n rows 0 0
@@ -271,7 +271,7 @@ module _ (rows : List Row) (used n : ℕ) (R : Ready rows used n) where
         shape = R .shape;
         long = refl;
         stands = λ j h. absurd (omega arith);
-        based = sym (base-first 0 (usedRows rows));
+        based = sym (base-first standard 0 (usedRows rows));
         outside = λ q h. refl;
       }
 
@@ -280,8 +280,8 @@ module _ (rows : List Row) (used n : ℕ) (R : Ready rows used n) where
     pub here : i < length (usedRows rows)
     pub tables : tablePages standard (rowAt rows i .pages) < rowAt rows i .pages
     pub few : rowAt rows i .pages ≤ mostPages
-    pub end : base + managed (rowAt rows i .pages) ≤ mostPages
-    pub fits : base + managed (rowAt rows i .pages) ≤ n
+    pub end : base + managed standard (rowAt rows i .pages) ≤ mostPages
+    pub fits : base + managed standard (rowAt rows i .pages) ≤ n
 
   module _ {f g : ℕ → Record} {next : List Row} {base i : ℕ} (L : Laid f (usedRows rows) g n next base i) (h : i < used) where
     in-use : i < length (usedRows rows)
@@ -293,9 +293,9 @@ module _ (rows : List Row) (used n : ℕ) (R : Ready rows used n) where
     pub laid-turn : Turn base i
     laid-turn =
         let p = ap (λ (row : Row). row .pages) same in
-        let m = ap managed p in
+        let m = ap (managed standard) p in
         let w = base-within 0 (usedRows rows) i in-use in
-        let t = managed-most (regionsOf standard rows) in
+        let t = managed-most standard (regionsOf standard rows) in
         record {
           here = in-use;
           tables = booted-at rows i (R .booted) in-use .tables;
@@ -306,17 +306,17 @@ module _ (rows : List Row) (used n : ℕ) (R : Ready rows used n) where
 
     pub laid-on
         : {g2 : ℕ → Record} {m : ℕ} {r : Row} → m ≡ n
-        → Becomes g base (emptyRow (rowAt rows i .start) (rowAt rows i .pages)) g2 m r (newState g base (rowAt rows i .start) (rowAt rows i .pages))
-        → Laid f (usedRows rows) g2 n (set next i r) (base + managed (rowAt rows i .pages)) (i + 1)
+        → Becomes standard g base (emptyRow (rowAt rows i .start) (rowAt rows i .pages)) g2 m r (newState standard g base (rowAt rows i .start) (rowAt rows i .pages))
+        → Laid f (usedRows rows) g2 n (set next i r) (base + managed standard (rowAt rows i .pages)) (i + 1)
     laid-on {g2} {m} {r} e B =
         let T = laid-turn in
-        let d = ap (λ (row : Row). managed (row .pages)) same in
-        subst (λ (row : Row). Laid f (usedRows rows) g2 n (set next i r) (base + managed (row .pages)) (i + 1)) same
+        let d = ap (λ (row : Row). managed standard (row .pages)) same in
+        subst (λ (row : Row). Laid f (usedRows rows) g2 n (set next i r) (base + managed standard (row .pages)) (i + 1)) same
         (laid-next (usedRows rows) apart L in-use
         (subst (λ (row : Row). row .start .0 % standard .page ≡ 0) (sym same) (booted-at rows i (R .booted) in-use .aligned))
         (omega (arith, T .end)) (omega (arith, T .fits))
-        (subst (λ (row : Row). Becomes g base (emptyRow (row .start) (row .pages)) g2 n r (newState g base (row .start) (row .pages))) (sym same)
-        (subst (λ (x : ℕ). Becomes g base (emptyRow (rowAt rows i .start) (rowAt rows i .pages)) g2 x r (newState g base (rowAt rows i .start) (rowAt rows i .pages))) e B)))
+        (subst (λ (row : Row). Becomes standard g base (emptyRow (row .start) (row .pages)) g2 n r (newState standard g base (row .start) (row .pages))) (sym same)
+        (subst (λ (x : ℕ). Becomes standard g base (emptyRow (rowAt rows i .start) (rowAt rows i .pages)) g2 x r (newState standard g base (rowAt rows i .start) (rowAt rows i .pages))) e B)))
 
   pub laid-done
       : {f g : ℕ → Record} {next : List Row} {base i : ℕ} → length (usedRows rows) ≤ 8 → Laid f (usedRows rows) g n next base i → i ≡ used → Lays f rows g n next

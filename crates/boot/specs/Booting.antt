@@ -93,7 +93,7 @@ pub record Ready (rows : List Row) (used n : ℕ) : Type 0 where
 pub record Lays (f : ℕ → Record) (rows : List Row) (g : ℕ → Record) (n : ℕ) (r : List Row) : Type 0 where
   pub eight : length r ≡ 8
   pub unused : drop (length (usedRows r)) r ≡ replicate (8 - length (usedRows r)) noRow
-  pub stands : StandRows g n (layRows (usedRows rows) .frames) 0 (usedRows r) (layRows (usedRows rows) .regions)
+  pub stands : StandRows standard g n (layRows (usedRows rows) .frames) 0 (usedRows r) (layRows (usedRows rows) .regions)
   pub outside : (q : ℕ) → managedPages standard (regionsOf standard rows) ≤ q → g q ≡ f q
 
 -- ---- what a boot leaves and answers

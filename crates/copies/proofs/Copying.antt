@@ -15,6 +15,7 @@ use Rattle.definition.specs.World.{World, decode, encode, recordAt}
 use Rattle.definition.specs.Torn.{Sound, sound}
 use Rattle.record.specs.Records.{pagesIn}
 use Rattle.audit.proofs.Sheets.{sound-is}
+use Rattle.world.specs.Fit.{standard-fit}
 use Rattle.world.specs.Refusals.{lower}
 use Rattle.world.specs.Tables.{Sane}
 use Rattle.world.proofs.Leaving.{sound-sane, sound-table}
@@ -31,7 +32,7 @@ use Rattle.copies.specs.Copies.{Spans}
 -- ---- the three ways
 
 module _ (w : World) (S : Sound standard w) {r : Seen} {off len : ℕ} (P : Spans (recordAt (w .records)) (w .rows) (length (w .memory)) r off len) where
-  span-zeroed : isZeroedAt (decode standard w) (numberAt (w .rows) (r .spot)) ≡ eqb (r .marks / 4 % 2) 1
+  span-zeroed : isZeroedAt (decode standard w) (numberAt standard (w .rows) (r .spot)) ≡ eqb (r .marks / 4 % 2) 1
   span-zeroed = rw (held-in S (P .held) refl) refl
 
 module _
@@ -43,10 +44,10 @@ module _
     s = decode standard w
 
     abbrev p : ℕ
-    p = numberAt (w .rows) (to .spot)
+    p = numberAt standard (w .rows) (to .spot)
 
     abbrev q : ℕ
-    q = numberAt (w .rows) (from .spot)
+    q = numberAt standard (w .rows) (from .spot)
 
     pub from-dirty
         : eqb (from .marks / 4 % 2) 1 ≡ false → copyContentsFrom standard s p off q soff len ≡ copyContentsFromPhysaddr standard s p off (4096 * q + soff) len
@@ -65,13 +66,13 @@ module _
 -- ---- what the tests found
 
 -- what the functions that look at a frame require, where so many words are lent
-pub sane-with : (w : World) → sound standard w ≡ true → {n : ℕ} → 92 ≤ n → (92 ≤ n) × Sane (recordAt (w .records)) (pagesIn (w .records)) (w .rows)
-sane-with w t enough = (enough, sound-sane w (sound-is standard w t))
+pub sane-with : (w : World) → sound standard w ≡ true → {n : ℕ} → 92 ≤ n → (92 ≤ n) × Sane standard (recordAt (w .records)) (pagesIn (w .records)) (w .rows)
+sane-with w t enough = (enough, sound-sane standard-fit w (sound-is standard w t))
 
 module _ (w : World) (t : sound standard w ≡ true) {a off len : ℕ} {r : Exam} where
   pub looked : Looks (recordAt (w .records)) (pagesIn (w .records)) (w .rows) a off len r → Examined w a off len r
   looked L =
-      let T = sound-table w (sound-is standard w t) in
+      let T = sound-table standard-fit w (sound-is standard w t) in
       record {
         torn = λ d. absurd (false≢true (sym d ∙ t));
         number = λ d. L .number ∙ sym (frame-seen (decode standard w) a off len (r .seen) (L .sees (decode standard w .allocator) T));
@@ -111,16 +112,16 @@ module _
         : (n : ℕ) → n ≡ lower (to .number) (from .number) → (n ≡ 0 → ⊥) → Leaves w (Copy a off b soff len) w (refusedBy n)
     copy-refused n e d =
         leaves-refused w (Copy a off b soff len) small t n
-        (two-frames (decode standard w) a off b soff len ∙ rw (← E .number t, ← F .number t) (sym e))
+        (two-frames standard (decode standard w) a off b soff len ∙ rw (← E .number t, ← F .number t) (sym e))
         d
 
     pub copy-done
         : to .number ≡ 0 → from .number ≡ 0 → (v : World)
-        → encode standard (copyContentsFrom standard (decode standard w) (numberAt (w .rows) (to .seen .spot)) off (numberAt (w .rows) (from .seen .spot)) soff len) w ≡ v
+        → encode standard (copyContentsFrom standard (decode standard w) (numberAt standard (w .rows) (to .seen .spot)) off (numberAt standard (w .rows) (from .seen .spot)) soff len) w ≡ v
         → Leaves w (Copy a off b soff len) v (record { number = 0; address = a; bytes = len })
     unfolding perform
     copy-done y z v e =
         leaves-done w (Copy a off b soff len) t
-        (two-frames (decode standard w) a off b soff len ∙ rw (examined-none E y, examined-none F z) refl)
+        (two-frames standard (decode standard w) a off b soff len ∙ rw (examined-none E y, examined-none F z) refl)
         (perform standard (decode standard w) (Copy a off b soff len)) v refl
         (rw (← examined-number E y, ← examined-number F z) e)

@@ -20,6 +20,7 @@ use Rattle.definition.specs.World.{World, bareRegion, decode, encode, recordAt,
 use Rattle.definition.specs.Torn.{Sound, bareRegions, sound}
 use Rattle.audit.proofs.Sheets.{sound-is}
 use Rattle.region.specs.Rep.{Inside, fromOf, managed}
+use Rattle.world.specs.Fit.{standard-fit}
 use Rattle.world.specs.Refusals.{lower, numberIf, placeRefusal, rangeOf}
 use Rattle.world.specs.Stands.{Disjoint, Each, Parted, rowAt}
 use Rattle.world.specs.Stands.Disjoint.{disjoint-more}
@@ -47,15 +48,15 @@ module _ (p x : ℕ) where
   abbrev leaves : AllocationRegion → Bool
   leaves t = contains standard t p && ltb (standard .page * end standard t) x
 
-  in-row : (row : Row) → Inside (fromOf row) (row .pages) p → contains standard (bareRegion standard row) p ≡ true
+  in-row : (row : Row) → Inside standard (fromOf standard row) (row .pages) p → contains standard (bareRegion standard row) p ≡ true
   unfolding fromOf managed
-  in-row row k = contains-true (bareRegion standard row) p (k .low) (omega (arith, k .low, k .high))
+  in-row row k = contains-true standard (bareRegion standard row) p (k .low) (omega (arith, k .low, k .high))
 
-  not-in : (row : Row) → (Inside (fromOf row) (row .pages) p → ⊥) → contains standard (bareRegion standard row) p ≡ false
+  not-in : (row : Row) → (Inside standard (fromOf standard row) (row .pages) p → ⊥) → contains standard (bareRegion standard row) p ≡ false
   unfolding fromOf managed
-  not-in row o = contains-false (bareRegion standard row) p (λ l u. o (record { low = l; high = omega arith }))
+  not-in row o = contains-false standard (bareRegion standard row) p (λ l u. o (record { low = l; high = omega arith }))
 
-  no-other : (row : Row) (rows : List Row) → Each (λ (t : Row). Parted row t) rows → Inside (fromOf row) (row .pages) p → any leaves (bareRegions standard rows) ≡ false
+  no-other : (row : Row) (rows : List Row) → Each (λ (t : Row). Parted standard row t) rows → Inside standard (fromOf standard row) (row .pages) p → any leaves (bareRegions standard rows) ≡ false
   unfolding any bareRegions
   no-other row [] each-none k = refl
   no-other row (t ∷ ts) (each-more a rest) k = rw (not-in t (a p k), no-other row ts rest k) refl
@@ -65,7 +66,7 @@ module _ (p x : ℕ) where
   or-none false = refl
 
   of-row
-      : (rows : List Row) (i : ℕ) → Disjoint rows → i < length rows → Inside (fromOf (rowAt rows i)) (rowAt rows i .pages) p
+      : (rows : List Row) (i : ℕ) → Disjoint standard rows → i < length rows → Inside standard (fromOf standard (rowAt rows i)) (rowAt rows i .pages) p
       → any leaves (bareRegions standard rows) ≡ ltb (standard .page * end standard (bareRegion standard (rowAt rows i))) x
   unfolding any bareRegions
   of-row [] i D h k = absurd (omega arith)
@@ -82,8 +83,8 @@ by-tests false h = refl
 by-tests true true = refl
 by-tests true false = refl
 
-module _ (w : World) (S : Sound standard w) (a : ℕ) {r : Seen} (Y : Sees (recordAt (w .records)) (w .rows) (a / 4096) (decode standard w .allocator) r) where
-  seen-inside : r .managed ≡ true → Inside (fromOf (rowAt (w .rows) (r .spot .index))) (rowAt (w .rows) (r .spot .index) .pages) (a / 4096)
+module _ (w : World) (S : Sound standard w) (a : ℕ) {r : Seen} (Y : Sees standard (recordAt (w .records)) (w .rows) (a / 4096) (decode standard w .allocator) r) where
+  seen-inside : r .managed ≡ true → Inside standard (fromOf standard (rowAt (w .rows) (r .spot .index))) (rowAt (w .rows) (r .spot .index) .pages) (a / 4096)
   seen-inside m =
       let I = Y .spot m in
       record { low = omega (arith, I .number); high = omega (arith, I .number, I .inside .low, I .inside .high) }
@@ -92,13 +93,13 @@ module _ (w : World) (S : Sound standard w) (a : ℕ) {r : Seen} (Y : Sees (reco
   seen-leaves len m =
       let I = Y .spot m in
       let e : a + (0 + len) ≡ a + len = omega arith in
-      spans-bare (any-spans (leaves (a / 4096) (a + (0 + len))) (λ t. refl)) (decode-stands w S .rows)
-      ∙ rw e (rw (used-row (w .rows) (r .spot .index) (I .used)) at (of-row (a / 4096) (a + len) (usedRows (w .rows)) (r .spot .index) (sound-sane w S .apart) (I .used))
+      spans-bare (any-spans (leaves (a / 4096) (a + (0 + len))) (λ t. refl)) (decode-stands standard-fit w S .rows)
+      ∙ rw e (rw (used-row (w .rows) (r .spot .index) (I .used)) at (of-row (a / 4096) (a + len) (usedRows (w .rows)) (r .spot .index) (sound-sane standard-fit w S .apart) (I .used))
       (seen-inside m))
 
-  pub place-seen : (len : ℕ) → placeRefusal (decode standard w) (rangeOf a 0 len) ≡ placeSeen (w .rows) r a len
+  pub place-seen : (len : ℕ) → placeRefusal standard (decode standard w) (rangeOf a 0 len) ≡ placeSeen (w .rows) r a len
   place-seen len =
-      by-tests (isManaged standard (regionsIn w S) (a / 4096)) (leavesRegion standard (decode standard w) (rangeOf a 0 len))
+      by-tests (isManaged standard (regionsIn standard-fit w S) (a / 4096)) (leavesRegion standard (decode standard w) (rangeOf a 0 len))
       ∙ rw (← Y .managed) (go (r .managed) refl)
     where
       go : (m : Bool) → r .managed ≡ m
@@ -110,7 +111,7 @@ module _ (w : World) (S : Sound standard w) (a : ℕ) {r : Seen} (Y : Sees (reco
   pub seen-placed : Placed (w .rows) r a
   seen-placed m =
       let I = Y .spot m in
-      let N = sound-sane w S in
+      let N = sound-sane standard-fit w S in
       let G = spot-good N (sees-in Y m) in
       let k = seen-inside m in
       record {
@@ -127,38 +128,38 @@ module _ (w : World) (S : Sound standard w) (a : ℕ) {r : Seen} (Y : Sees (reco
     none-met true true e = absurd (omega arith)
     none-met true false e = (refl, refl)
 
-    place-lies : Lies (regionsIn w S) a (4096 * r .spot .page + a % 4096) len
+    place-lies : Lies standard (regionsIn standard-fit w S) a (4096 * r .spot .page + a % 4096) len
     place-lies =
         let n = none-met (r .managed) (ltb (endSeen (w .rows) r) (a + len)) z in
         let e = ltb-false (endSeen (w .rows) r) (a + len) (n .1) in
-        runs-lies (runs-bare (decode-stands w S .rows) (spotted-runs (Y .spot (n .0)) (sound-sane w S .apart))) (a % 4096) len (omega arith) (omega arith) refl
+        runs-lies standard (runs-bare (decode-stands standard-fit w S .rows) (spotted-runs (Y .spot (n .0)) (sound-sane standard-fit w S .apart))) (a % 4096) len (omega arith) (omega arith) refl
 
     pub place-ends : 4096 * r .spot .page + (a % 4096 + len) ≤ length (w .memory)
-    place-ends = omega (arith, place-lies .ends, decode-stands w S .fits)
+    place-ends = omega (arith, place-lies .ends, decode-stands standard-fit w S .fits)
 
     pub place-bytes : bytesAt (decode standard w .memory) a len ≡ take len (drop (4096 * r .spot .page + a % 4096) (w .memory))
-    place-bytes = let d = decode-stands w S in memory-read place-lies (decode standard w .memory) (w .memory) (d .fits) (d .memory)
+    place-bytes = let d = decode-stands standard-fit w S in memory-read standard place-lies (decode standard w .memory) (w .memory) (d .fits) (d .memory)
 
 -- ---- the promise
 
 module _
     (w : World) (small : Small w) (t : sound standard w ≡ true) {a off len : ℕ} {to : Exam} (E : Examined w a off len to) (b : ℕ) {r : Seen}
-    (Y : Sees (recordAt (w .records)) (w .rows) (b / 4096) (decode standard w .allocator) r)
+    (Y : Sees standard (recordAt (w .records)) (w .rows) (b / 4096) (decode standard w .allocator) r)
   where
     pub pcopy-refused
         : (n : ℕ) → n ≡ lower (to .number) (placeSeen (w .rows) r b len) → (n ≡ 0 → ⊥) → Leaves w (Pcopy a off b len) w (refusedBy n)
     pcopy-refused n e d =
         leaves-refused w (Pcopy a off b len) small t n
-        (frame-and-place (decode standard w) a off b 0 len len ∙ rw (← E .number t, place-seen w (sound-is standard w t) b Y len) (sym e))
+        (frame-and-place standard (decode standard w) a off b 0 len len ∙ rw (← E .number t, place-seen w (sound-is standard w t) b Y len) (sym e))
         d
 
     pub pcopy-done
         : to .number ≡ 0 → placeSeen (w .rows) r b len ≡ 0 → (v : World)
-        → encode standard (copyContentsFromPhysaddr standard (decode standard w) (numberAt (w .rows) (to .seen .spot)) off b len) w ≡ v
+        → encode standard (copyContentsFromPhysaddr standard (decode standard w) (numberAt standard (w .rows) (to .seen .spot)) off b len) w ≡ v
         → Leaves w (Pcopy a off b len) v (record { number = 0; address = a; bytes = len })
     unfolding perform
     pcopy-done y z v e =
         leaves-done w (Pcopy a off b len) t
-        (frame-and-place (decode standard w) a off b 0 len len ∙ rw (examined-none E y, place-seen w (sound-is standard w t) b Y len, z) refl)
+        (frame-and-place standard (decode standard w) a off b 0 len len ∙ rw (examined-none E y, place-seen w (sound-is standard w t) b Y len, z) refl)
         (perform standard (decode standard w) (Pcopy a off b len)) v refl
         (rw (← examined-number E y) e)

@@ -10,6 +10,7 @@ use Rattle.definition.specs.Refusal.{lowest}
 use Rattle.definition.specs.Calls.{Answer, Bytes, Call, Done, Read, Refused, Text, answerNumber, names, perform, sheet}
 use Rattle.definition.specs.World.{World, decode}
 use Rattle.definition.specs.Torn.{Left, call}
+use Rattle.world.specs.Fit.{standard-fit}
 use Rattle.world.proofs.Calling.{done-call, none-met}
 use Rattle.world.proofs.Refusing.{one-frame}
 use Rattle.world.proofs.RoundTrip.{round-trip}
@@ -51,7 +52,7 @@ module _ (w : World) (small : Small w) {a off len : ℕ} {r : Exam} (E : Examine
   -- ---- refused
 
   left : (r .number ≡ 0 → ⊥) → Leaves w (Read a off len) w (refusedBy (r .number))
-  left d = examined-refused E (Read a off len) small (λ t. one-frame (decode standard w) a off len) d
+  left d = examined-refused E (Read a off len) small (λ t. one-frame standard (decode standard w) a off len) d
 
   left-number : (r .number ≡ 0 → ⊥) → answerNumber answer ≡ r .number
   left-number d = sym (told-number answer) ∙ ap (λ y. y .number) (left d .answer)
@@ -81,9 +82,9 @@ module _ (w : World) (small : Small w) {a off len : ℕ} {r : Exam} (E : Examine
 
     called : call standard w (Read a off len) ≡ record { world = w; answer = Bytes (take len (drop at (w .memory))) }
     called =
-        done-call w (Read a off len) (examined-sound E z) (record { store = decode standard w; answer = Bytes (take len (drop at (w .memory))) }) w
-        (none-met (lowest (sheet standard (decode standard w) (names (Read a off len)))) (one-frame (decode standard w) a off len ∙ examined-none E z))
-        performed (round-trip w (examined-whole E z) small)
+        done-call standard-fit w (Read a off len) (examined-sound E z) (record { store = decode standard w; answer = Bytes (take len (drop at (w .memory))) }) w
+        (none-met (lowest (sheet standard (decode standard w) (names (Read a off len)))) (one-frame standard (decode standard w) a off len ∙ examined-none E z))
+        performed (round-trip standard-fit w (examined-whole E z) small)
 
     pub place-done : Finds w (Read a off len) len (record { number = 0; at = at })
     place-done =

@@ -25,7 +25,7 @@ module _
     {w : World} {r : Seen} {off len : ℕ} (S : Sound standard w) (P : Spans (recordAt (w .records)) (w .rows) (length (w .memory)) r off len)
   where
     abbrev number : ℕ
-    number = numberAt (w .rows) (r .spot)
+    number = numberAt standard (w .rows) (r .spot)
 
     abbrev at : ℕ
     at = 4096 * r .spot .page + off

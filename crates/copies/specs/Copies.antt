@@ -71,7 +71,7 @@ abbrev pub Moves : State → (records memory records2 memory2 : List ℕ) → Se
 Moves s records memory records2 memory2 r off from len =
     (queue : List ℕ) → Sound standard (worldOf s records memory queue)
     → (a : ℕ) → bytesAt (decode standard (worldOf s records memory queue) .memory) a len ≡ take len (drop from memory)
-    → encode standard (copyContentsFromPhysaddr standard (decode standard (worldOf s records memory queue)) (numberAt (s .rows) (r .spot)) off a len) (worldOf s records memory queue)
+    → encode standard (copyContentsFromPhysaddr standard (decode standard (worldOf s records memory queue)) (numberAt standard (s .rows) (r .spot)) off a len) (worldOf s records memory queue)
     ≡ worldOf s records2 memory2 queue
 
 abbrev pub MovesAny : List ℕ → (records memory records2 memory2 : List ℕ) → Seen → (off from len : ℕ) → Type 0

@@ -116,9 +116,9 @@ fn is_whole(seen: Seen, offset: u64, len: u64) -> bool
 
 // Bytes of a held frame become 0; 01: "sets the mark if that is the whole frame".
 fn zero_range(words: &[u64], records: &mut [u8], memory: &mut [u8], to: Seen, offset: u64, len: u64)
-    requires { ⌜ (92 ≤ length (now words)) × Sane (recordAt (now records)) (pagesIn (now records)) (rowsIn (now words)) ⌝ }
+    requires { ⌜ (92 ≤ length (now words)) × Sane standard (recordAt (now records)) (pagesIn (now records)) (rowsIn (now words)) ⌝ }
     requires { ⌜ Spans (recordAt (now records)) (rowsIn (now words)) (length (now memory)) to offset len ⌝ }
-    ensures { λ _. ⌜ WritesAny (now (words .entry)) (now (records .entry)) (now (memory .entry)) (now (records .exit)) (now (memory .exit)) (λ s. zeroRange standard s (numberAt (rowsIn (now (words .entry))) (to .spot)) offset len) ⌝ }
+    ensures { λ _. ⌜ WritesAny (now (words .entry)) (now (records .entry)) (now (memory .entry)) (now (records .exit)) (now (memory .exit)) (λ s. zeroRange standard s (numberAt standard (rowsIn (now (words .entry))) (to .spot)) offset len) ⌝ }
 {
     let spot = to.spot;
     contents::fill(memory, 4096 * spot.page + offset as usize, len as usize, 0);
@@ -138,7 +138,7 @@ fn move_into(
     from: usize,
     len: u64,
 )
-    requires { ⌜ (92 ≤ length (now words)) × Sane (recordAt (now records)) (pagesIn (now records)) (rowsIn (now words)) ⌝ }
+    requires { ⌜ (92 ≤ length (now words)) × Sane standard (recordAt (now records)) (pagesIn (now records)) (rowsIn (now words)) ⌝ }
     requires { ⌜ Spans (recordAt (now records)) (rowsIn (now words)) (length (now memory)) to offset len × (from + len ≤ length (now memory)) ⌝ }
     ensures { λ _. ⌜ MovesAny (now (words .entry)) (now (records .entry)) (now (memory .entry)) (now (records .exit)) (now (memory .exit)) to offset from len ⌝ }
 {
@@ -163,9 +163,9 @@ fn copy_contents_from(
     from_offset: u64,
     len: u64,
 )
-    requires { ⌜ (92 ≤ length (now words)) × Sane (recordAt (now records)) (pagesIn (now records)) (rowsIn (now words)) ⌝ }
+    requires { ⌜ (92 ≤ length (now words)) × Sane standard (recordAt (now records)) (pagesIn (now records)) (rowsIn (now words)) ⌝ }
     requires { ⌜ Spans (recordAt (now records)) (rowsIn (now words)) (length (now memory)) to offset len × Spans (recordAt (now records)) (rowsIn (now words)) (length (now memory)) from «from_offset» len ⌝ }
-    ensures { λ _. ⌜ WritesAny (now (words .entry)) (now (records .entry)) (now (memory .entry)) (now (records .exit)) (now (memory .exit)) (λ s. copyContentsFrom standard s (numberAt (rowsIn (now (words .entry))) (to .spot)) offset (numberAt (rowsIn (now (words .entry))) (from .spot)) «from_offset» len) ⌝ }
+    ensures { λ _. ⌜ WritesAny (now (words .entry)) (now (records .entry)) (now (memory .entry)) (now (records .exit)) (now (memory .exit)) (λ s. copyContentsFrom standard s (numberAt standard (rowsIn (now (words .entry))) (to .spot)) offset (numberAt standard (rowsIn (now (words .entry))) (from .spot)) «from_offset» len) ⌝ }
 {
     if !record::is_zeroed(from.marks) {
         let spot = from.spot;

@@ -23,6 +23,7 @@ use Rattle.definition.specs.World.{World, decode, encode}
 use Rattle.record.specs.Records.{withBytes}
 use Rattle.text.specs.Writing.{Wrote}
 use Rattle.audit.proofs.Sheets.{sound-is}
+use Rattle.world.specs.Fit.{standard-fit}
 use Rattle.world.specs.Tables.{Table, Turned}
 use Rattle.world.proofs.Calling.{done-call, none-met, torn-call}
 use Rattle.world.proofs.Leaving.{left-by, sound-table, unwritten}
@@ -35,7 +36,7 @@ use Rattle.counts.specs.Counting.{Reports, textOf}
 
 -- a table that nothing turned
 pub unturned
-    : {f : ℕ → Record} {n : ℕ} {rows : List Row} {a : PhysicalFrameAllocator} → Table f n rows a → Turned f rows f n rows a
+    : {f : ℕ → Record} {n : ℕ} {rows : List Row} {a : PhysicalFrameAllocator} → Table standard f n rows a → Turned standard f rows f n rows a
 unturned t = record { table = t; spans = refl; outside = λ q h. refl }
 
 -- the world with other counters
@@ -67,21 +68,21 @@ module _ (w : World) (t : sound standard w ≡ true) (small : Small w) where
   pub recounted-left : (c : Counters) → encode standard (withCounters (decode standard w) c) w ≡ recounted w c
   recounted-left c =
       let S = sound-is standard w t in
-      let d = decode-stands w S in
-      left-by w S (withCounters (decode standard w) c) (recounted w c) (unturned (sound-table w S)) refl small small (unwritten w S) refl
+      let d = decode-stands standard-fit w S in
+      left-by standard-fit w S (withCounters (decode standard w) c) (recounted w c) (unturned (sound-table standard-fit w S)) refl small small (unwritten standard-fit w S) refl
       (d .pass) (d .queue) (d .queued) (d .room) refl
 
   pub same-left : encode standard (decode standard w) w ≡ w
-  same-left = round-trip w (sound-is standard w t) small
+  same-left = round-trip standard-fit w (sound-is standard w t) small
 
   counters-are : decode standard w .counters ≡ w .counters
-  counters-are = decode-stands w (sound-is standard w t) .counters
+  counters-are = decode-stands standard-fit w (sound-is standard w t) .counters
 
   pub leaves-lend
       : (n : ℕ) (c : Counters) → c ≡ trackFramePager n (w .counters) → Leaves w (Lend n) (recounted w c) (told-bytes (c .«pager_outstanding»))
   unfolding perform
   leaves-lend n c e =
-      leaves-done w (Lend n) t (nothing-refused (decode standard w)) (done (withCounters (decode standard w) c) 0 (c .«pager_outstanding»))
+      leaves-done w (Lend n) t (nothing-refused standard (decode standard w)) (done (withCounters (decode standard w) c) 0 (c .«pager_outstanding»))
       (recounted w c) (rw (counters-are, e) refl) (recounted-left c)
 
   pub leaves-back
@@ -90,26 +91,26 @@ module _ (w : World) (t : sound standard w ≡ true) (small : Small w) where
   unfolding perform
   leaves-back n h c e =
       let z : ltb (decode standard w .counters .«pager_outstanding») n ≡ false = rw counters-are (le-ltb (w .counters .«pager_outstanding») n h) in
-      leaves-done w (Back n) t (back-refused (decode standard w) n ∙ ap (λ (b : Bool). cond b 15 0) z)
+      leaves-done w (Back n) t (back-refused standard (decode standard w) n ∙ ap (λ (b : Bool). cond b 15 0) z)
       (done (withCounters (decode standard w) c) 0 (c .«pager_outstanding»)) (recounted w c) (rw (counters-are, e) refl) (recounted-left c)
 
   pub refuses-back : (n : ℕ) → w .counters .«pager_outstanding» < n → Leaves w (Back n) w (refusedBy 15)
   refuses-back n h =
       let z : ltb (decode standard w .counters .«pager_outstanding») n ≡ true = rw counters-are (lt-ltb (w .counters .«pager_outstanding») n h) in
-      leaves-refused w (Back n) small t 15 (back-refused (decode standard w) n ∙ ap (λ (b : Bool). cond b 15 0) z) (λ e. omega arith)
+      leaves-refused w (Back n) small t 15 (back-refused standard (decode standard w) n ∙ ap (λ (b : Bool). cond b 15 0) z) (λ e. omega arith)
 
   pub leaves-low : (b : Bool) → b ≡ shouldReclaim standard (w .counters) → Leaves w Low w (told-bytes (bit b))
   unfolding perform
   leaves-low b e =
-      leaves-done w Low t (nothing-refused (decode standard w)) (done (decode standard w) 0 (bit b)) w
+      leaves-done w Low t (nothing-refused standard (decode standard w)) (done (decode standard w) 0 (bit b)) w
       (ap (λ (c : Counters). done (decode standard w) 0 (bit (shouldReclaim standard c))) counters-are ∙ ap (λ (x : Bool). done (decode standard w) 0 (bit x)) (sym e))
       same-left
 
   tells-stats : call standard w Stats ≡ record { world = w; answer = Text (trackerStats (w .counters)) }
   unfolding perform
   tells-stats =
-      done-call w Stats t (tells (decode standard w) (Text (trackerStats (w .counters)))) w
-      (none-met _ (nothing-refused (decode standard w)))
+      done-call standard-fit w Stats t (tells (decode standard w) (Text (trackerStats (w .counters)))) w
+      (none-met _ (nothing-refused standard (decode standard w)))
       (ap (λ (c : Counters). tells (decode standard w) (Text (trackerStats c))) counters-are) same-left
 
   pub reports-done
@@ -124,7 +125,7 @@ module _ (w : World) (t : sound standard w ≡ true) (small : Small w) where
 pub reports-torn : (w : World) → sound standard w ≡ false → (text : List ℕ) → Reports w (record { number = 6; len = 0; text = text })
 reports-torn w e text =
     record {
-      world = ap (λ (l : Left). l .world) (torn-call w Stats e);
-      answer = ap (λ (l : Left). told (l .answer)) (torn-call w Stats e);
-      text = sym (ap (λ (l : Left). textOf (l .answer)) (torn-call w Stats e));
+      world = ap (λ (l : Left). l .world) (torn-call standard w Stats e);
+      answer = ap (λ (l : Left). told (l .answer)) (torn-call standard w Stats e);
+      text = sym (ap (λ (l : Left). textOf (l .answer)) (torn-call standard w Stats e));
     }

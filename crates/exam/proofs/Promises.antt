@@ -17,6 +17,7 @@ use Rattle.definition.specs.Calls.{Call, Answer as AnswerOf, Outcome, Refused, 
 use Rattle.definition.specs.World.{World, decode, encode, recordAt}
 use Rattle.definition.specs.Torn.{Left, Sound, call, sound}
 use Rattle.audit.proofs.Sheets.{sound-is}
+use Rattle.world.specs.Fit.{standard-fit}
 use Rattle.world.specs.Refusals.{frameRefusal, numberIf, rangeOf, refusalOf}
 use Rattle.world.proofs.Calling.{done-call, none-met, one-met, refused-call, torn-call}
 use Rattle.allocator.specs.Spots.{numberAt}
@@ -37,19 +38,19 @@ leaves-as w c v y e = record { world = ap (λ (l : Left). l .world) e; answer = 
 
 module _ (w : World) (c : Call) where
   pub leaves-torn : sound standard w ≡ false → Leaves w c w (refusedBy 6)
-  leaves-torn e = leaves-as w c w (Refused Torn) (torn-call w c e)
+  leaves-torn e = leaves-as w c w (Refused Torn) (torn-call standard w c e)
 
-  pub leaves-refused : Small w → sound standard w ≡ true → (n : ℕ) → refusalOf (decode standard w) c ≡ n → (n ≡ 0 → ⊥) → Leaves w c w (refusedBy n)
+  pub leaves-refused : Small w → sound standard w ≡ true → (n : ℕ) → refusalOf standard (decode standard w) c ≡ n → (n ≡ 0 → ⊥) → Leaves w c w (refusedBy n)
   leaves-refused small t n e d = go (one-met (lowest (sheet standard (decode standard w) (names c))) n e d)
     where
       go : (r : Refusal) × (lowest (sheet standard (decode standard w) (names c)) ≡ some r) × (numberOf r ≡ n) → Leaves w c w (refusedBy n)
-      go (r, f, m) = rw (← m) (leaves-as w c w (Refused r) (refused-call w c t (sound-is standard w t) small r f))
+      go (r, f, m) = rw (← m) (leaves-as w c w (Refused r) (refused-call standard-fit w c t (sound-is standard w t) small r f))
 
   pub leaves-done
-      : sound standard w ≡ true → refusalOf (decode standard w) c ≡ 0 → (o : Outcome) (v : World) → perform standard (decode standard w) c ≡ o
+      : sound standard w ≡ true → refusalOf standard (decode standard w) c ≡ 0 → (o : Outcome) (v : World) → perform standard (decode standard w) c ≡ o
       → encode standard (o .store) w ≡ v → Leaves w c v (told (o .answer))
   leaves-done t e o v p d =
-      leaves-as w c v (o .answer) (done-call w c t o v (none-met (lowest (sheet standard (decode standard w) (names c))) e) p d)
+      leaves-as w c v (o .answer) (done-call standard-fit w c t o v (none-met (lowest (sheet standard (decode standard w) (names c))) e) p d)
 
 -- ---- of a held frame that was examined
 
@@ -63,7 +64,7 @@ module _ {w : World} {a off len : ℕ} {r : Exam} (E : Examined w a off len r) w
 
   -- a call whose refusals are those of the frame
   pub examined-refused
-      : (c : Call) → Small w → (sound standard w ≡ true → refusalOf (decode standard w) c ≡ frameRefusal (decode standard w) (rangeOf a off len))
+      : (c : Call) → Small w → (sound standard w ≡ true → refusalOf standard (decode standard w) c ≡ frameRefusal standard (decode standard w) (rangeOf a off len))
       → (r .number ≡ 0 → ⊥) → Leaves w c w (refusedBy (r .number))
   examined-refused c small same d = go (sound standard w) refl
     where
@@ -78,13 +79,13 @@ module _ {w : World} {a off len : ℕ} {r : Exam} (E : Examined w a off len r) w
     number : r .number ≡ seenRefusal (r .seen) a off len
     number = E .number t ∙ frame-seen (decode standard w) a off len (r .seen) (E .sees t)
 
-    pub examined-none : frameRefusal (decode standard w) (rangeOf a off len) ≡ 0
+    pub examined-none : frameRefusal standard (decode standard w) (rangeOf a off len) ≡ 0
     examined-none = sym (E .number t) ∙ z
 
     pub examined-held : HeldSeen (recordAt (w .records)) (w .rows) (r .seen)
     examined-held = seen-held (decode standard w) a off len (r .seen) (E .sees t) (E .leveled t) (r .number) number z
 
-    pub examined-number : numberAt (w .rows) (r .seen .spot) ≡ a / 4096
+    pub examined-number : numberAt standard (w .rows) (r .seen .spot) ≡ a / 4096
     examined-number =
         sees-number (E .sees t) (seen-managed (decode standard w) a off len (r .seen) (E .sees t) (E .leveled t) (r .number) number z)
 

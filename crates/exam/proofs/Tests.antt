@@ -70,7 +70,7 @@ size-frame r = go (eqb (r .marks % 2) 1)
 
 -- ---- the refusal
 
-module _ {f : ℕ → Record} {rows : List Row} (s : Store) (a off len : ℕ) (r : Seen) (S : Sees f rows (a / 4096) (s .allocator) r) where
+module _ {f : ℕ → Record} {rows : List Row} (s : Store) (a off len : ℕ) (r : Seen) (S : Sees standard f rows (a / 4096) (s .allocator) r) where
   seen-marks : r .managed ≡ true → s .allocator .frames (a / 4096) ≡ frameOf (record { marks = r .marks; level = r .level; earlier = f (r .spot .page) .earlier; later = f (r .spot .page) .later })
   seen-marks m = S .frame m ∙ rw (S .marks m, S .level m) refl
 
@@ -99,7 +99,7 @@ module _ {f : ℕ → Record} {rows : List Row} (s : Store) (a off len : ℕ) (r
   managed-or false m = ap (λ (t : Bool). cond (not t) 11 rest) m ∙ ap (λ (t : Bool). cond (not t) 11 by-record) (sym m)
   managed-or true m = ap (λ (t : ℕ). cond (not (r .managed)) 11 t) (admitted m (eqb (a % 4096) 0) (eqb (r .marks % 2) 1) refl refl)
 
-  pub frame-seen : frameRefusal s (rangeOf a off len) ≡ seenRefusal r a off len
+  pub frame-seen : frameRefusal standard s (rangeOf a off len) ≡ seenRefusal r a off len
   frame-seen =
       by-tests (isManaged standard (s .allocator .regions) (a / 4096)) (startsFrame standard s a) (isHeld standard s a) (leavesFrame standard s (rangeOf a off len))
       ∙ ap (λ (t : Bool). cond (not t) 11 rest) (sym (S .managed))
@@ -141,7 +141,7 @@ module _ {f : ℕ → Record} {rows : List Row} (s : Store) (a off len : ℕ) (r
         record { inside = h .0; held = h .1; leveled = leveled seen-managed seen-admitted; marks = S .marks seen-managed; level = S .level seen-managed }
 
 -- the frames of a sane table have one of the three levels
-pub sees-leveled : {f : ℕ → Record} {n p : ℕ} {rows : List Row} {a : PhysicalFrameAllocator} {r : Seen} → Sane f n rows → Sees f rows p a r → Leveled r
+pub sees-leveled : {f : ℕ → Record} {n p : ℕ} {rows : List Row} {a : PhysicalFrameAllocator} {r : Seen} → Sane standard f n rows → Sees standard f rows p a r → Leveled r
 unfolding stateOf
 sees-leveled {f = f} {rows = rows} {r = r} N S m d =
     let G = spot-good N (sees-in S m) in

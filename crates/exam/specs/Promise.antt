@@ -97,13 +97,13 @@ seenRefusal r a off len =
 pub record Looks (f : ℕ → Record) (n : ℕ) (rows : List Row) (a off len : ℕ) (r : Exam) : Type 0 where
   pub number : r .number ≡ seenRefusal (r .seen) a off len
   pub leveled : Leveled (r .seen)
-  pub sees : (x : PhysicalFrameAllocator) → Table f n rows x → Sees f rows (a / 4096) x (r .seen)
+  pub sees : (x : PhysicalFrameAllocator) → Table standard f n rows x → Sees standard f rows (a / 4096) x (r .seen)
 
 -- the same with the audit before it: 6 on a torn world
 pub record Examined (w : World) (a off len : ℕ) (r : Exam) : Type 0 where
   pub torn : sound standard w ≡ false → r .number ≡ 6
-  pub number : sound standard w ≡ true → r .number ≡ frameRefusal (decode standard w) (rangeOf a off len)
-  pub sees : sound standard w ≡ true → Sees (recordAt (w .records)) (w .rows) (a / 4096) (decode standard w .allocator) (r .seen)
+  pub number : sound standard w ≡ true → r .number ≡ frameRefusal standard (decode standard w) (rangeOf a off len)
+  pub sees : sound standard w ≡ true → Sees standard (recordAt (w .records)) (w .rows) (a / 4096) (decode standard w .allocator) (r .seen)
   pub leveled : sound standard w ≡ true → Leveled (r .seen)
 
 abbrev pub Exams : State → List ℕ → (memoryLen queueLen a off len : ℕ) → Exam → Type 0
@@ -112,8 +112,8 @@ Exams s records memoryLen queueLen a off len r =
 
 -- a held frame was seen, and its record is the one that was read
 pub record HeldSeen (f : ℕ → Record) (rows : List Row) (r : Seen) : Type 0 where
-  pub inside : InRows rows (r .spot)
-  pub held : HeldAt f rows (r .spot)
+  pub inside : InRows standard rows (r .spot)
+  pub held : HeldAt standard f rows (r .spot)
   pub leveled : r .level < 3
   pub marks : r .marks ≡ f (r .spot .page) .marks
   pub level : r .level ≡ f (r .spot .page) .level

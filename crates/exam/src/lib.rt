@@ -6,6 +6,7 @@ use definition::Counters;
 ghost use mathlib.Core.Path.{_≡_};
 ghost use Prim.Native.Nat.{ℕ, _+_, _/_, _%_, _<_, _≤_, _^_};
 ghost use lib.ListN.{length};
+ghost use Rattle.definition.specs.Board.{standard};
 ghost use Rattle.definition.specs.World.{recordAt};
 ghost use Rattle.record.specs.Records.{pagesIn};
 ghost use Rattle.words.specs.Words.{rowsIn};
@@ -116,7 +117,7 @@ pub struct Exam {
 }
 
 pub fn look(words: &[u64], records: &[u8], pa: PhysAddr, offset: u64, len: u64) -> Exam
-    requires { ⌜ (92 ≤ length (now words)) × Sane (recordAt (now records)) (pagesIn (now records)) (rowsIn (now words)) ⌝ }
+    requires { ⌜ (92 ≤ length (now words)) × Sane standard (recordAt (now records)) (pagesIn (now records)) (rowsIn (now words)) ⌝ }
     ensures { λ r. ⌜ Looks (recordAt (now (records .entry))) (pagesIn (now (records .entry))) (rowsIn (now (words .entry))) (pa .0) offset len r ⌝ }
 {
     let seen = allocator::see(words, records, pa);

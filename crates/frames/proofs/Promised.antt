@@ -30,6 +30,7 @@ use Rattle.definition.specs.Torn.{Sound, sound}
 use Rattle.record.specs.Records.{pagesIn}
 use Rattle.region.specs.Rep.{stateOf}
 use Rattle.audit.proofs.Sheets.{sound-is}
+use Rattle.world.specs.Fit.{standard-fit}
 use Rattle.world.specs.Refusals.{frameRefusal, numberIf, rangeOf, refusalOf}
 use Rattle.world.specs.Tables.{Table, Turned}
 use Rattle.world.proofs.Leaving.{left-by, sound-table, unwritten}
@@ -78,18 +79,18 @@ turnedInto w rows counters records =
 module _ (w : World) (S : Sound standard w) where
   -- the table of a sound world, by the length of the records that are left
   pub table-as-long
-      : (bs : List ℕ) → length bs ≡ length (w .records) → Table (recordAt (w .records)) (pagesIn bs) (w .rows) (decode standard w .allocator)
+      : (bs : List ℕ) → length bs ≡ length (w .records) → Table standard (recordAt (w .records)) (pagesIn bs) (w .rows) (decode standard w .allocator)
   table-as-long bs e =
       let same : pagesIn bs ≡ pagesIn (w .records) = ap (λ (n : ℕ). n / recordSize) e in
-      rw same (sound-table w S)
+      rw same (sound-table standard-fit w S)
 
   pub turned-left
       : (a : PhysicalFrameAllocator) (c : Counters) (rows : List Row) (bs : List ℕ)
-      → Turned (recordAt (w .records)) (w .rows) (recordAt bs) (pagesIn bs) rows a → length bs ≡ length (w .records) → Small w
+      → Turned standard (recordAt (w .records)) (w .rows) (recordAt bs) (pagesIn bs) rows a → length bs ≡ length (w .records) → Small w
       → ((i : ℕ) → getD bs i 0 < 256) → encode standard (withCounters (withAllocator (decode standard w) a) c) w ≡ turnedInto w rows c bs
   turned-left a c rows bs T e small small′ =
-      let d = decode-stands w S in
-      left-by w S (withCounters (withAllocator (decode standard w) a) c) (turnedInto w rows c bs) T e small small′ (unwritten w S) refl (d .pass) (d .queue)
+      let d = decode-stands standard-fit w S in
+      left-by standard-fit w S (withCounters (withAllocator (decode standard w) a) c) (turnedInto w rows c bs) T e small small′ (unwritten standard-fit w S) refl (d .pass) (d .queue)
       (d .queued) (d .room) refl
 
 -- ---- a held frame
@@ -108,9 +109,9 @@ held-frame x = go (eqb (x .marks % 2) 1)
 
 -- what a free of the frame that was seen makes of a store
 pub free-store
-    : {f : ℕ → Record} {rows : List Row} (s : Store) (p : ℕ) {r : Seen} → Sees f rows p (s .allocator) r → r .managed ≡ true → HeldSeen f rows r
+    : {f : ℕ → Record} {rows : List Row} (s : Store) (p : ℕ) {r : Seen} → Sees standard f rows p (s .allocator) r → r .managed ≡ true → HeldSeen f rows r
     → freeFrame standard s p
-    ≡ withCounters (withAllocator s (freeAt p (s .allocator))) (countFree (size (r .level)) (eqb (r .marks / 8 % 2) 1) (s .counters))
+    ≡ withCounters (withAllocator s (freeAt standard p (s .allocator))) (countFree (size (r .level)) (eqb (r .marks / 8 % 2) 1) (s .counters))
 unfolding freeFrame stateOf
 free-store {f} s p {r} S m H = rw (S .frame m, held-frame (f (r .spot .page)) (H .held .held), H .marks, H .level) refl
 
@@ -132,10 +133,10 @@ find-performed s a = refl
 
 module _ {w : World} {a : ℕ} {r : Exam} (E : Examined w a 0 0 r) where
   pub split-refused : Small w → (r .number ≡ 0 → ⊥) → Leaves w (Split a) w (refusedBy (r .number))
-  split-refused small d = examined-refused E (Split a) small (λ t. one-frame (decode standard w) a 0 0) d
+  split-refused small d = examined-refused E (Split a) small (λ t. one-frame standard (decode standard w) a 0 0) d
 
   pub free-refused : Small w → (r .number ≡ 0 → ⊥) → Leaves w (Free a) w (refusedBy (r .number))
-  free-refused small d = examined-refused E (Free a) small (λ t. one-frame (decode standard w) a 0 0) d
+  free-refused small d = examined-refused E (Free a) small (λ t. one-frame standard (decode standard w) a 0 0) d
 
   module _ (z : r .number ≡ 0) where
     abbrev t : sound standard w ≡ true
@@ -151,7 +152,7 @@ module _ {w : World} {a : ℕ} {r : Exam} (E : Examined w a 0 0 r) where
 
     -- a call on the frame that answers with its bytes
     performed
-        : (c : Call) (s : Store) (v : World) → refusalOf (decode standard w) c ≡ frameRefusal (decode standard w) (rangeOf a 0 0)
+        : (c : Call) (s : Store) (v : World) → refusalOf standard (decode standard w) c ≡ frameRefusal standard (decode standard w) (rangeOf a 0 0)
         → perform standard (decode standard w) c ≡ done s a (frameBytes standard (decode standard w) (a / 4096)) → encode standard s w ≡ v
         → Leaves w c v (doneBy a (bytesIf (r .seen)))
     performed c s v same p left =
@@ -159,27 +160,27 @@ module _ {w : World} {a : ℕ} {r : Exam} (E : Examined w a 0 0 r) where
         rw (← examined-bytes E z) (leaves-done w c t (same ∙ examined-none E z) (done s a bytes) v p left)
 
     pub split-leaves
-        : (bs : List ℕ) → TurnsBy (splitAt (numberAt (w .rows) (r .seen .spot))) (recordAt (w .records)) (w .rows) (recordAt bs) (pagesIn bs) (w .rows)
+        : (bs : List ℕ) → TurnsBy standard (splitAt (numberAt standard (w .rows) (r .seen .spot))) (recordAt (w .records)) (w .rows) (recordAt bs) (pagesIn bs) (w .rows)
         → length bs ≡ length (w .records) → Small w → ((i : ℕ) → getD bs i 0 < 256)
         → Leaves w (Split a) (turnedInto w (w .rows) (w .counters) bs) (doneBy a (bytesIf (r .seen)))
     split-leaves bs T e small small′ =
         let s = decode standard w in
         let T2 = rw (examined-number E z) at (T (s .allocator) (table-as-long w S bs e)) in
-        let left = ap (λ (x : Store). encode standard x w) (split-store s (a / 4096) (decode-stands w S .counters)) ∙ turned-left w S (splitAt (a / 4096) (s .allocator)) (w .counters) (w .rows) bs T2 e small small′ in
-        performed (Split a) (splitFrame s (a / 4096)) (turnedInto w (w .rows) (w .counters) bs) (one-frame s a 0 0) (split-performed s a) left
+        let left = ap (λ (x : Store). encode standard x w) (split-store s (a / 4096) (decode-stands standard-fit w S .counters)) ∙ turned-left w S (splitAt (a / 4096) (s .allocator)) (w .counters) (w .rows) bs T2 e small small′ in
+        performed (Split a) (splitFrame s (a / 4096)) (turnedInto w (w .rows) (w .counters) bs) (one-frame standard s a 0 0) (split-performed s a) left
 
     pub free-leaves
         : (rows : List Row) (c : Counters) (bs : List ℕ)
-        → TurnsBy (freeAt (numberAt (w .rows) (r .seen .spot))) (recordAt (w .records)) (w .rows) (recordAt bs) (pagesIn bs) rows
+        → TurnsBy standard (freeAt standard (numberAt standard (w .rows) (r .seen .spot))) (recordAt (w .records)) (w .rows) (recordAt bs) (pagesIn bs) rows
         → c ≡ countFree (size (r .seen .level)) (eqb (r .seen .marks / 8 % 2) 1) (w .counters) → length bs ≡ length (w .records) → Small w
         → ((i : ℕ) → getD bs i 0 < 256) → Leaves w (Free a) (turnedInto w rows c bs) (doneBy a (bytesIf (r .seen)))
     free-leaves rows c bs T k e small small′ =
         let s = decode standard w in
         let T2 = rw (examined-number E z) at (T (s .allocator) (table-as-long w S bs e)) in
-        let counted = ap (countFree (size (r .seen .level)) (eqb (r .seen .marks / 8 % 2) 1)) (decode-stands w S .counters) ∙ sym k in
-        let freed = free-store s (a / 4096) (E .sees t) examined-managed (examined-held E z) ∙ ap (withCounters (withAllocator s (freeAt (a / 4096) (s .allocator)))) counted in
-        let left = ap (λ (x : Store). encode standard x w) freed ∙ turned-left w S (freeAt (a / 4096) (s .allocator)) c rows bs T2 e small small′ in
-        performed (Free a) (freeFrame standard s (a / 4096)) (turnedInto w rows c bs) (one-frame s a 0 0) (free-performed s a) left
+        let counted = ap (countFree (size (r .seen .level)) (eqb (r .seen .marks / 8 % 2) 1)) (decode-stands standard-fit w S .counters) ∙ sym k in
+        let freed = free-store s (a / 4096) (E .sees t) examined-managed (examined-held E z) ∙ ap (withCounters (withAllocator s (freeAt standard (a / 4096) (s .allocator)))) counted in
+        let left = ap (λ (x : Store). encode standard x w) freed ∙ turned-left w S (freeAt standard (a / 4096) (s .allocator)) c rows bs T2 e small small′ in
+        performed (Free a) (freeFrame standard s (a / 4096)) (turnedInto w rows c bs) (one-frame standard s a 0 0) (free-performed s a) left
 
 -- ---- a lookup
 
@@ -197,16 +198,16 @@ stays (t ∷ rs) a =
     go true true true e d = absurd (omega (arith, ltb-true (a / 4096) (end standard t) e, ltb-true (4096 * end standard t) (a + (0 + 0)) d))
 
 -- so it is refused 11 or not at all
-pub place-refusal : (s : Store) (a : ℕ) → refusalOf s (Find a) ≡ cond (isManaged standard (s .allocator .regions) (a / 4096)) 0 11
+pub place-refusal : (s : Store) (a : ℕ) → refusalOf standard s (Find a) ≡ cond (isManaged standard (s .allocator .regions) (a / 4096)) 0 11
 unfolding lowest
-place-refusal s a = one-place s a 0 0 ∙ rw (stays (s .allocator .regions) a) (go (isManaged standard (s .allocator .regions) (a / 4096)))
+place-refusal s a = one-place standard s a 0 0 ∙ rw (stays (s .allocator .regions) a) (go (isManaged standard (s .allocator .regions) (a / 4096)))
   where
     go : (m : Bool) → numberIf (lowest ((Outside when not m) ∷ (PastTheEnd when false) ∷ [])) ≡ cond m 0 11
     go true = refl
     go false = refl
 
 module _ {w : World} {a : ℕ} {r : Seen} (t : sound standard w ≡ true) (small : Small w)
-    (Z : Sees (recordAt (w .records)) (w .rows) (a / 4096) (decode standard w .allocator) r)
+    (Z : Sees standard (recordAt (w .records)) (w .rows) (a / 4096) (decode standard w .allocator) r)
   where
     pub find-refused : r .managed ≡ false → Leaves w (Find a) w (refusedBy 11)
     find-refused m =
@@ -216,4 +217,4 @@ module _ {w : World} {a : ℕ} {r : Seen} (t : sound standard w ≡ true) (small
     find-leaves m =
         let s = decode standard w in
         rw (← bytes-seen s a 0 0 r Z m)
-        (leaves-done w (Find a) t (place-refusal s a ∙ ap (λ (x : Bool). cond x 0 11) (sym (Z .managed) ∙ m)) (done s (4096 * (a / 4096)) (frameBytes standard s (a / 4096))) w (find-performed s a) (round-trip w (sound-is standard w t) small))
+        (leaves-done w (Find a) t (place-refusal s a ∙ ap (λ (x : Bool). cond x 0 11) (sym (Z .managed) ∙ m)) (done s (4096 * (a / 4096)) (frameBytes standard s (a / 4096))) w (find-performed s a) (round-trip standard-fit w (sound-is standard w t) small))

@@ -6,6 +6,7 @@ use exam::Answer;
 use exam::Outcome;
 ghost use Prim.Native.Nat.{_≤_, _<_, _^_};
 ghost use lib.ListN.{length};
+ghost use Rattle.definition.specs.Board.{standard};
 ghost use Rattle.definition.specs.Calls.{Find, Split, Free};
 ghost use Rattle.definition.specs.World.{recordAt};
 ghost use Rattle.record.specs.Records.{pagesIn};
@@ -76,7 +77,7 @@ pub fn split(
 
 // free_frame, but for its tests: the held frame that was seen goes back on its list, and its pages are idle.
 pub fn release(counters: Counters, words: &mut [u64], records: &mut [u8], seen: Seen) -> Counters
-    requires { ⌜ (92 ≤ length (now words)) × Sane (recordAt (now records)) (pagesIn (now records)) (rowsIn (now words)) ⌝ }
+    requires { ⌜ (92 ≤ length (now words)) × Sane standard (recordAt (now records)) (pagesIn (now records)) (rowsIn (now words)) ⌝ }
     requires { ⌜ HeldSeen (recordAt (now records)) (rowsIn (now words)) seen × (counters .idle < 2 ^ 63) ⌝ }
     ensures { λ r. ⌜ Released (recordAt (now (records .entry))) (stateWith counters (now (words .entry))) seen (recordAt (now (records .exit))) (pagesIn (now (records .exit))) (stateWith r (now (words .exit))) ⌝ }
     ensures { λ _. ⌜ Beside (now (words .entry)) (now (words .exit)) ⌝ }

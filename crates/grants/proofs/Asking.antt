@@ -51,7 +51,7 @@ module _ {w : World} {y : Layout} {r : Asked} where
     wants-refused x f e =
         record {
           torn = λ d. absurd (false≢true (sym d ∙ t));
-          number = λ z. e ∙ sym (layout-refused (decode standard w) y ∙ found-refused y x _ f);
+          number = λ z. e ∙ sym (layout-refused standard (decode standard w) y ∙ found-refused y x _ f);
           level = λ z. absurd (not-none x (sym e ∙ z));
           small = λ z. absurd (not-none x (sym e ∙ z));
         }
@@ -64,7 +64,7 @@ module _ {w : World} {y : Layout} {r : Asked} where
         let k : r .level ≡ findLevel standard y = e ∙ F .number in
         record {
           torn = λ d. absurd (false≢true (sym d ∙ t));
-          number = λ z. n ∙ sym (layout-refused (decode standard w) y ∙ rw (F .fine, F .within, ← k, ← d) refl);
+          number = λ z. n ∙ sym (layout-refused standard (decode standard w) y ∙ rw (F .fine, F .within, ← k, ← d) refl);
           level = λ z. k;
           small = λ z. omega (arith, rank-below l);
         }

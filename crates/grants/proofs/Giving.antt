@@ -57,20 +57,20 @@ held-still : (zeroed kernel : Bool) (o : Option Frame) → isAllocated o ≡ tru
 held-still zeroed kernel none e = e
 held-still zeroed kernel (some f) e = e
 
-is-held : (f : ℕ → Record) (rows : List Row) (s : Spot) → HeldAt f rows s → isAllocated (frameOf (f (s .page))) ≡ true
+is-held : (f : ℕ → Record) (rows : List Row) (s : Spot) → HeldAt standard f rows s → isAllocated (frameOf (f (s .page))) ≡ true
 unfolding stateOf
 is-held f rows s H = H .held
 
-module _ {f : ℕ → Record} {n : ℕ} {rows : List Row} {s : Spot} (I : InRows rows s) where
-  table-frame : {a : PhysicalFrameAllocator} → Table f n rows a → a .frames (numberAt rows s) ≡ frameOf (f (s .page))
+module _ {f : ℕ → Record} {n : ℕ} {rows : List Row} {s : Spot} (I : InRows standard rows s) where
+  table-frame : {a : PhysicalFrameAllocator} → Table standard f n rows a → a .frames (numberAt standard rows s) ≡ frameOf (f (s .page))
   unfolding stateOf
   table-frame {a} T =
-      let S : StandsRow f n (s .base) (rowAt rows (s .index)) (a .frames) (regionAt (a .regions) (s .index))
+      let S : StandsRow standard f n (s .base) (rowAt rows (s .index)) (a .frames) (regionAt (a .regions) (s .index))
       = rw (I .based, ← used-row rows (s .index) (I .used)) (stands-at (T .stands) (s .index) (I .used))
       in
       S .same .frames (s .page) (I .inside)
 
-  module _ (S : Sane f n rows) where
+  module _ (S : Sane standard f n rows) where
     pub near : Near rows s
     unfolding fromOf managed
     near =
@@ -85,7 +85,7 @@ module _ {f : ℕ → Record} {n : ℕ} {rows : List Row} {s : Spot} (I : InRows
     pub page-in : s .page < n
     page-in = omega (arith, spot-good S I .sound .fits, I .inside .high)
 
-    module _ (H : HeldAt f rows s) where
+    module _ (H : HeldAt standard f rows s) where
       held-frame : frameOf (f (s .page)) ≡ some (frameIn (f (s .page)))
       held-frame = held-record (f (s .page)) (is-held f rows s H)
 
@@ -93,24 +93,24 @@ module _ {f : ℕ → Record} {n : ℕ} {rows : List Row} {s : Spot} (I : InRows
       unfolding stateOf
       held-level = spot-good S I .whole .tile (s .page) (frameIn (f (s .page))) (I .inside) held-frame .level
 
-      held-runs : Runs (regionsOf standard rows) (numberAt rows s) (s .page) (size (f (s .page) .level))
+      held-runs : Runs standard (regionsOf standard rows) (numberAt standard rows s) (s .page) (size (f (s .page) .level))
       held-runs = frame-runs I S (frameIn (f (s .page))) held-frame
 
       -- the frame's bytes lie among the managed ones
       pub held-room : {long : ℕ} → standard .page * managedPages standard (regionsOf standard rows) ≤ long → 4096 * s .page + 4096 * size (f (s .page) .level) ≤ long
-      held-room h = omega (arith, runs-end held-runs)
+      held-room h = omega (arith, runs-end standard held-runs)
 
 -- ---- its zeros
 
-module _ {rs : List AllocationRegion} (m : Memory) (bs : List ℕ) (fits : managedBytes rs ≤ length bs) (apart : overlap standard rs ≡ false) (same : Fronts rs m bs) where
+module _ {rs : List AllocationRegion} (m : Memory) (bs : List ℕ) (fits : managedBytes standard rs ≤ length bs) (apart : overlap standard rs ≡ false) (same : Fronts standard rs m bs) where
   zeros-written
-      : (zeroed : Bool) (r : Record) (o : Option Frame) (p q : ℕ) → o ≡ some (frameIn r) → Lies rs (4096 * p) (4096 * q) (4096 * size (r .level))
-      → Rewritten rs bs (cond (zeroed && not (isZeroed o)) (filled (4096 * p) (4096 * sizeOf o) 0 m) m) (zeroedBytes zeroed r q bs)
+      : (zeroed : Bool) (r : Record) (o : Option Frame) (p q : ℕ) → o ≡ some (frameIn r) → Lies standard rs (4096 * p) (4096 * q) (4096 * size (r .level))
+      → Rewritten standard rs bs (cond (zeroed && not (isZeroed o)) (filled (4096 * p) (4096 * sizeOf o) 0 m) m) (zeroedBytes zeroed r q bs)
   zeros-written zeroed r o p q e L = rw e (go (zeroed && not (eqb (r .marks / 4 % 2) 1)))
     where
       go : (b : Bool)
-          → Rewritten rs bs (cond b (filled (4096 * p) (4096 * size (r .level)) 0 m) m) (cond b (withBytes bs (4096 * q) (replicate (4096 * size (r .level)) 0)) bs)
-      go true = memory-filled L m bs fits apart same 0
+          → Rewritten standard rs bs (cond b (filled (4096 * p) (4096 * size (r .level)) 0 m) m) (cond b (withBytes bs (4096 * q) (replicate (4096 * size (r .level)) 0)) bs)
+      go true = memory-filled standard L m bs fits apart same 0
       go false = record { memory = same; as-long = refl; beyond = refl }
 
 -- ---- a grant
@@ -118,15 +118,15 @@ module _ {rs : List AllocationRegion} (m : Memory) (bs : List ℕ) (fits : manag
 -- the search turns the words ws into vs: it changes their rows, and nothing else of the state
 module _
     {f g : ℕ → Record} {n : ℕ} {found : Bool} {spot : Spot} (counters : Counters) (ws vs : List ℕ) (l : ℕ) (flags : FrameAllocFlags)
-    (P : PicksBy (doAlloc l (flags .zeroed)) f (rowsIn ws) g n (record { rows = rowsIn vs; found = found; spot = spot }))
+    (P : PicksBy standard (doAlloc l (flags .zeroed)) f (rowsIn ws) g n (record { rows = rowsIn vs; found = found; spot = spot }))
   where
     abbrev st : State
     st = stateWith counters ws
 
-    picked-turned : (S : Sane f n (rowsIn ws)) → Turned f (rowsIn ws) g n (rowsIn vs) (doAlloc l (flags .zeroed) (standing f (rowsIn ws)) .allocator)
-    picked-turned S = P (standing f (rowsIn ws)) (sane-table S) .turned
+    picked-turned : (S : Sane standard f n (rowsIn ws)) → Turned standard f (rowsIn ws) g n (rowsIn vs) (doAlloc l (flags .zeroed) (standing standard f (rowsIn ws)) .allocator)
+    picked-turned S = P (standing standard f (rowsIn ws)) (sane-table S) .turned
 
-    pub picked-sane : Sane f n (rowsIn ws) → Sane g n (rowsIn vs)
+    pub picked-sane : Sane standard f n (rowsIn ws) → Sane standard g n (rowsIn vs)
     picked-sane S = picked-turned S .table .sane
 
     pub picked-ready : {long : ℕ} → Ready f n st long → Ready g n (stateWith counters vs) long
@@ -145,7 +145,7 @@ module _
     pub finds-none : RowsBeside ws vs → Finds st nothing
     finds-none B = record { queued = B .queued; pass = B .pass; address = λ z. absurd (false≢true z) }
 
-    pub holds-none : Sane f n (rowsIn ws) → Holds g n nothing
+    pub holds-none : Sane standard f n (rowsIn ws) → Holds g n nothing
     holds-none S = record { sane = picked-sane S; spot = λ z. absurd (false≢true z); held = λ z. absurd (false≢true z) }
 
     pub gives-none : (bytes : List ℕ) → found ≡ false → GivesBy (tryAllocFrame standard l flags) f st bytes g n bytes nothing
@@ -165,28 +165,28 @@ module _
 
     -- a frame is found
     module _ (e : found ≡ true) where
-      pub picked-spot : Sane f n (rowsIn ws) → InRows (rowsIn vs) spot
-      picked-spot S = P (standing f (rowsIn ws)) (sane-table S) .spot e
+      pub picked-spot : Sane standard f n (rowsIn ws) → InRows standard (rowsIn vs) spot
+      picked-spot S = P (standing standard f (rowsIn ws)) (sane-table S) .spot e
 
-      pub picked-held : Sane f n (rowsIn ws) → HeldAt g (rowsIn vs) spot
-      picked-held S = P (standing f (rowsIn ws)) (sane-table S) .held e
+      pub picked-held : Sane standard f n (rowsIn ws) → HeldAt standard g (rowsIn vs) spot
+      picked-held S = P (standing standard f (rowsIn ws)) (sane-table S) .held e
 
       module _
           {h : ℕ → Record} {after : Counters} (c : after ≡ countAlloc (size l) (flags .kernel) counters)
-          (T : TurnsBy (markAt false (flags .kernel) (numberAt (rowsIn vs) spot)) g (rowsIn vs) h n (rowsIn vs)) (address : ℕ)
+          (T : TurnsBy standard (markAt false (flags .kernel) (numberAt standard (rowsIn vs) spot)) g (rowsIn vs) h n (rowsIn vs)) (address : ℕ)
         where
           abbrev frame : Granted
           frame = record { state = stateWith after vs; found = true; spot = spot; address = address }
 
-          pub finds-some : RowsBeside ws vs → address ≡ 4096 * numberAt (rowsIn vs) spot → Finds st frame
+          pub finds-some : RowsBeside ws vs → address ≡ 4096 * numberAt standard (rowsIn vs) spot → Finds st frame
           finds-some B d = record { queued = B .queued; pass = B .pass; address = λ z. d }
 
-          pub holds-some : Sane f n (rowsIn ws) → Holds h n frame
+          pub holds-some : Sane standard f n (rowsIn ws) → Holds h n frame
           holds-some S =
               let U = picked-turned S .table in
-              let a = doAlloc l (flags .zeroed) (standing f (rowsIn ws)) .allocator in
+              let a = doAlloc l (flags .zeroed) (standing standard f (rowsIn ws)) .allocator in
               let N = T a U .table in
-              let p = numberAt (rowsIn vs) spot in
+              let p = numberAt standard (rowsIn vs) spot in
               let I = picked-spot S in
               let held : isAllocated (a .frames p) ≡ true = rw (table-frame I U) (is-held g (rowsIn vs) spot (picked-held S)) in
               record {
@@ -207,12 +207,12 @@ module _
               let H = p .held e in
               let N = p .turned .table .sane in
               let R = runs-bare (L .table .stands) (rw (p .turned .spans) at (held-runs I N H)) in
-              let lies = runs-lies R 0 (4096 * size (g q .level)) (omega arith) {a = 4096 * numberAt (rowsIn vs) spot} {b = 4096 * q} (omega arith) (omega arith) in
+              let lies = runs-lies standard R 0 (4096 * size (g q .level)) (omega arith) {a = 4096 * numberAt standard (rowsIn vs) spot} {b = 4096 * q} (omega arith) (omega arith) in
               let W
-              = zeros-written (s .memory) bytes (L .fits) (L .apart) (L .memory) (flags .zeroed) (g q) (a .frames (numberAt (rowsIn vs) spot))
-              (numberAt (rowsIn vs) spot) q (table-frame I (p .turned .table) ∙ held-frame I N H) lies
+              = zeros-written (s .memory) bytes (L .fits) (L .apart) (L .memory) (flags .zeroed) (g q) (a .frames (numberAt standard (rowsIn vs) spot))
+              (numberAt standard (rowsIn vs) spot) q (table-frame I (p .turned .table) ∙ held-frame I N H) lies
               in
-              rw (try-some l flags s (numberAt (rowsIn vs) spot) (p .page e), c, b)
+              rw (try-some l flags s (numberAt standard (rowsIn vs) spot) (p .page e), c, b)
               (record {
                 turned = turned-then (p .turned) (T a (p .turned .table));
                 memory = W .memory;
@@ -233,12 +233,12 @@ module _
     gives-whole e s L = rw (split-none l flags s (G s L .none-found e)) (G s L)
 
     pub gives-split
-        : r .found ≡ true → {h : ℕ → Record} → TurnsBy (splitAt (numberAt (r .state .rows) (r .spot))) g (r .state .rows) h n (r .state .rows)
+        : r .found ≡ true → {h : ℕ → Record} → TurnsBy standard (splitAt (numberAt standard (r .state .rows) (r .spot))) g (r .state .rows) h n (r .state .rows)
         → GivesBy (tryAllocSplitFrames standard l flags) f st bytes h n bytes2 r
     gives-split e T s L =
         let x = G s L in
         let a = tryAllocFrame standard l flags s .store .allocator in
-        rw (split-some l flags s (numberAt (r .state .rows) (r .spot)) (x .page e))
+        rw (split-some l flags s (numberAt standard (r .state .rows) (r .spot)) (x .page e))
         (record {
           turned = turned-then (x .turned) (T a (x .turned .table));
           memory = x .memory;

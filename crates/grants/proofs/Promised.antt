@@ -17,6 +17,7 @@ use Rattle.definition.specs.World.{World, decode, encode, recordAt}
 use Rattle.definition.specs.Torn.{Sound, sound}
 use Rattle.record.specs.Records.{pagesIn}
 use Rattle.audit.proofs.Sheets.{sound-is}
+use Rattle.world.specs.Fit.{standard-fit}
 use Rattle.world.specs.Refusals.{refusalOf}
 use Rattle.world.specs.Stands.{Stands}
 use Rattle.world.proofs.Leaving.{left-by, sound-sane, sound-table}
@@ -63,11 +64,11 @@ module _ {w : World} {y : Layout} {r : Asked} (W : Wants w y r) where
       go true e = refl
       go false e = absurd (omega (arith, W .torn e))
 
-  pub wanted-none : r .number ≡ 0 → refusalOf (decode standard w) (Alloc y) ≡ 0
+  pub wanted-none : r .number ≡ 0 → refusalOf standard (decode standard w) (Alloc y) ≡ 0
   wanted-none z = sym (W .number (wanted-sound z)) ∙ z
 
   pub leaves-wanted
-      : (c : Call) → refusalOf (decode standard w) c ≡ refusalOf (decode standard w) (Alloc y) → Small w → (r .number ≡ 0 → ⊥) → Leaves w c w (refusedBy (r .number))
+      : (c : Call) → refusalOf standard (decode standard w) c ≡ refusalOf standard (decode standard w) (Alloc y) → Small w → (r .number ≡ 0 → ⊥) → Leaves w c w (refusedBy (r .number))
   leaves-wanted c same small d = go (sound standard w) refl
     where
       go : (b : Bool) → sound standard w ≡ b → Leaves w c w (refusedBy (r .number))
@@ -102,14 +103,14 @@ module _ (st : State) (records memory queue : List ℕ) where
     S : Sound standard w
     S = sound-is standard w t
 
-    D : Stands w (decode standard w)
-    D = decode-stands w S
+    D : Stands standard w (decode standard w)
+    D = decode-stands standard-fit w S
 
     pub ready : Ready (recordAt records) (pagesIn records) st (length memory)
     ready =
         record {
-          sane = sound-sane w S;
-          memory = omega (arith, D .fits, spans-bare managed-spans (D .rows));
+          sane = sound-sane standard-fit w S;
+          memory = omega (arith, D .fits, spans-bare (managed-spans standard) (D .rows));
           kernel = kernel-small w S;
           page = page-small w S;
         }
@@ -117,8 +118,8 @@ module _ (st : State) (records memory queue : List ℕ) where
     pub lends : Lends (recordAt records) (pagesIn records) st memory (decode standard w)
     lends =
         record {
-          table = sound-table w S;
-          apart = spans-bare overlap-spans (D .rows) ∙ as-boot (st .rows) (S .rows) .apart;
+          table = sound-table standard-fit w S;
+          apart = spans-bare (overlap-spans standard) (D .rows) ∙ as-boot (st .rows) (S .rows) .apart;
           fits = D .fits;
           memory = D .memory;
           counters = D .counters;
@@ -135,7 +136,7 @@ module _ (st : State) (records memory queue : List ℕ) where
 
         left : {x : GrantedOf} {r : Granted} → Given x r → Finds st r → Kept (decode standard w) (x .store) → encode standard (x .store) w ≡ worldOf (r .state) records2 memory2 queue
         left {x} {r} G F K =
-            left-by w S (x .store) (worldOf (r .state) records2 memory2 queue) (G .turned) as-long small small2
+            left-by standard-fit w S (x .store) (worldOf (r .state) records2 memory2 queue) (G .turned) as-long small small2
             (record { memory = G .memory; as-long = G .as-long; beyond = G .beyond })
             (G .counters)
             (K .pass ∙ D .pass ∙ sym (F .pass))
@@ -146,19 +147,19 @@ module _ (st : State) (records memory queue : List ℕ) where
 
         -- the call that hands out what was granted
         leaves-handed
-            : (c : Call) (l : ℕ) {x : GrantedOf} {r : Granted} → refusalOf (decode standard w) c ≡ 0 → perform standard (decode standard w) c ≡ hands standard l x
+            : (c : Call) (l : ℕ) {x : GrantedOf} {r : Granted} → refusalOf standard (decode standard w) c ≡ 0 → perform standard (decode standard w) c ≡ hands standard l x
             → Given x r → Finds st r → Kept (decode standard w) (x .store) → Leaves w c (worldOf (r .state) records2 memory2 queue) (handed (r .found) (r .address) l)
         leaves-handed c l {x} {r} z e G F K = go (r .found) refl
           where
             go : (b : Bool) → r .found ≡ b → Leaves w c (worldOf (r .state) records2 memory2 queue) (handed b (r .address) l)
             go true d =
-                let p = numberAt (r .state .rows) (r .spot) in
+                let p = numberAt standard (r .state .rows) (r .spot) in
                 let o = done (x .store) (standard .page * p) (bytesOfLevel standard l) in
                 rw (F .address d) (leaves-done w c t z o (worldOf (r .state) records2 memory2 queue) (e ∙ hands-some l x p (G .page d)) (left G F K))
             go false d =
                 leaves-done w c t z (done (x .store) 0 0) (worldOf (r .state) records2 memory2 queue) (e ∙ hands-none l x (G .none-found d)) (left G F K)
 
-        module _ (y : Layout) {l : ℕ} (e : l ≡ findLevel standard y) (z : refusalOf (decode standard w) (Alloc y) ≡ 0) {r : Granted} (F : Finds st r) where
+        module _ (y : Layout) {l : ℕ} (e : l ≡ findLevel standard y) (z : refusalOf standard (decode standard w) (Alloc y) ≡ 0) {r : Granted} (F : Finds st r) where
           pub leaves-alloc
               : Given (tryAllocFrame standard l (y .flags) (decode standard w)) r
               → Leaves w (Alloc y) (worldOf (r .state) records2 memory2 queue) (handed (r .found) (r .address) l)

@@ -33,7 +33,7 @@ use Rattle.grants.specs.declared.Asked.{Asked}
 -- the refusal that a layout meets, and where it meets none the level that it gets
 pub record Wants (w : World) (y : Layout) (r : Asked) : Type 0 where
   pub torn : sound standard w ≡ false → r .number ≡ 6
-  pub number : sound standard w ≡ true → r .number ≡ refusalOf (decode standard w) (Alloc y)
+  pub number : sound standard w ≡ true → r .number ≡ refusalOf standard (decode standard w) (Alloc y)
   pub level : r .number ≡ 0 → r .level ≡ findLevel standard y
   pub small : r .number ≡ 0 → r .level < 3
 
@@ -45,14 +45,14 @@ WantsAll s records memoryLen queueLen y r =
 
 -- what the parts of a grant ask of the state, the records f of n pages and a memory of so many bytes
 pub record Ready (f : ℕ → Record) (n : ℕ) (st : State) (long : ℕ) : Type 0 where
-  pub sane : Sane f n (st .rows)
+  pub sane : Sane standard f n (st .rows)
   pub memory : standard .page * managedPages standard (regionsOf standard (st .rows)) ≤ long
   pub kernel : st .counters .«kernel_used» < 2 ^ 57
   pub page : st .counters .«page_data» < 2 ^ 57
 
 -- the state, the records and the memory's bytes stand for the store s, but for its queue and its pass
 pub record Lends (f : ℕ → Record) (n : ℕ) (st : State) (bytes : List ℕ) (s : Store) : Type 0 where
-  pub table : Table f n (st .rows) (s .allocator)
+  pub table : Table standard f n (st .rows) (s .allocator)
   pub apart : overlap standard (s .allocator .regions) ≡ false
   pub fits : standard .page * managedPages standard (s .allocator .regions) ≤ length bytes
   pub memory : memoryBytes standard (s .memory) (s .allocator .regions) ≡ take (standard .page * managedPages standard (s .allocator .regions)) bytes
@@ -71,8 +71,8 @@ zeroedBytes zeroed r q bytes = cond (zeroes zeroed r) (withBytes bytes (4096 * q
 pub record Near (rows : List Row) (s : Spot) : Type 0 where
   pub index : s .index < 8
   pub pages : rowAt rows (s .index) .pages ≤ 2 ^ 32
-  pub inside : Inside (s .base) (rowAt rows (s .index) .pages) (s .page)
-  pub ends : fromOf (rowAt rows (s .index)) + managed (rowAt rows (s .index) .pages) ≤ 2 ^ 52
+  pub inside : Inside standard (s .base) (rowAt rows (s .index) .pages) (s .page)
+  pub ends : fromOf standard (rowAt rows (s .index)) + managed standard (rowAt rows (s .index) .pages) ≤ 2 ^ 52
 
 -- the answer to a grant
 abbrev pub handed : (found : Bool) → (address level : ℕ) → Answer
@@ -90,7 +90,7 @@ pub record Granted : Type 0 where
 
 -- of the store s, by what the definition's grant makes of it
 pub record Gives (f : ℕ → Record) (st : State) (bytes : List ℕ) (s : Store) (x : GrantedOf) (g : ℕ → Record) (n : ℕ) (bytes2 : List ℕ) (r : Granted) : Type 0 where
-  pub turned : Turned f (st .rows) g n (r .state .rows) (x .store .allocator)
+  pub turned : Turned standard f (st .rows) g n (r .state .rows) (x .store .allocator)
   pub memory
       : memoryBytes standard (x .store .memory) (s .allocator .regions) ≡ take (standard .page * managedPages standard (s .allocator .regions)) bytes2
   pub as-long : length bytes2 ≡ length bytes
@@ -98,7 +98,7 @@ pub record Gives (f : ℕ → Record) (st : State) (bytes : List ℕ) (s : Store
       : drop (standard .page * managedPages standard (s .allocator .regions)) bytes2 ≡ drop (standard .page * managedPages standard (s .allocator .regions)) bytes
   pub counters : x .store .counters ≡ r .state .counters
   pub none-found : r .found ≡ false → x .page ≡ none
-  pub page : r .found ≡ true → x .page ≡ some (numberAt (r .state .rows) (r .spot))
+  pub page : r .found ≡ true → x .page ≡ some (numberAt standard (r .state .rows) (r .spot))
 
 abbrev pub GivesBy : (Store → GrantedOf) → (ℕ → Record) → State → List ℕ → (ℕ → Record) → ℕ → List ℕ → Granted → Type 0
 GivesBy op f st bytes g n bytes2 r = (s : Store) → Lends f n st bytes s → Gives f st bytes s (op s) g n bytes2 r
@@ -107,10 +107,10 @@ GivesBy op f st bytes g n bytes2 r = (s : Store) → Lends f n st bytes s → Gi
 pub record Finds (st : State) (r : Granted) : Type 0 where
   pub queued : r .state .queued ≡ st .queued
   pub pass : r .state .pass ≡ st .pass
-  pub address : r .found ≡ true → r .address ≡ 4096 * numberAt (r .state .rows) (r .spot)
+  pub address : r .found ≡ true → r .address ≡ 4096 * numberAt standard (r .state .rows) (r .spot)
 
 -- the frame that was found is held
 pub record Holds (g : ℕ → Record) (n : ℕ) (r : Granted) : Type 0 where
-  pub sane : Sane g n (r .state .rows)
-  pub spot : r .found ≡ true → InRows (r .state .rows) (r .spot)
-  pub held : r .found ≡ true → HeldAt g (r .state .rows) (r .spot)
+  pub sane : Sane standard g n (r .state .rows)
+  pub spot : r .found ≡ true → InRows standard (r .state .rows) (r .spot)
+  pub held : r .found ≡ true → HeldAt standard g (r .state .rows) (r .spot)

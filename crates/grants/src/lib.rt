@@ -134,10 +134,10 @@ fn hand_over(
     flags: FrameAllocFlags,
 ) -> Counters
     requires { ⌜ (92 ≤ length (now words)) × Ready (recordAt (now records)) (pagesIn (now records)) (stateWith counters (now words)) (length (now memory)) × (level < 3) ⌝ }
-    requires { ⌜ InRows (rowsIn (now words)) spot × HeldAt (recordAt (now records)) (rowsIn (now words)) spot ⌝ }
+    requires { ⌜ InRows standard (rowsIn (now words)) spot × HeldAt standard (recordAt (now records)) (rowsIn (now words)) spot ⌝ }
     ensures { λ r. ⌜ r ≡ countAlloc (pagesOf level) (flags .kernel) counters ⌝ }
     ensures { λ _. ⌜ now (memory .exit) ≡ zeroedBytes (flags .zeroed) (recordAt (now (records .entry)) (spot .page)) (spot .page) (now (memory .entry)) ⌝ }
-    ensures { λ _. ⌜ TurnsBy (markAt false (flags .kernel) (numberAt (rowsIn (now (words .entry))) spot)) (recordAt (now (records .entry))) (rowsIn (now (words .entry))) (recordAt (now (records .exit))) (pagesIn (now (records .exit))) (rowsIn (now (words .entry))) ⌝ }
+    ensures { λ _. ⌜ TurnsBy standard (markAt false (flags .kernel) (numberAt standard (rowsIn (now (words .entry))) spot)) (recordAt (now (records .entry))) (rowsIn (now (words .entry))) (recordAt (now (records .exit))) (pagesIn (now (records .exit))) (rowsIn (now (words .entry))) ⌝ }
 {
     let page = spot.page;
     zero_if_asked(records, memory, page, flags.zeroed);
@@ -149,7 +149,7 @@ fn hand_over(
 // The first address of a page of a row.
 fn address_of(words: &[u64], spot: Spot) -> u64
     requires { ⌜ (92 ≤ length (now words)) × Near (rowsIn (now words)) spot ⌝ }
-    ensures { λ r. ⌜ r ≡ 4096 * numberAt (rowsIn (now (words .entry))) spot ⌝ }
+    ensures { λ r. ⌜ r ≡ 4096 * numberAt standard (rowsIn (now (words .entry))) spot ⌝ }
 {
     let row = words::row_at(words, spot.index);
     region::start_address(row, spot.base, spot.page).raw()

@@ -11,6 +11,7 @@ ghost use Prim.Native.Nat.{_+_, _≤_, _<_, _^_};
 ghost use mathlib.Core.Bool.{_&&_};
 ghost use lib.Dec.{leb};
 ghost use lib.ListN.{length};
+ghost use Rattle.definition.specs.Board.{standard};
 ghost use Rattle.definition.specs.World.{recordAt};
 ghost use Rattle.record.specs.Records.{pagesIn};
 ghost use Rattle.list.specs.Linked.{Sound};
@@ -178,8 +179,8 @@ fn keep(words: &mut [u64], row: Row)
 }
 
 fn grant_all(records: &mut [u8], words: &mut [u64], level: usize, times: usize) -> usize
-    requires { ⌜ SoundAt (now records) 0 (now words) 0 ⌝ }
-    requires { ⌜ (WholeAt (now records) 0 (now words) 0) × (level < 3) ⌝ }
+    requires { ⌜ SoundAt standard (now records) 0 (now words) 0 ⌝ }
+    requires { ⌜ (WholeAt standard (now records) 0 (now words) 0) × (level < 3) ⌝ }
     ensures { λ r. ⌜ r ≤ times ⌝ }
 {
     let mut i: usize = 0;

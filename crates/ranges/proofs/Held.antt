@@ -20,6 +20,7 @@ use Rattle.definition.specs.Torn.{Sound}
 use Rattle.record.specs.Records.{pagesIn, withBytes}
 use Rattle.region.specs.Rep.{stateOf}
 use Rattle.audit.proofs.Sheets.{sound-is}
+use Rattle.world.specs.Fit.{standard-fit}
 use Rattle.world.specs.Tables.{Sane}
 use Rattle.world.proofs.Leaving.{sound-sane, sound-table}
 use Rattle.world.proofs.Places.{Lies, Runs, frame-runs, runs-lies}
@@ -68,49 +69,49 @@ module _ {f : ℕ → Record} {rows : List Row} {r : Seen} (H : HeldSeen f rows 
 
 -- the frame's page frame number is p; its first page's number, by which its bytes are lent, is that of the spot
 module _
-    {w : World} {r : Seen} {p : ℕ} (S : Sound standard w) (H : HeldSeen (recordAt (w .records)) (w .rows) r) (N : numberAt (w .rows) (r .spot) ≡ p)
+    {w : World} {r : Seen} {p : ℕ} (S : Sound standard w) (H : HeldSeen (recordAt (w .records)) (w .rows) r) (N : numberAt standard (w .rows) (r .spot) ≡ p)
   where
     pub held-in : decode standard w .allocator .frames p ≡ some (seenFrame r)
     unfolding stateOf
     held-in =
         let I = H .inside in
-        let row = rw (used-row (w .rows) (r .spot .index) (I .used), ← I .based) at (stands-at (sound-table w S .stands) (r .spot .index) (I .used)) in
+        let row = rw (used-row (w .rows) (r .spot .index) (I .used), ← I .based) at (stands-at (sound-table standard-fit w S .stands) (r .spot .index) (I .used)) in
         rw (← N) (row .same .frames (r .spot .page) (I .inside) ∙ held-frame H)
 
     pub held-bytes : frameBytes standard (decode standard w) p ≡ bytesIf r
     held-bytes = rw held-in (sym (held-size H))
 
     -- its pages have page numbers that follow one another
-    held-runs : Runs (decode standard w .allocator .regions) p (r .spot .page) (size (r .level))
-    held-runs = rw (← N) (runs-bare (decode-stands w S .rows) (frame-runs (H .inside) (sound-sane w S) (seenFrame r) (held-frame H)))
+    held-runs : Runs standard (decode standard w .allocator .regions) p (r .spot .page) (size (r .level))
+    held-runs = rw (← N) (runs-bare (decode-stands standard-fit w S .rows) (frame-runs (H .inside) (sound-sane standard-fit w S) (seenFrame r) (held-frame H)))
 
     apart : overlap standard (decode standard w .allocator .regions) ≡ false
-    apart = spans-bare overlap-spans (decode-stands w S .rows) ∙ as-boot (w .rows) (S .rows) .apart
+    apart = spans-bare (overlap-spans standard) (decode-stands standard-fit w S .rows) ∙ as-boot (w .rows) (S .rows) .apart
 
     -- ---- a range of its bytes, read and rewritten, in the store's memory and in the lent one
 
     module _ (off len : ℕ) (h : off + len ≤ standard .page * size (r .level)) where
-      held-lies : Lies (decode standard w .allocator .regions) (standard .page * p + off) (standard .page * (r .spot .page) + off) len
-      held-lies = runs-lies held-runs off len h refl refl
+      held-lies : Lies standard (decode standard w .allocator .regions) (standard .page * p + off) (standard .page * (r .spot .page) + off) len
+      held-lies = runs-lies standard held-runs off len h refl refl
 
       pub held-ends : standard .page * (r .spot .page) + off + len ≤ length (w .memory)
-      held-ends = omega (arith, held-lies .ends, decode-stands w S .fits)
+      held-ends = omega (arith, held-lies .ends, decode-stands standard-fit w S .fits)
 
       pub held-read
           : bytesAt (decode standard w .memory) (standard .page * p + off) len ≡ take len (drop (standard .page * (r .spot .page) + off) (w .memory))
-      held-read = memory-read held-lies (decode standard w .memory) (w .memory) (decode-stands w S .fits) (decode-stands w S .memory)
+      held-read = memory-read standard held-lies (decode standard w .memory) (w .memory) (decode-stands standard-fit w S .fits) (decode-stands standard-fit w S .memory)
 
       pub held-filled
           : (v : ℕ)
-          → Rewritten (decode standard w .allocator .regions) (w .memory) (filled (standard .page * p + off) len v (decode standard w .memory))
+          → Rewritten standard (decode standard w .allocator .regions) (w .memory) (filled (standard .page * p + off) len v (decode standard w .memory))
           (withBytes (w .memory) (standard .page * (r .spot .page) + off) (replicate len v))
-      held-filled = memory-filled held-lies (decode standard w .memory) (w .memory) (decode-stands w S .fits) apart (decode-stands w S .memory)
+      held-filled = memory-filled standard held-lies (decode standard w .memory) (w .memory) (decode-stands standard-fit w S .fits) apart (decode-stands standard-fit w S .memory)
 
       pub held-written
           : (xs : List ℕ) → length xs ≡ len
-          → Rewritten (decode standard w .allocator .regions) (w .memory) (written (standard .page * p + off) xs (decode standard w .memory))
+          → Rewritten standard (decode standard w .allocator .regions) (w .memory) (written (standard .page * p + off) xs (decode standard w .memory))
           (withBytes (w .memory) (standard .page * (r .spot .page) + off) xs)
-      held-written = memory-written held-lies (decode standard w .memory) (w .memory) (decode-stands w S .fits) apart (decode-stands w S .memory)
+      held-written = memory-written standard held-lies (decode standard w .memory) (w .memory) (decode-stands standard-fit w S .fits) apart (decode-stands standard-fit w S .memory)
 
 -- ---- a frame that was examined, and nothing refused
 
@@ -121,9 +122,9 @@ module _ {w : World} {a off len : ℕ} {x : Exam} (E : Examined w a off len x) (
   -- what the functions that change a held frame require, where so many words are lent
   pub examined-spot
       : {n : ℕ} → 92 ≤ n
-      → ((92 ≤ n) × Sane (recordAt (w .records)) (pagesIn (w .records)) (w .rows))
-      × (InRows (w .rows) (x .seen .spot) × HeldAt (recordAt (w .records)) (w .rows) (x .seen .spot))
-  examined-spot enough = ((enough, sound-sane w examined-whole), (examined-held E z .inside, examined-held E z .held))
+      → ((92 ≤ n) × Sane standard (recordAt (w .records)) (pagesIn (w .records)) (w .rows))
+      × (InRows standard (w .rows) (x .seen .spot) × HeldAt standard (recordAt (w .records)) (w .rows) (x .seen .spot))
+  examined-spot enough = ((enough, sound-sane standard-fit w examined-whole), (examined-held E z .inside, examined-held E z .held))
 
   pub examined-fit : Fit (x .seen)
   examined-fit d = examined-held E z .leveled

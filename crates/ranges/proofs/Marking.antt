@@ -16,6 +16,7 @@ use Rattle.definition.specs.Calls.{Call, Dirty, Fill, Write, Zero, done, perfor
 use Rattle.definition.specs.World.{World, decode, encode, recordAt}
 use Rattle.definition.specs.Torn.{Sound}
 use Rattle.record.specs.Records.{pagesIn, withBytes}
+use Rattle.world.specs.Fit.{standard-fit}
 use Rattle.world.specs.Refusals.{frameRefusal, rangeOf, refusalOf}
 use Rattle.world.specs.Tables.{Turned}
 use Rattle.world.proofs.Leaving.{left-by, sound-table, unwritten}
@@ -40,39 +41,39 @@ relent w records memory =
 -- the records became such as set_marks leaves of the frame that was seen
 pub record Remarked (w : World) (r : Seen) (zeroed kernel : Bool) (records : List ℕ) : Type 0 where
   pub own : kernel ≡ eqb (r .marks / 8 % 2) 1
-  pub turns : TurnsBy (markAt zeroed kernel (numberAt (w .rows) (r .spot))) (recordAt (w .records)) (w .rows) (recordAt records) (pagesIn records) (w .rows)
+  pub turns : TurnsBy standard (markAt zeroed kernel (numberAt standard (w .rows) (r .spot))) (recordAt (w .records)) (w .rows) (recordAt records) (pagesIn records) (w .rows)
   pub as-long : length records ≡ length (w .records)
   pub before : (i : ℕ) → getD (w .records) i 0 < 256
   pub after : (i : ℕ) → getD records i 0 < 256
 
 module _
-    {w : World} {r : Seen} {p : ℕ} (S : Sound standard w) (H : HeldSeen (recordAt (w .records)) (w .rows) r) (N : numberAt (w .rows) (r .spot) ≡ p)
+    {w : World} {r : Seen} {p : ℕ} (S : Sound standard w) (H : HeldSeen (recordAt (w .records)) (w .rows) r) (N : numberAt standard (w .rows) (r .spot) ≡ p)
     {zeroed kernel : Bool} {records : List ℕ} (M : Remarked w r zeroed kernel records)
   where
     -- with the KERNEL mark that the frame has, other marks are another ZEROED mark
     turned
-        : Turned (recordAt (w .records)) (w .rows) (recordAt records) (pagesIn records) (w .rows) (mark (withZeroed zeroed) (decode standard w) p .allocator)
+        : Turned standard (recordAt (w .records)) (w .rows) (recordAt records) (pagesIn records) (w .rows) (mark (withZeroed zeroed) (decode standard w) p .allocator)
     turned =
         let e : pagesIn (w .records) ≡ pagesIn records = ap (λ (n : ℕ). n / recordSize) (sym (M .as-long)) in
-        rw (held-in S H N) (rw (N, M .own, held-in S H N) at (M .turns (decode standard w .allocator) (rw e at (sound-table w S))))
+        rw (held-in S H N) (rw (N, M .own, held-in S H N) at (M .turns (decode standard w .allocator) (rw e at (sound-table standard-fit w S))))
 
     pub marked-left
-        : (m : Memory) (memory : List ℕ) → Rewritten (decode standard w .allocator .regions) (w .memory) m memory
+        : (m : Memory) (memory : List ℕ) → Rewritten standard (decode standard w .allocator .regions) (w .memory) m memory
         → encode standard (mark (withZeroed zeroed) (withMemory (decode standard w) m) p) w ≡ relent w records memory
     marked-left m memory R =
-        let d = decode-stands w S in
-        left-by w S (mark (withZeroed zeroed) (withMemory (decode standard w) m) p) (relent w records memory) turned (M .as-long) (M .before) (M .after) R
+        let d = decode-stands standard-fit w S in
+        left-by standard-fit w S (mark (withZeroed zeroed) (withMemory (decode standard w) m) p) (relent w records memory) turned (M .as-long) (M .before) (M .after) R
         (d .counters) (d .pass) (d .queue) (d .queued) (d .room) refl
 
 -- where bytes are rewritten and every mark stays, as in a copy of zeros into part of a frame
 pub written-left
     : {w : World} → Sound standard w → ((i : ℕ) → getD (w .records) i 0 < 256) → (m : Memory) (memory : List ℕ)
-    → Rewritten (decode standard w .allocator .regions) (w .memory) m memory
+    → Rewritten standard (decode standard w .allocator .regions) (w .memory) m memory
     → encode standard (withMemory (decode standard w) m) w ≡ relent w (w .records) memory
 written-left {w} S small m memory R =
-    let d = decode-stands w S in
-    left-by w S (withMemory (decode standard w) m) (relent w (w .records) memory)
-    (record { table = sound-table w S; spans = refl; outside = λ q h. refl }) refl small small R (d .counters) (d .pass) (d .queue) (d .queued) (d .room) refl
+    let d = decode-stands standard-fit w S in
+    left-by standard-fit w S (withMemory (decode standard w) m) (relent w (w .records) memory)
+    (record { table = sound-table standard-fit w S; spans = refl; outside = λ q h. refl }) refl small small R (d .counters) (d .pass) (d .queue) (d .queued) (d .room) refl
 
 -- ---- a call on one held frame
 
@@ -82,8 +83,8 @@ answered a n = record { number = 0; address = a; bytes = n }
 pub marked-done
     : {w : World} {a off len : ℕ} {x : Exam} → Examined w a off len x → x .number ≡ 0 → {zeroed kernel : Bool} {records : List ℕ}
     → Remarked w (x .seen) zeroed kernel records → (m : Memory) (memory : List ℕ)
-    → Rewritten (decode standard w .allocator .regions) (w .memory) m memory → (c : Call) (n : ℕ)
-    → refusalOf (decode standard w) c ≡ frameRefusal (decode standard w) (rangeOf a off len)
+    → Rewritten standard (decode standard w .allocator .regions) (w .memory) m memory → (c : Call) (n : ℕ)
+    → refusalOf standard (decode standard w) c ≡ frameRefusal standard (decode standard w) (rangeOf a off len)
     → perform standard (decode standard w) c ≡ done (mark (withZeroed zeroed) (withMemory (decode standard w) m) (a / 4096)) a n
     → Leaves w c (relent w records memory) (answered a n)
 marked-done {w} {a} E z {zeroed} {records = records} M m memory R c n same does =
@@ -100,7 +101,7 @@ pub dirty-done
 unfolding perform setNotZero
 dirty-done {w} {a} E z M n k =
     let bytes : n ≡ frameBytes standard (decode standard w) (a / 4096) = k ∙ sym (examined-bytes E z) in
-    marked-done E z M (decode standard w .memory) (w .memory) (unwritten w (examined-whole E z)) (Dirty a) n (one-frame (decode standard w) a 0 0)
+    marked-done E z M (decode standard w .memory) (w .memory) (unwritten standard-fit w (examined-whole E z)) (Dirty a) n (one-frame standard (decode standard w) a 0 0)
     (rw bytes refl)
 
 -- frame.rs 430, zero
@@ -115,7 +116,7 @@ zero-done {w} {a} {x} E z M n k {memory} e =
     let p : 4096 * (a / 4096) + 0 ≡ 4096 * (a / 4096) = omega arith in
     let q : 4096 * (x .seen .spot .page) + 0 ≡ 4096 * (x .seen .spot .page) = omega arith in
     let R = rw (p, q) at (held-filled (examined-whole E z) (examined-held E z) (examined-number E z) 0 n (omega (arith, held-size (examined-held E z))) 0) in
-    marked-done E z M (filled (4096 * (a / 4096)) n 0 (decode standard w .memory)) memory (rw e R) (Zero a) n (one-frame (decode standard w) a 0 0)
+    marked-done E z M (filled (4096 * (a / 4096)) n 0 (decode standard w .memory)) memory (rw e R) (Zero a) n (one-frame standard (decode standard w) a 0 0)
     (rw bytes refl)
 
 -- 01: "Added `write` and `fill` clear the mark"
@@ -128,7 +129,7 @@ unfolding perform fillFrame setNotZero
 fill-done {w} {a} {off} {len} {x} E z M byte {memory} e =
     marked-done E z M (filled (4096 * (a / 4096) + off) len byte (decode standard w .memory)) memory
     (rw e (held-filled (examined-whole E z) (examined-held E z) (examined-number E z) off len (examined-range E z) byte)) (Fill a off len byte) len
-    (one-frame (decode standard w) a off len)
+    (one-frame standard (decode standard w) a off len)
     refl
 
 pub write-done
@@ -140,5 +141,5 @@ unfolding perform writeFrame setNotZero
 write-done {w} {a} {off} {len} {x} E z M bytes {memory} l e =
     marked-done E z M (written (4096 * (a / 4096) + off) bytes (decode standard w .memory)) memory
     (rw e (held-written (examined-whole E z) (examined-held E z) (examined-number E z) off len (examined-range E z) bytes l)) (Write a off bytes) len
-    (rw l (one-frame (decode standard w) a off len))
+    (rw l (one-frame standard (decode standard w) a off len))
     (rw l refl)

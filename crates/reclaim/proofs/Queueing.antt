@@ -20,6 +20,7 @@ use Rattle.definition.specs.World.{World, decode, encode, recordAt}
 use Rattle.definition.specs.Torn.{Sound, sound}
 use Rattle.record.specs.Records.{pagesIn}
 use Rattle.audit.proofs.Sheets.{sound-is}
+use Rattle.world.specs.Fit.{standard-fit}
 use Rattle.world.specs.Refusals.{frameRefusal, lower, numberIf, rangeOf, refusalOf}
 use Rattle.world.specs.Tables.{Turned}
 use Rattle.world.proofs.Leaving.{left-by, sound-table, unwritten}
@@ -30,7 +31,7 @@ use Rattle.exam.specs.Promise.{Examined, Leaves, bytesIf}
 use Rattle.exam.proofs.Promises.{Small, examined-bytes, examined-none, examined-refused, examined-sound, leaves-done, leaves-refused, refusedBy}
 
 -- the refusals of a frame are below a full queue's
-frame-below : (s : Store) (r : Range) → frameRefusal s r < 16
+frame-below : (s : Store) (r : Range) → frameRefusal standard s r < 16
 unfolding lowest
 frame-below s r = go (outside standard s r) (startsFrame standard s (r .address)) (isHeld standard s (r .address)) (leavesFrame standard s r)
   where
@@ -61,18 +62,18 @@ queuedIn w a =
 
 module _ (w : World) (S : Sound standard w) where
   queue-length : length (decode standard w .queue) ≡ w .queued
-  queue-length = let d = decode-stands w S in ap length (d .queue) ∙ length-take-le (w .queued) (w .queue) (d .queued)
+  queue-length = let d = decode-stands standard-fit w S in ap length (d .queue) ∙ length-take-le (w .queued) (w .queue) (d .queued)
 
-  unturned : Turned (recordAt (w .records)) (w .rows) (recordAt (w .records)) (pagesIn (w .records)) (w .rows) (decode standard w .allocator)
-  unturned = record { table = sound-table w S; spans = refl; outside = λ q h. refl }
+  unturned : Turned standard (recordAt (w .records)) (w .rows) (recordAt (w .records)) (pagesIn (w .records)) (w .rows) (decode standard w .allocator)
+  unturned = record { table = sound-table standard-fit w S; spans = refl; outside = λ q h. refl }
 
   queued-encode : Small w → (a : ℕ) → w .queued < length (w .queue)
       → encode standard (withQueue (decode standard w) (decode standard w .queue ++ (a ∷ []))) w ≡ queuedIn w a
   queued-encode small a h =
-      let d = decode-stands w S in
+      let d = decode-stands standard-fit w S in
       let q = w .queued in
       let e : take (q + 1) (set (w .queue) q a) ≡ take q (w .queue) ++ (a ∷ []) = rw add-one (take-suc-set (w .queue) q a h) in
-      left-by w S (withQueue (decode standard w) (decode standard w .queue ++ (a ∷ []))) (queuedIn w a) unturned refl small small (unwritten w S)
+      left-by standard-fit w S (withQueue (decode standard w) (decode standard w .queue ++ (a ∷ []))) (queuedIn w a) unturned refl small small (unwritten standard-fit w S)
       (d .counters)
       (d .pass)
       (ap (λ (l : List ℕ). l ++ (a ∷ [])) (d .queue) ∙ sym e)
@@ -85,8 +86,8 @@ module _ (w : World) (a : ℕ) (r : Exam) (E : Examined w a 0 0 r) (small : Smal
   pub queue-kept : (r .number ≡ 0 → ⊥) → Leaves w (Queue a) w (refusedBy (r .number))
   queue-kept d =
       examined-refused E (Queue a) small
-      (λ t. queue-refused (decode standard w) a
-      ∙ lower-first (frameRefusal (decode standard w) (rangeOf a 0 0)) (leb (decode standard w .room) (length (decode standard w .queue)))
+      (λ t. queue-refused standard (decode standard w) a
+      ∙ lower-first (frameRefusal standard (decode standard w) (rangeOf a 0 0)) (leb (decode standard w .room) (length (decode standard w .queue)))
       (λ z. d (E .number t ∙ z))
       (frame-below (decode standard w) (rangeOf a 0 0)))
       d
@@ -98,9 +99,9 @@ module _ (w : World) (a : ℕ) (r : Exam) (E : Examined w a 0 0 r) (small : Smal
     abbrev S : Sound standard w
     S = sound-is standard w t
 
-    refusal-is : (full : Bool) → leb (length (w .queue)) (w .queued) ≡ full → refusalOf (decode standard w) (Queue a) ≡ cond full 16 0
+    refusal-is : (full : Bool) → leb (length (w .queue)) (w .queued) ≡ full → refusalOf standard (decode standard w) (Queue a) ≡ cond full 16 0
     refusal-is full e =
-        queue-refused (decode standard w) a ∙ rw (examined-none E z, decode-stands w S .room, queue-length w S, e) refl
+        queue-refused standard (decode standard w) a ∙ rw (examined-none E z, decode-stands standard-fit w S .room, queue-length w S, e) refl
 
     -- no place is left
     pub queue-full : length (w .queue) ≤ w .queued → Leaves w (Queue a) w (refusedBy 16)

@@ -92,10 +92,10 @@ module _ (s : Store) (a : ℕ) where
   abbrev managed : Bool
   managed = isManaged standard (s .allocator .regions) (a / standard .page)
 
-  can-free : frameRefusal s (rangeOf a 0 0) ≡ 0 → canBeFreed standard s a ≡ true
+  can-free : frameRefusal standard s (rangeOf a 0 0) ≡ 0 → canBeFreed standard s a ≡ true
   can-free e = all-met managed (startsFrame standard s a) (isHeld standard s a) (leavesFrame standard s (rangeOf a 0 0)) e
 
-  can-not-free : (frameRefusal s (rangeOf a 0 0) ≡ 0 → ⊥) → canBeFreed standard s a ≡ false
+  can-not-free : (frameRefusal standard s (rangeOf a 0 0) ≡ 0 → ⊥) → canBeFreed standard s a ≡ false
   can-not-free d =
       one-fails managed (startsFrame standard s a) (isHeld standard s a) (leavesFrame standard s (rangeOf a 0 0))
       (le-ltb (frameBytes standard s (a / standard .page)) 0 (omega arith)) d
@@ -109,10 +109,10 @@ unfolding frameOf
 frame-some x e = rw e refl
 
 abbrev freedOf : Store → ℕ → Seen → Store
-freedOf s p r = withCounters (withAllocator s (freeAt p (s .allocator))) (countFree (size (r .level)) (eqb (r .marks / 8 % 2) 1) (s .counters))
+freedOf s p r = withCounters (withAllocator s (freeAt standard p (s .allocator))) (countFree (size (r .level)) (eqb (r .marks / 8 % 2) 1) (s .counters))
 
 freed-store
-    : {f : ℕ → Record} {rows : List Row} (s : Store) (p : ℕ) (r : Seen) → Sees f rows p (s .allocator) r → r .managed ≡ true → r .marks % 2 ≡ 1
+    : {f : ℕ → Record} {rows : List Row} (s : Store) (p : ℕ) (r : Seen) → Sees standard f rows p (s .allocator) r → r .managed ≡ true → r .marks % 2 ≡ 1
     → freeFrame standard s p ≡ freedOf s p r
 unfolding freeFrame
 freed-store {f} s p r S m d =
@@ -132,7 +132,7 @@ offEnd st = record { rows = st .rows; counters = st .counters; queued = st .queu
 pub record Went (f₀ : ℕ → Record) (n : ℕ) (st : State) (places : List ℕ) (limit : ℕ) (f : ℕ → Record) (next : State) (freed i : ℕ) (s : Store) : Type 0 where
   pub present : Store
   pub is : IsOf f n next places present
-  pub turned : Turned f₀ (st .rows) f n (next .rows) (present .allocator)
+  pub turned : Turned standard f₀ (st .rows) f n (next .rows) (present .allocator)
   pub memory : present .memory ≡ s .memory
   pub room : present .room ≡ s .room
   pub same-pass : present .pass ≡ s .pass
@@ -154,7 +154,7 @@ went-start limit {s} I =
 
 turned-then
     : {f g h : ℕ → Record} {n : ℕ} {rows rows2 rows3 : List Row} {a b : PhysicalFrameAllocator}
-    → Turned f rows g n rows2 a → Turned g rows2 h n rows3 b → Turned f rows h n rows3 b
+    → Turned standard f rows g n rows2 a → Turned standard g rows2 h n rows3 b → Turned standard f rows h n rows3 b
 turned-then T U =
     record {
       table = U .table;
@@ -206,10 +206,10 @@ module _
             ∙ ap (λ (c : Bool). more freed (cond c (oneMore (reclaimUpTo standard k (freeFrame standard u (a / standard .page)))) (reclaimUpTo standard k u))) e
 
         module _ (r : Exam) (L : Looks f n (next .rows) a 0 0 r) where
-          sees : Sees f (next .rows) (a / 4096) (u .allocator) (r .seen)
+          sees : Sees standard f (next .rows) (a / 4096) (u .allocator) (r .seen)
           sees = L .sees (t .allocator) (W .is .table)
 
-          number-is : frameRefusal u (rangeOf a 0 0) ≡ r .number
+          number-is : frameRefusal standard u (rangeOf a 0 0) ≡ r .number
           number-is = frame-seen u a 0 0 (r .seen) sees ∙ sym (L .number)
 
           went-drop : (r .number ≡ 0 → ⊥) → Went f₀ n st places limit f (offEnd next) freed (i + 1) s
@@ -235,7 +235,7 @@ module _
             went-free {g} {next2} R =
                 let v = freedOf u (a / 4096) (r .seen) in
                 let x = reclaimUpTo standard k v in
-                let T : Turned f (next .rows) g n (next2 .rows) (v .allocator) = rw (sees-number sees seen-is-managed) at (R .turned (t .allocator) (W .is .table)) in
+                let T : Turned standard f (next .rows) g n (next2 .rows) (v .allocator) = rw (sees-number sees seen-is-managed) at (R .turned (t .allocator) (W .is .table)) in
                 record {
                   present = v;
                   is =
@@ -258,7 +258,7 @@ module _
 -- ---- the loop's invariant
 
 pub record Going (f₀ : ℕ → Record) (st : State) (places : List ℕ) (limit : ℕ) (f : ℕ → Record) (n : ℕ) (next : State) (freed i : ℕ) : Type 0 where
-  pub sane : Sane f n (next .rows)
+  pub sane : Sane standard f n (next .rows)
   pub turns : i ≤ limit
   pub few : freed ≤ i
   pub queued : next .queued ≤ st .queued
@@ -268,7 +268,7 @@ pub record Going (f₀ : ℕ → Record) (st : State) (places : List ℕ) (limit
   pub went : (s : Store) → IsOf f₀ n st places s → Went f₀ n st places limit f next freed i s
 
 pub going-start
-    : {f : ℕ → Record} {st : State} {places : List ℕ} (limit : ℕ) {n : ℕ} → Sane f n (st .rows) → st .queued ≤ length places → Going f st places limit f n st 0 0
+    : {f : ℕ → Record} {st : State} {places : List ℕ} (limit : ℕ) {n : ℕ} → Sane standard f n (st .rows) → st .queued ≤ length places → Going f st places limit f n st 0 0
 going-start limit S l =
     record {
       sane = S;
@@ -282,9 +282,9 @@ going-start limit S l =
     }
 
 turns-sane
-    : {f g : ℕ → Record} {n : ℕ} {rows rows2 : List Row} {op : PhysicalFrameAllocator → PhysicalFrameAllocator} → Sane f n rows → TurnsBy op f rows g n rows2
-    → Sane g n rows2
-turns-sane {f} {rows = rows} S T = T (standing f rows) (sane-table S) .table .sane
+    : {f g : ℕ → Record} {n : ℕ} {rows rows2 : List Row} {op : PhysicalFrameAllocator → PhysicalFrameAllocator} → Sane standard f n rows → TurnsBy standard op f rows g n rows2
+    → Sane standard g n rows2
+turns-sane {f} {rows = rows} S T = T (standing standard f rows) (sane-table S) .table .sane
 
 more-idle : (n : ℕ) (kernel : Bool) (c d : Counters) → d ≡ countFree n kernel c → d .idle ≡ c .idle + n
 unfolding countFree
@@ -339,8 +339,8 @@ module _
         pub going-held : r .number ≡ 0 → HeldSeen f (next .rows) (r .seen)
         going-held z =
             let a = getD places (next .queued - 1) 0 in
-            let s : Store = record { allocator = standing f (next .rows); memory = λ p. 0; counters = next .counters; queue = []; room = 0; pass = next .pass } in
-            seen-held s a 0 0 (r .seen) (L .sees (standing f (next .rows)) (sane-table (G .sane))) (L .leveled) (r .number) (L .number) z
+            let s : Store = record { allocator = standing standard f (next .rows); memory = λ p. 0; counters = next .counters; queue = []; room = 0; pass = next .pass } in
+            seen-held s a 0 0 (r .seen) (L .sees (standing standard f (next .rows)) (sane-table (G .sane))) (L .leveled) (r .number) (L .number) z
 
         pub going-free
             : r .number ≡ 0 → {g : ℕ → Record} {next2 : State} → Released f (offEnd next) (r .seen) g n next2

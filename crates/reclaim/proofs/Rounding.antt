@@ -29,6 +29,7 @@ use Rattle.definition.specs.Torn.{Sound, sound}
 use Rattle.definition.proofs.Tests.{and-left, and-right}
 use Rattle.record.specs.Records.{pagesIn}
 use Rattle.audit.proofs.Sheets.{sound-is}
+use Rattle.world.specs.Fit.{standard-fit}
 use Rattle.world.specs.Tables.{Sane, Turned}
 use Rattle.world.proofs.Leaving.{left-by, sound-sane, sound-table, unwritten}
 use Rattle.world.proofs.Refusing.{nothing-refused}
@@ -75,11 +76,11 @@ module _ (st : State) (records memory queue : List ℕ) (t : sound standard (wor
   S = sound-is standard w t
 
   -- what the frees of a round require, and that its sums don't wrap
-  pub round-sane : Sane (recordAt records) (pagesIn records) (st .rows)
-  round-sane = sound-sane w S
+  pub round-sane : Sane standard (recordAt records) (pagesIn records) (st .rows)
+  round-sane = sound-sane standard-fit w S
 
   pub round-within : st .queued ≤ length queue
-  round-within = decode-stands w S .queued
+  round-within = decode-stands standard-fit w S .queued
 
   pub round-idle : st .counters .idle < 2 ^ 57
   round-idle = idle-small w S
@@ -91,7 +92,7 @@ module _ (st : State) (records memory queue : List ℕ) (t : sound standard (wor
   round-freed = leb-true (st .pass .freed) (100 * st .pass .rounds) (and-right (leb (st .pass .rounds) 1001) _ (S .pass))
 
   round-of : IsOf (recordAt records) (pagesIn records) st queue s
-  round-of = let d = decode-stands w S in record { table = sound-table w S; counters = d .counters; queue = d .queue; queued = d .queued }
+  round-of = let d = decode-stands standard-fit w S in record { table = sound-table standard-fit w S; counters = d .counters; queue = d .queue; queued = d .queued }
 
   -- ---- its frees, which leave a table as long
 
@@ -110,7 +111,7 @@ module _ (st : State) (records memory queue : List ℕ) (t : sound standard (wor
   module _ (small : Bytes records) (records2 : List ℕ) (as-long : length records2 ≡ length records) (small2 : Bytes records2) where
     module _
         (s1 : Store) (st1 : State)
-        (turned : Turned (recordAt records) (st .rows) (recordAt records2) (pagesIn records2) (st1 .rows) (s1 .allocator))
+        (turned : Turned standard (recordAt records) (st .rows) (recordAt records2) (pagesIn records2) (st1 .rows) (s1 .allocator))
         (memory-same : s1 .memory ≡ s .memory) (room : s1 .room ≡ s .room)
         (queue-is : s1 .queue ≡ take (st1 .queued) queue) (fewer : st1 .queued ≤ st .queued)
       where
@@ -118,18 +119,18 @@ module _ (st : State) (records memory queue : List ℕ) (t : sound standard (wor
             → (st2 : State) → st2 .rows ≡ st1 .rows → st2 .queued ≡ st1 .queued → s2 .counters ≡ st2 .counters → s2 .pass ≡ st2 .pass
             → encode standard s2 w ≡ worldOf st2 records2 memory queue
         left s2 a m r q st2 rows queued counters pass =
-            left-by w S s2 (worldOf st2 records2 memory queue) (rw (a, rows) turned) as-long small small2 (rw (m ∙ memory-same) (unwritten w S))
+            left-by standard-fit w S s2 (worldOf st2 records2 memory queue) (rw (a, rows) turned) as-long small small2 (rw (m ∙ memory-same) (unwritten standard-fit w S))
             counters
             pass
             (q ∙ queue-is ∙ ap (λ (k : ℕ). take k queue) (sym queued))
             (omega (arith, round-within))
-            (r ∙ room ∙ decode-stands w S .room)
+            (r ∙ room ∙ decode-stands standard-fit w S .room)
             refl
 
         told-round : (o : Reported) (v : World) → reclaimRound standard s ≡ o → encode standard (o .store) w ≡ v
             → Leaves w Round v (record { number = 0; address = o .pass .rounds; bytes = o .pass .freed })
         unfolding perform
-        told-round o v e d = leaves-done w Round t (nothing-refused s) (reports o) v (ap reports e) d
+        told-round o v e d = leaves-done w Round t (nothing-refused standard s) (reports o) v (ap reports e) d
 
         over : (p : Pass) → s1 .counters ≡ st1 .counters → reclaimRound standard s ≡ endPass s1 p → (r : Outcome) → EndsPass st1 p r
             → Leaves w Round (worldOf (r .state) records2 memory queue) (r .answer)
@@ -152,13 +153,13 @@ module _ (st : State) (records memory queue : List ℕ) (t : sound standard (wor
       X = frees-here records2 as-long R frees
 
       worked-is : worked (s .pass) (x .freed) ≡ worked (st .pass) (R .freed)
-      worked-is = ap (λ (p : Pass). worked p (x .freed)) (decode-stands w S .pass) ∙ ap (worked (st .pass)) (sym (X .freed))
+      worked-is = ap (λ (p : Pass). worked p (x .freed)) (decode-stands standard-fit w S .pass) ∙ ap (worked (st .pass)) (sym (X .freed))
 
       after : reclaimRound standard s ≡ afterRound standard (s .pass) x
-      after = low s (ap (shouldReclaim standard) (decode-stands w S .counters) ∙ low-now)
+      after = low s (ap (shouldReclaim standard) (decode-stands standard-fit w S .counters) ∙ low-now)
 
       rounds-is : s .pass .rounds ≡ st .pass .rounds
-      rounds-is = ap (λ (p : Pass). p .rounds) (decode-stands w S .pass)
+      rounds-is = ap (λ (p : Pass). p .rounds) (decode-stands standard-fit w S .pass)
 
       -- the round limit is passed
       pub round-ends : 1000 < st .pass .rounds → (r : Outcome) → EndsPass (R .state) (worked (st .pass) (R .freed)) r
@@ -179,7 +180,7 @@ module _ (st : State) (records memory queue : List ℕ) (t : sound standard (wor
   pub round-rests : Bytes records → shouldReclaim standard (st .counters) ≡ false → (r : Outcome) → EndsPass st (st .pass) r
       → Leaves w Round (worldOf (r .state) records memory queue) (r .answer)
   round-rests small e r E =
-      let d = decode-stands w S in
-      over small records refl small s st (record { table = sound-table w S; spans = refl; outside = λ q h. refl }) refl refl (d .queue) (omega arith) (st .pass) (d .counters)
+      let d = decode-stands standard-fit w S in
+      over small records refl small s st (record { table = sound-table standard-fit w S; spans = refl; outside = λ q h. refl }) refl refl (d .queue) (omega arith) (st .pass) (d .counters)
       (not-low s (ap (shouldReclaim standard) (d .counters) ∙ e) ∙ ap (endPass s) (d .pass))
       r E

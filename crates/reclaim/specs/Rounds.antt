@@ -15,7 +15,7 @@ use Rattle.exam.specs.Promise.{Outcome, State}
 
 -- the state and its table are of the store s, whose queue is in the first places of the loan
 pub record IsOf (f : ℕ → Record) (n : ℕ) (st : State) (places : List ℕ) (s : Store) : Type 0 where
-  pub table : Table f n (st .rows) (s .allocator)
+  pub table : Table standard f n (st .rows) (s .allocator)
   pub counters : s .counters ≡ st .counters
   pub queue : s .queue ≡ take (st .queued) places
   pub queued : st .queued ≤ length places
@@ -27,7 +27,7 @@ pub record Reclaimed : Type 0 where
 
 -- what a round's frees leave of every store that the state is of
 pub record ReclaimsTo (f : ℕ → Record) (st : State) (places : List ℕ) (g : ℕ → Record) (n : ℕ) (r : Reclaimed) (s : Store) (x : ReclaimedOf) : Type 0 where
-  pub turned : Turned f (st .rows) g n (r .state .rows) (x .store .allocator)
+  pub turned : Turned standard f (st .rows) g n (r .state .rows) (x .store .allocator)
   pub counters : x .store .counters ≡ r .state .counters
   pub queue : x .store .queue ≡ take (r .state .queued) places
   pub queued : r .state .queued ≤ st .queued

@@ -5,6 +5,7 @@ use definition::Pass;
 use exam::Outcome;
 ghost use Prim.Native.Nat.{_<_, _≤_, _^_};
 ghost use lib.ListN.{length};
+ghost use Rattle.definition.specs.Board.{standard};
 ghost use Rattle.definition.specs.Calls.{Queue, Round};
 ghost use Rattle.definition.specs.World.{recordAt};
 ghost use Rattle.record.specs.Records.{pagesIn};
@@ -73,7 +74,7 @@ fn reclaim_up_to(
     queue: &[u64],
     limit: usize,
 ) -> Reclaimed
-    requires { ⌜ (92 ≤ length (now words)) × Sane (recordAt (now records)) (pagesIn (now records)) (rowsIn (now words)) ⌝ }
+    requires { ⌜ (92 ≤ length (now words)) × Sane standard (recordAt (now records)) (pagesIn (now records)) (rowsIn (now words)) ⌝ }
     requires { ⌜ (queuedIn (now words) ≤ length (now queue)) × (counters .idle < 2 ^ 62) × (limit ≤ 100) ⌝ }
     ensures { λ r. ⌜ Reclaims (recordAt (now (records .entry))) (stateWith counters (now (words .entry))) (now (queue .entry)) limit (recordAt (now (records .exit))) (pagesIn (now (records .exit))) (record { state = stateWith (r .counters) (now (words .exit)); freed = r .freed }) ⌝ }
     ensures { λ _. ⌜ Beside (now (words .entry)) (now (words .exit)) ⌝ }

@@ -11,11 +11,11 @@ use Rattle.definition.specs.Board.{standard}
 use Rattle.definition.specs.Allocator.{tablePages}
 use Rattle.region.specs.Rep.{managed, fromOf, lookup}
 
-pub managed-is : (pages : ℕ) → managed pages ≡ pages - tablePages standard pages
+pub managed-is : (pages : ℕ) → managed standard pages ≡ pages - tablePages standard pages
 unfolding managed
 managed-is pages = refl
 
-pub from-is : (row : Row) → fromOf row ≡ row .start .0 / 4096 + tablePages standard (row .pages)
+pub from-is : (row : Row) → fromOf standard row ≡ row .start .0 / 4096 + tablePages standard (row .pages)
 unfolding fromOf
 from-is row = refl
 
@@ -29,21 +29,21 @@ module _
     abbrev past : ℕ
     past = row .start .0 / 4096 + row .pages
 
-    pub lookup-below : n < s + t → lookup row first number ≡ none
+    pub lookup-below : n < s + t → lookup standard row first number ≡ none
     unfolding lookup
     lookup-below h = let k : number < from = rw (en, es, et) at h in rw (lt-leb from number k) refl
 
-    pub lookup-past : s + row .pages ≤ n → lookup row first number ≡ none
+    pub lookup-past : s + row .pages ≤ n → lookup standard row first number ≡ none
     unfolding lookup
     lookup-past h = let k : past ≤ number = rw (en, es) at h in rw (le-ltb number past k, and-false (leb from number)) refl
 
-    pub lookup-in : s + t ≤ n → n < s + row .pages → lookup row first number ≡ some (first + (n - (s + t)))
+    pub lookup-in : s + t ≤ n → n < s + row .pages → lookup standard row first number ≡ some (first + (n - (s + t)))
     unfolding lookup
     lookup-in h k =
         let a : from ≤ number = rw (en, es, et) at h in
         let b : number < past = rw (en, es) at k in
         rw (en, es, et, le-leb from number a, lt-ltb number past b) refl
 
-    pub lookup-fits : s + t ≤ n → n < s + row .pages → first + (n - (s + t)) < first + managed (row .pages)
+    pub lookup-fits : s + t ≤ n → n < s + row .pages → first + (n - (s + t)) < first + managed standard (row .pages)
     unfolding managed
     lookup-fits h k = omega (arith, et)

@@ -22,11 +22,11 @@ tables-few pages h = omega arith
 
 -- the managed pages, and the page frame number of the first, as the code computes them of the tables t
 module _ {t : ℕ} (start : PhysAddr) (pages : ℕ) (e : t ≡ tablePages standard pages) where
-  pub count-is : pages - t ≡ managed pages
+  pub count-is : pages - t ≡ managed standard pages
   unfolding managed
   count-is = rw e refl
 
-  pub begins-at : (s : ℕ) → s ≡ start .0 / 4096 → s + t ≡ fromOf (emptyRow start pages)
+  pub begins-at : (s : ℕ) → s ≡ start .0 / 4096 → s + t ≡ fromOf standard (emptyRow start pages)
   unfolding fromOf
   begins-at s h = rw (e, h) refl
 
@@ -42,9 +42,9 @@ no-list (suc (suc (suc (suc zero)))) = refl
 no-list (suc (suc (suc (suc (suc zero))))) = refl
 no-list (suc (suc (suc (suc (suc (suc k)))))) = refl
 
-module _ (f : ℕ → Record) (n first : ℕ) (start : PhysAddr) (pages : ℕ) (small : first + managed pages < 2 ^ 32) (fits : first + managed pages ≤ n) where
+module _ (f : ℕ → Record) (n first : ℕ) (start : PhysAddr) (pages : ℕ) (small : first + managed standard pages < 2 ^ 32) (fits : first + managed standard pages ≤ n) where
   abbrev g : ℕ → Record
-  g = cleared f first (managed pages)
+  g = cleared f first (managed standard pages)
 
   abbrev row : Row
   row = emptyRow start pages
@@ -53,11 +53,11 @@ module _ (f : ℕ → Record) (n first : ℕ) (start : PhysAddr) (pages : ℕ) (
   unfolding stateOf pagesOf walk
   none-free k = rw (no-list k) refl
 
-  pub blank : Blank (stateOf g row) first pages
+  pub blank : Blank standard (stateOf g row) first pages
   unfolding stateOf frameOf
-  blank q i = rw (cleared-in f first (managed pages) q (i .low) (i .high)) refl
+  blank q i = rw (cleared-in f first (managed standard pages) q (i .low) (i .high)) refl
 
-  pub blank-sound : SoundRow g n first row
+  pub blank-sound : SoundRow standard g n first row
   unfolding stateOf frameOf
   blank-sound =
       record {
@@ -68,16 +68,16 @@ module _ (f : ℕ → Record) (n first : ℕ) (start : PhysAddr) (pages : ℕ) (
         beyond = λ k h. none-free k;
         listed = λ k. rw (none-free k) all-none;
         framed = λ q. refl;
-        marks = λ q i. rw (cleared-in f first (managed pages) q (i .low) (i .high)) refl;
-        level = λ q i. rw (cleared-in f first (managed pages) q (i .low) (i .high)) refl;
-        loose = λ q i o. rw (cleared-in f first (managed pages) q (i .low) (i .high)) (record { earlier = refl; later = refl });
+        marks = λ q i. rw (cleared-in f first (managed standard pages) q (i .low) (i .high)) refl;
+        level = λ q i. rw (cleared-in f first (managed standard pages) q (i .low) (i .high)) refl;
+        loose = λ q i o. rw (cleared-in f first (managed standard pages) q (i .low) (i .high)) (record { earlier = refl; later = refl });
       }
 
-  pub begun : {h : ℕ → Record} {m : ℕ} {r : Row} {s : Levels} → Becomes g first row h m r s → Becomes f first row h m r s
+  pub begun : {h : ℕ → Record} {m : ℕ} {r : Row} {s : Levels} → Becomes standard g first row h m r s → Becomes standard f first row h m r s
   begun B =
       record {
         rep = B .rep;
         start = B .start;
         pages = B .pages;
-        outside = λ q o. B .outside q o ∙ cleared-out f first (managed pages) q (λ a b. o (record { low = a; high = b }));
+        outside = λ q o. B .outside q o ∙ cleared-out f first (managed standard pages) q (λ a b. o (record { low = a; high = b }));
       }

@@ -6,6 +6,7 @@ use mathlib.Core.Option.{Option, none, some}
 use mathlib.Core.Path.{_≡_, refl, sym, ap, _∙_, subst}
 use native.Mathlib.Omega.{arith}
 use lib.ListN.{length}
+use Rattle.definition.specs.Board.{Board}
 use Rattle.definition.specs.Frame.{Found, Levels, doAllocate, levelAllocate, nothing, orElse, popFrom, slot, split, thenSplit}
 use Rattle.definition.specs.declared.Record.{Record}
 use Rattle.definition.specs.declared.Row.{Row}
@@ -16,9 +17,10 @@ use Rattle.region.specs.Rep.{Answers, Becomes, Rep, SoundRow, Splits, Wh
 use Rattle.region.proofs.Laws.{rep-state, rep-sound, then, stays, or-page, or-none, page-in, none-in, popFrom-nothing}
 use Rattle.region.proofs.Tiling.{Good, rep-kept, fine-do, splits, parted-page, parted-none}
 
-pub from-same : {f g : ℕ → Record} {first m : ℕ} {row r : Row} {s : Levels} → Becomes f first row g m r s → fromOf r ≡ fromOf row
-unfolding fromOf
-from-same B = rw (B .start, B .pages) refl
+module _ {board : Board} where
+  pub from-same : {f g : ℕ → Record} {first m : ℕ} {row r : Row} {s : Levels} → Becomes board f first row g m r s → fromOf board r ≡ fromOf board row
+  unfolding fromOf
+  from-same B = rw (B .start, B .pages) refl
 
 or-nothing : (s : Levels) (a b : Found) → (b .page ≡ none → b ≡ nothing s) → orElse a b .page ≡ none → orElse a b ≡ nothing s
 or-nothing s a b h e = go (a .page) refl
@@ -77,71 +79,73 @@ module _ (w : Wanted) (s : Levels) where
 
     -- what the split of a page found above asks
     pub split-asks
-        : {f g : ℕ → Record} {n m first p : ℕ} {row r : Row} → Rep f n first row s → Whole s none (fromOf row) first (row .pages)
-        → above w s .page ≡ some p → Becomes f first row g m r (above w s .levels) → Splits (stateOf g r) first (r .pages) p (w .level)
-    split-asks {first = first} {p = p} {row = row} R T e B =
+        : {board : Board} {f g : ℕ → Record} {n m first p : ℕ} {row r : Row} → Rep board f n first row s → Whole board s none (fromOf board row) first (row .pages)
+        → above w s .page ≡ some p → Becomes board f first row g m r (above w s .levels) → Splits board (stateOf g r) first (r .pages) p (w .level)
+    split-asks {board = board} {first = first} {p = p} {row = row} R T e B =
         let F = fine-do (3 - (w .level + 1)) (w .level + 1) (w .tryZero) (w .onlyZero) (record { kept = rep-kept R; whole = T }) (omega arith) in
         rw (rep-state (B .rep), B .pages)
-        (splits (w .level) (subst (λ (x : Option ℕ). Good (above w s .levels) x (fromOf row) first (row .pages)) e (F .good)) (F .ready p e))
+        (splits (w .level) (subst (λ (x : Option ℕ). Good board (above w s .levels) x (fromOf board row) first (row .pages)) e (F .good)) (F .ready p e))
 
 -- ---- one call after another
 
--- the records f and the words ws became g and vs, whose row i is in use and stands for s
-pub record Reached (f : ℕ → Record) (first : ℕ) (ws : List ℕ) (i : ℕ) (g : ℕ → Record) (n : ℕ) (vs : List ℕ) (s : Levels) : Type 0 where
-  pub used : InUse vs i
-  pub became : Becomes f first (rowOf (rowsIn ws) i) g n (rowOf (rowsIn vs) i) s
-  pub beside : RowBeside ws i vs
+module _ (board : Board) where
+  -- the records f and the words ws became g and vs, whose row i is in use and stands for s
+  pub record Reached (f : ℕ → Record) (first : ℕ) (ws : List ℕ) (i : ℕ) (g : ℕ → Record) (n : ℕ) (vs : List ℕ) (s : Levels) : Type 0 where
+    pub used : InUse vs i
+    pub became : Becomes board f first (rowOf (rowsIn ws) i) g n (rowOf (rowsIn vs) i) s
+    pub beside : RowBeside ws i vs
 
--- the same after a search, with what it found
-pub record Sought (f : ℕ → Record) (first : ℕ) (ws : List ℕ) (i : ℕ) (g : ℕ → Record) (n : ℕ) (vs : List ℕ) (r : Got) (a : Found) : Type 0 where
-  pub reached : Reached f first ws i g n vs (a .levels)
-  pub found : pageIn (searched vs i r) ≡ a .page
+  -- the same after a search, with what it found
+  pub record Sought (f : ℕ → Record) (first : ℕ) (ws : List ℕ) (i : ℕ) (g : ℕ → Record) (n : ℕ) (vs : List ℕ) (r : Got) (a : Found) : Type 0 where
+    pub reached : Reached f first ws i g n vs (a .levels)
+    pub found : pageIn (searched vs i r) ≡ a .page
 
-module _ {f : ℕ → Record} {first i : ℕ} {ws : List ℕ} where
-  pub begun : {n : ℕ} → InUse ws i × SoundRow f n first (rowOf (rowsIn ws) i) → Reached f first ws i f n ws (stateOf f (rowOf (rowsIn ws) i))
-  begun u = record { used = u .0; became = stays (u .1); beside = row-beside-same }
+module _ {board : Board} where
+  module _ {f : ℕ → Record} {first i : ℕ} {ws : List ℕ} where
+    pub begun : {n : ℕ} → InUse ws i × SoundRow board f n first (rowOf (rowsIn ws) i) → Reached board f first ws i f n ws (stateOf f (rowOf (rowsIn ws) i))
+    begun u = record { used = u .0; became = stays (u .1); beside = row-beside-same }
 
-  module _ {g : ℕ → Record} {m : ℕ} {vs : List ℕ} where
-    module _ {s : Levels} (A : Reached f first ws i g m vs s) where
-      -- what the next call asks
-      pub asks : InUse vs i × SoundRow g m first (rowOf (rowsIn vs) i)
-      asks = (A .used, rep-sound (A .became .rep))
+    module _ {g : ℕ → Record} {m : ℕ} {vs : List ℕ} where
+      module _ {s : Levels} (A : Reached board f first ws i g m vs s) where
+        -- what the next call asks
+        pub asks : InUse vs i × SoundRow board g m first (rowOf (rowsIn vs) i)
+        asks = (A .used, rep-sound (A .became .rep))
 
-      module _ {h : ℕ → Record} {k : ℕ} {us : List ℕ} (e : length us ≡ length vs) where
-        pub changed
-            : (op : Levels → Levels)
-            → Becomes g first (rowOf (rowsIn vs) i) h k (rowOf (rowsIn us) i) (op (stateOf g (rowOf (rowsIn vs) i))) × RowBeside vs i us
-            → Reached f first ws i h k us (op s)
-        changed op c =
-            record {
-              used = in-use-then e (c .1 .rest) (A .used);
-              became =
-                  then (A .became)
-                  (subst (λ (x : Levels). Becomes g first (rowOf (rowsIn vs) i) h k (rowOf (rowsIn us) i) (op x)) (rep-state (A .became .rep)) (c .0));
-              beside = row-beside-then (A .beside) (c .1);
-            }
+        module _ {h : ℕ → Record} {k : ℕ} {us : List ℕ} (e : length us ≡ length vs) where
+          pub changed
+              : (op : Levels → Levels)
+              → Becomes board g first (rowOf (rowsIn vs) i) h k (rowOf (rowsIn us) i) (op (stateOf g (rowOf (rowsIn vs) i))) × RowBeside vs i us
+              → Reached board f first ws i h k us (op s)
+          changed op c =
+              record {
+                used = in-use-then e (c .1 .rest) (A .used);
+                became =
+                    then (A .became)
+                    (subst (λ (x : Levels). Becomes board g first (rowOf (rowsIn vs) i) h k (rowOf (rowsIn us) i) (op x)) (rep-state (A .became .rep)) (c .0));
+                beside = row-beside-then (A .beside) (c .1);
+              }
 
-        pub sought
-            : {r : Got} (op : Levels → Found)
-            → Answers g first (rowOf (rowsIn vs) i) h k (searched us i r) (op (stateOf g (rowOf (rowsIn vs) i))) × RowBeside vs i us
-            → Sought f first ws i h k us r (op s)
-        sought {r} op c =
-            record {
-              reached = changed (λ x. op x .levels) (c .0 .became, c .1);
-              found = subst (λ (x : Levels). pageIn (searched us i r) ≡ op x .page) (rep-state (A .became .rep)) (c .0 .found);
-            }
+          pub sought
+              : {r : Got} (op : Levels → Found)
+              → Answers board g first (rowOf (rowsIn vs) i) h k (searched us i r) (op (stateOf g (rowOf (rowsIn vs) i))) × RowBeside vs i us
+              → Sought board f first ws i h k us r (op s)
+          sought {r} op c =
+              record {
+                reached = changed (λ x. op x .levels) (c .0 .became, c .1);
+                found = subst (λ (x : Levels). pageIn (searched us i r) ≡ op x .page) (rep-state (A .became .rep)) (c .0 .found);
+              }
 
-    module _ {r : Got} {a : Found} (A : Sought f first ws i g m vs r a) where
-      pub told : Answers f first (rowOf (rowsIn ws) i) g m (searched vs i r) a × RowBeside ws i vs
-      told = (record { became = A .reached .became; found = A .found }, A .reached .beside)
+      module _ {r : Got} {a : Found} (A : Sought board f first ws i g m vs r a) where
+        pub told : Answers board f first (rowOf (rowsIn ws) i) g m (searched vs i r) a × RowBeside ws i vs
+        told = (record { became = A .reached .became; found = A .found }, A .reached .beside)
 
-      pub some-told : r .found ≡ true → a .page ≡ some (r .page)
-      some-told e = sym (A .found) ∙ page-in (searched vs i r) e
+        pub some-told : r .found ≡ true → a .page ≡ some (r .page)
+        some-told e = sym (A .found) ∙ page-in (searched vs i r) e
 
-      pub none-told : r .found ≡ false → a .page ≡ none
-      none-told e = sym (A .found) ∙ none-in (searched vs i r) e
+        pub none-told : r .found ≡ false → a .page ≡ none
+        none-told e = sym (A .found) ∙ none-in (searched vs i r) e
 
-    -- a level that has none leaves all as it was
-    pub none-here : (w : Wanted) (s : Levels) {r : Got} → Sought f first ws i g m vs r (here w s) → r .found ≡ false → Reached f first ws i g m vs s
-    none-here w s A e =
-        subst (λ (a : Found). Reached f first ws i g m vs (a .levels)) (level-nothing s (w .level) (w .tryZero) (w .onlyZero) (none-told A e)) (A .reached)
+      -- a level that has none leaves all as it was
+      pub none-here : (w : Wanted) (s : Levels) {r : Got} → Sought board f first ws i g m vs r (here w s) → r .found ≡ false → Reached board f first ws i g m vs s
+      none-here w s A e =
+          subst (λ (a : Found). Reached board f first ws i g m vs (a .levels)) (level-nothing s (w .level) (w .tryZero) (w .onlyZero) (none-told A e)) (A .reached)

@@ -13,7 +13,7 @@ use Rattle.definition.specs.declared.Record.{Record}
 use Rattle.definition.specs.declared.Links.{Links}
 use Rattle.definition.specs.declared.Row.{Row}
 use Rattle.definition.specs.Basics.{bit, upd}
-use Rattle.definition.specs.Board.{standard}
+use Rattle.definition.specs.Board.{Board}
 use Rattle.definition.specs.Frame.{Frame, Levels, Found, size, push, change, withAllocated, isAllocated, splitAndKeep, highest, organize}
 use Rattle.definition.specs.Allocator.{tablePages, contains}
 use Rattle.definition.specs.World.{recordAt, noLinks, pagesOf, frameOf, marksOf, levelOf, slotOf, earlierIn, laterIn, linksOf, bareRegion, pageNumber}
@@ -24,53 +24,12 @@ use Rattle.region.specs.declared.FoundPage.{FoundPage}
 use Rattle.region.specs.declared.FoundPage.the-variants.{Nothing, At}
 use Rattle.region.specs.declared.Got.{Got}
 
--- pages but for the tables
-unfoldable pub managed : ℕ → ℕ
-managed pages = pages - tablePages standard pages
-
--- the page frame number of the region's first managed page
-unfoldable pub fromOf : Row → ℕ
-fromOf row = row .start .0 / standard .page + tablePages standard (row .pages)
-
--- a page of the region whose first page is `first`
-pub record Inside (first pages q : ℕ) : Type 0 where
-  pub low : first ≤ q
-  pub high : q < first + managed pages
-
 unfoldable pub stateOf : (ℕ → Record) → Row → Levels
 stateOf f row = record { frames = λ q. frameOf (f q); free = λ k. pagesOf f (getD (row .lists) k noLinks) }
-
--- a page of the list k
-pub record Listed (frames : ℕ → Option Frame) (first pages k q : ℕ) : Type 0 where
-  pub slotted : slotOf (frames q) ≡ k
-  pub inside : Inside first pages q
 
 pub record Loose (r : Record) : Type 0 where
   pub earlier : r .earlier ≡ 0
   pub later : r .later ≡ 0
-
--- the records f, of n pages, and the row stand for the state s
-pub record Rep (f : ℕ → Record) (n first : ℕ) (row : Row) (s : Levels) : Type 0 where
-  pub small : first + managed (row .pages) < 2 ^ 32
-  pub fits : first + managed (row .pages) ≤ n
-  pub six : length (row .lists) ≡ 6
-  pub lists : (k : ℕ) → k < 6 → Linked f n (getD (row .lists) k noLinks) (s .free k)
-  pub beyond : (k : ℕ) → 6 ≤ k → s .free k ≡ []
-  pub listed : (k : ℕ) → All (λ (q : ℕ). Listed (s .frames) first (row .pages) k q) (s .free k)
-  pub framed : (q : ℕ) → frameOf (f q) ≡ s .frames q
-  pub marks : (q : ℕ) → Inside first (row .pages) q → f q .marks ≡ marksOf (s .frames q)
-  pub level : (q : ℕ) → Inside first (row .pages) q → f q .level ≡ levelOf (s .frames q)
-  pub loose : (q : ℕ) → Inside first (row .pages) q → ((k : ℕ) → Out q (s .free k)) → Loose (f q)
-
-abbrev pub SoundRow : (ℕ → Record) → ℕ → ℕ → Row → Type 0
-SoundRow f n first row = Rep f n first row (stateOf f row)
-
--- the records f and the row became g and r, which stand for s
-pub record Becomes (f : ℕ → Record) (first : ℕ) (row : Row) (g : ℕ → Record) (n : ℕ) (r : Row) (s : Levels) : Type 0 where
-  pub rep : Rep g n first r s
-  pub start : r .start ≡ row .start
-  pub pages : r .pages ≡ row .pages
-  pub outside : (q : ℕ) → (Inside first (row .pages) q → ⊥) → g q ≡ f q
 
 abbrev pub pageOf : FoundPage → Option ℕ
 pageOf Nothing = none
@@ -89,10 +48,6 @@ searched ws i r = record { row = rowOf (rowsIn ws) i; found = r .found; page = r
 -- the page of a search, none where it found nothing
 abbrev pub pageIn : Search → Option ℕ
 pageIn r = cond (r .found) (some (r .page)) none
-
-pub record Answers (f : ℕ → Record) (first : ℕ) (row : Row) (g : ℕ → Record) (n : ℕ) (r : Search) (a : Found) : Type 0 where
-  pub became : Becomes f first row g n (r .row) (a .levels)
-  pub found : pageIn r ≡ a .page
 
 -- the record of a free frame that is on no list yet
 abbrev pub freeRecord : (level : ℕ) → (zeroed kernel : Bool) → Record
@@ -118,13 +73,6 @@ markedLevels s page zeroed kernel = record { frames = upd (s .frames) page (mark
 abbrev pub keptLevels : Levels → ℕ → Levels
 keptLevels s page = record { frames = splitAndKeep (s .frames) page; free = s .free }
 
--- the frame of 512 children of level l at a page, which is in no list, and neither are the pages inside it
-pub record Splits (s : Levels) (first pages page l : ℕ) : Type 0 where
-  pub small : l < 2
-  pub low : first ≤ page
-  pub high : page + 512 * size l ≤ first + managed pages
-  pub out : (q : ℕ) → page ≤ q → q < page + 512 * size l → (k : ℕ) → Out q (s .free k)
-
 -- a frame starts at p, unless that is the end
 abbrev pub Starts : Levels → ℕ → ℕ → Type 0
 Starts s end p = p < end → s .frames p ≢ none
@@ -137,20 +85,6 @@ pub record Tile (s : Levels) (from first end p : ℕ) (a : Frame) : Type 0 where
   pub clear : (q : ℕ) → p < q → q < p + size (a .level) → s .frames q ≡ none
   pub next : Starts s end (p + size (a .level))
 
--- the region that starts at the page frame number `from` is tiled by frames, and each free one is on its list, but for a loose one
-pub record Whole (s : Levels) (loose : Option ℕ) (from first pages : ℕ) : Type 0 where
-  pub opens : Starts s (first + managed pages) first
-  pub tile : (p : ℕ) (a : Frame) → Inside first pages p → s .frames p ≡ some a → Tile s from first (first + managed pages) p a
-  pub full : (q : ℕ) → loose ≢ some q → Inside first pages q → slotOf (s .frames q) < 6 → In q (s .free (slotOf (s .frames q)))
-
-abbrev pub WholeRow : (ℕ → Record) → ℕ → Row → Type 0
-WholeRow f first row = Whole (stateOf f row) none (fromOf row) first (row .pages)
-
--- a held frame starts at the page
-pub record Held (s : Levels) (first pages page : ℕ) : Type 0 where
-  pub inside : Inside first pages page
-  pub held : isAllocated (s .frames page) ≡ true
-
 -- the level for a frame at a page frame number where so many pages are left
 pub record Best (pfn left l : ℕ) : Type 0 where
   pub is : l ≡ highest 2 pfn left
@@ -158,32 +92,11 @@ pub record Best (pfn left l : ℕ) : Type 0 where
   pub fits : size l ≤ left
   pub aligned : pfn % size l ≡ 0
 
--- no frame starts in the region yet
-abbrev pub Blank : Levels → ℕ → ℕ → Type 0
-Blank s first pages = (q : ℕ) → Inside first pages q → s .frames q ≡ none
-
 -- ---- a region whose row is the row i of words
-
--- its row is in use, and stands with the records for frames and lists
-abbrev pub SoundAt : (bytes : List ℕ) (first : ℕ) (ws : List ℕ) (i : ℕ) → Type 0
-SoundAt bytes first ws i = InUse ws i × SoundRow (recordAt bytes) (pagesIn bytes) first (rowOf (rowsIn ws) i)
-
-abbrev pub WholeAt : (bytes : List ℕ) (first : ℕ) (ws : List ℕ) (i : ℕ) → Type 0
-WholeAt bytes first ws i = WholeRow (recordAt bytes) first (rowOf (rowsIn ws) i)
 
 -- what they stand for
 abbrev pub levelsAt : (bytes ws : List ℕ) (i : ℕ) → Levels
 levelsAt bytes ws i = stateOf (recordAt bytes) (rowOf (rowsIn ws) i)
-
--- the records and the row became others, which stand for s, and no other word changed
-abbrev pub LeavesAt : (bytes : List ℕ) (first : ℕ) (ws : List ℕ) (i : ℕ) (bytes' ws' : List ℕ) (s : Levels) → Type 0
-LeavesAt bytes first ws i bytes' ws' s =
-    Becomes (recordAt bytes) first (rowOf (rowsIn ws) i) (recordAt bytes') (pagesIn bytes') (rowOf (rowsIn ws') i) s × RowBeside ws i ws'
-
--- the same of a search, with what it found
-abbrev pub FindsAt : (bytes : List ℕ) (first : ℕ) (ws : List ℕ) (i : ℕ) (bytes' ws' : List ℕ) (r : Got) (a : Found) → Type 0
-FindsAt bytes first ws i bytes' ws' r a =
-    Answers (recordAt bytes) first (rowOf (rowsIn ws) i) (recordAt bytes') (pagesIn bytes') (searched ws' i r) a × RowBeside ws i ws'
 
 -- ---- the records and the lists that a state has
 
@@ -207,18 +120,106 @@ listsOf s =
 abbrev pub emptyRow : PhysAddr → ℕ → Row
 emptyRow start pages = record { start = start; pages = pages; lists = replicate 6 noLinks }
 
--- the state of a region whose records are four zeros, whatever stood there
-abbrev pub blankState : (ℕ → Record) → ℕ → PhysAddr → ℕ → Levels
-blankState f first start pages = stateOf (cleared f first (managed pages)) (emptyRow start pages)
-
--- what a new region's records and row stand for: its pages laid out in frames
-abbrev pub newState : (ℕ → Record) → ℕ → PhysAddr → ℕ → Levels
-newState f first start pages =
-    organize (managed pages) (blankState f first start pages) first (fromOf (emptyRow start pages)) (managed pages)
-
 -- ---- addresses
 
--- the page number of a page frame number, where the region manages it
-unfoldable pub lookup : Row → ℕ → ℕ → Option ℕ
-lookup row first number =
-    cond (contains standard (bareRegion standard row) number) (some (pageNumber standard first (bareRegion standard row) number)) none
+module _ (board : Board) where
+  -- pages but for the tables
+  unfoldable pub managed : ℕ → ℕ
+  managed pages = pages - tablePages board pages
+
+  -- the page frame number of the region's first managed page
+  unfoldable pub fromOf : Row → ℕ
+  fromOf row = row .start .0 / board .page + tablePages board (row .pages)
+
+  -- a page of the region whose first page is `first`
+  pub record Inside (first pages q : ℕ) : Type 0 where
+    pub low : first ≤ q
+    pub high : q < first + managed pages
+
+  -- a page of the list k
+  pub record Listed (frames : ℕ → Option Frame) (first pages k q : ℕ) : Type 0 where
+    pub slotted : slotOf (frames q) ≡ k
+    pub inside : Inside first pages q
+
+  -- the records f, of n pages, and the row stand for the state s
+  pub record Rep (f : ℕ → Record) (n first : ℕ) (row : Row) (s : Levels) : Type 0 where
+    pub small : first + managed (row .pages) < 2 ^ 32
+    pub fits : first + managed (row .pages) ≤ n
+    pub six : length (row .lists) ≡ 6
+    pub lists : (k : ℕ) → k < 6 → Linked f n (getD (row .lists) k noLinks) (s .free k)
+    pub beyond : (k : ℕ) → 6 ≤ k → s .free k ≡ []
+    pub listed : (k : ℕ) → All (λ (q : ℕ). Listed (s .frames) first (row .pages) k q) (s .free k)
+    pub framed : (q : ℕ) → frameOf (f q) ≡ s .frames q
+    pub marks : (q : ℕ) → Inside first (row .pages) q → f q .marks ≡ marksOf (s .frames q)
+    pub level : (q : ℕ) → Inside first (row .pages) q → f q .level ≡ levelOf (s .frames q)
+    pub loose : (q : ℕ) → Inside first (row .pages) q → ((k : ℕ) → Out q (s .free k)) → Loose (f q)
+
+  abbrev pub SoundRow : (ℕ → Record) → ℕ → ℕ → Row → Type 0
+  SoundRow f n first row = Rep f n first row (stateOf f row)
+
+  -- the records f and the row became g and r, which stand for s
+  pub record Becomes (f : ℕ → Record) (first : ℕ) (row : Row) (g : ℕ → Record) (n : ℕ) (r : Row) (s : Levels) : Type 0 where
+    pub rep : Rep g n first r s
+    pub start : r .start ≡ row .start
+    pub pages : r .pages ≡ row .pages
+    pub outside : (q : ℕ) → (Inside first (row .pages) q → ⊥) → g q ≡ f q
+
+  pub record Answers (f : ℕ → Record) (first : ℕ) (row : Row) (g : ℕ → Record) (n : ℕ) (r : Search) (a : Found) : Type 0 where
+    pub became : Becomes f first row g n (r .row) (a .levels)
+    pub found : pageIn r ≡ a .page
+
+  -- the frame of 512 children of level l at a page, which is in no list, and neither are the pages inside it
+  pub record Splits (s : Levels) (first pages page l : ℕ) : Type 0 where
+    pub small : l < 2
+    pub low : first ≤ page
+    pub high : page + 512 * size l ≤ first + managed pages
+    pub out : (q : ℕ) → page ≤ q → q < page + 512 * size l → (k : ℕ) → Out q (s .free k)
+
+  -- the region that starts at the page frame number `from` is tiled by frames, and each free one is on its list, but for a loose one
+  pub record Whole (s : Levels) (loose : Option ℕ) (from first pages : ℕ) : Type 0 where
+    pub opens : Starts s (first + managed pages) first
+    pub tile : (p : ℕ) (a : Frame) → Inside first pages p → s .frames p ≡ some a → Tile s from first (first + managed pages) p a
+    pub full : (q : ℕ) → loose ≢ some q → Inside first pages q → slotOf (s .frames q) < 6 → In q (s .free (slotOf (s .frames q)))
+
+  abbrev pub WholeRow : (ℕ → Record) → ℕ → Row → Type 0
+  WholeRow f first row = Whole (stateOf f row) none (fromOf row) first (row .pages)
+
+  -- a held frame starts at the page
+  pub record Held (s : Levels) (first pages page : ℕ) : Type 0 where
+    pub inside : Inside first pages page
+    pub held : isAllocated (s .frames page) ≡ true
+
+  -- no frame starts in the region yet
+  abbrev pub Blank : Levels → ℕ → ℕ → Type 0
+  Blank s first pages = (q : ℕ) → Inside first pages q → s .frames q ≡ none
+
+  -- its row is in use, and stands with the records for frames and lists
+  abbrev pub SoundAt : (bytes : List ℕ) (first : ℕ) (ws : List ℕ) (i : ℕ) → Type 0
+  SoundAt bytes first ws i = InUse ws i × SoundRow (recordAt bytes) (pagesIn bytes) first (rowOf (rowsIn ws) i)
+
+  abbrev pub WholeAt : (bytes : List ℕ) (first : ℕ) (ws : List ℕ) (i : ℕ) → Type 0
+  WholeAt bytes first ws i = WholeRow (recordAt bytes) first (rowOf (rowsIn ws) i)
+
+  -- the records and the row became others, which stand for s, and no other word changed
+  abbrev pub LeavesAt : (bytes : List ℕ) (first : ℕ) (ws : List ℕ) (i : ℕ) (bytes' ws' : List ℕ) (s : Levels) → Type 0
+  LeavesAt bytes first ws i bytes' ws' s =
+      Becomes (recordAt bytes) first (rowOf (rowsIn ws) i) (recordAt bytes') (pagesIn bytes') (rowOf (rowsIn ws') i) s × RowBeside ws i ws'
+
+  -- the same of a search, with what it found
+  abbrev pub FindsAt : (bytes : List ℕ) (first : ℕ) (ws : List ℕ) (i : ℕ) (bytes' ws' : List ℕ) (r : Got) (a : Found) → Type 0
+  FindsAt bytes first ws i bytes' ws' r a =
+      Answers (recordAt bytes) first (rowOf (rowsIn ws) i) (recordAt bytes') (pagesIn bytes') (searched ws' i r) a × RowBeside ws i ws'
+
+  -- the state of a region whose records are four zeros, whatever stood there
+  abbrev pub blankState : (ℕ → Record) → ℕ → PhysAddr → ℕ → Levels
+  blankState f first start pages = stateOf (cleared f first (managed pages)) (emptyRow start pages)
+
+  -- what a new region's records and row stand for: its pages laid out in frames
+  abbrev pub newState : (ℕ → Record) → ℕ → PhysAddr → ℕ → Levels
+  newState f first start pages =
+      organize (managed pages) (blankState f first start pages) first (fromOf (emptyRow start pages)) (managed pages)
+
+  -- the page number of a page frame number, where the region manages it
+  unfoldable pub lookup : Row → ℕ → ℕ → Option ℕ
+  lookup row first number =
+      cond (contains board (bareRegion board row) number) (some (pageNumber board first (bareRegion board row) number)) none

@@ -76,9 +76,9 @@ fn nothing() -> Got
 
 // pop_back of the list `k`.
 fn pop(records: &mut [u8], first: usize, words: &mut [u64], index: usize, k: usize) -> Got
-    requires { ⌜ SoundAt (now records) first (now words) index ⌝ }
+    requires { ⌜ SoundAt standard (now records) first (now words) index ⌝ }
     requires { ⌜ k < 6 ⌝ }
-    ensures { λ r. ⌜ FindsAt (now (records .entry)) first (now (words .entry)) index (now (records .exit)) (now (words .exit)) r (popFrom (levelsAt (now (records .entry)) (now (words .entry)) index) k) ⌝ }
+    ensures { λ r. ⌜ FindsAt standard (now (records .entry)) first (now (words .entry)) index (now (records .exit)) (now (words .exit)) r (popFrom (levelsAt (now (records .entry)) (now (words .entry)) index) k) ⌝ }
 {
     let l = words::list_at(words, index, k);
     match list::pop_back(records, l) {
@@ -108,9 +108,9 @@ fn level_allocate(
     try_zero: bool,
     only_zero: bool,
 ) -> Got
-    requires { ⌜ SoundAt (now records) first (now words) index ⌝ }
+    requires { ⌜ SoundAt standard (now records) first (now words) index ⌝ }
     requires { ⌜ level < 3 ⌝ }
-    ensures { λ r. ⌜ FindsAt (now (records .entry)) first (now (words .entry)) index (now (records .exit)) (now (words .exit)) r (levelAllocate (levelsAt (now (records .entry)) (now (words .entry)) index) level «try_zero» «only_zero») ⌝ }
+    ensures { λ r. ⌜ FindsAt standard (now (records .entry)) first (now (words .entry)) index (now (records .exit)) (now (words .exit)) r (levelAllocate (levelsAt (now (records .entry)) (now (words .entry)) index) level «try_zero» «only_zero») ⌝ }
 {
     if only_zero {
         return pop(records, first, words, index, level * 2 + 1);
@@ -164,10 +164,10 @@ fn push(
     zeroed: bool,
     kernel: bool,
 ) -> Row
-    requires { ⌜ SoundRow (recordAt (now records)) (pagesIn (now records)) first row ⌝ }
-    requires { ⌜ (level < 3) × Inside first (row .pages) page ⌝ }
+    requires { ⌜ SoundRow standard (recordAt (now records)) (pagesIn (now records)) first row ⌝ }
+    requires { ⌜ (level < 3) × Inside standard first (row .pages) page ⌝ }
     requires { ⌜ ((k : ℕ) → Out page (stateOf (recordAt (now records)) row .free k)) ⌝ }
-    ensures { λ r. ⌜ Becomes (recordAt (now (records .entry))) first row (recordAt (now (records .exit))) (pagesIn (now (records .exit))) r (listUp (stateOf (recordAt (now (records .entry))) row) page level zeroed kernel) ⌝ }
+    ensures { λ r. ⌜ Becomes standard (recordAt (now (records .entry))) first row (recordAt (now (records .exit))) (pagesIn (now (records .exit))) r (listUp (stateOf (recordAt (now (records .entry))) row) page level zeroed kernel) ⌝ }
 {
     let k = slot(level, zeroed);
     let l = row.lists[k];
@@ -186,9 +186,9 @@ fn split(
     page: usize,
     level: usize,
 )
-    requires { ⌜ SoundAt (now records) first (now words) index ⌝ }
-    requires { ⌜ Splits (levelsAt (now records) (now words) index) first (rowOf (rowsIn (now words)) index .pages) page level ⌝ }
-    ensures { λ _. ⌜ LeavesAt (now (records .entry)) first (now (words .entry)) index (now (records .exit)) (now (words .exit)) («split_def» (levelsAt (now (records .entry)) (now (words .entry)) index) page level) ⌝ }
+    requires { ⌜ SoundAt standard (now records) first (now words) index ⌝ }
+    requires { ⌜ Splits standard (levelsAt (now records) (now words) index) first (rowOf (rowsIn (now words)) index .pages) page level ⌝ }
+    ensures { λ _. ⌜ LeavesAt standard (now (records .entry)) first (now (words .entry)) index (now (records .exit)) (now (words .exit)) («split_def» (levelsAt (now (records .entry)) (now (words .entry)) index) page level) ⌝ }
 {
     let zeroed = record::is_zeroed(record::marks(records, page));
     let step = level::pages_at(level);
@@ -213,9 +213,9 @@ pub fn do_allocate(
     try_zero: bool,
     only_zero: bool,
 ) -> Got
-    requires { ⌜ SoundAt (now records) first (now words) index ⌝ }
-    requires { ⌜ WholeAt (now records) first (now words) index ⌝ }
-    ensures { λ r. ⌜ FindsAt (now (records .entry)) first (now (words .entry)) index (now (records .exit)) (now (words .exit)) r (doAllocate (3 - level) level (levelsAt (now (records .entry)) (now (words .entry)) index) «try_zero» «only_zero») ⌝ }
+    requires { ⌜ SoundAt standard (now records) first (now words) index ⌝ }
+    requires { ⌜ WholeAt standard (now records) first (now words) index ⌝ }
+    ensures { λ r. ⌜ FindsAt standard (now (records .entry)) first (now (words .entry)) index (now (records .exit)) (now (words .exit)) r (doAllocate (3 - level) level (levelsAt (now (records .entry)) (now (words .entry)) index) «try_zero» «only_zero») ⌝ }
 {
     if 3 <= level {
         return nothing();
@@ -242,10 +242,10 @@ pub fn allocate(
     try_zero: bool,
     only_zero: bool,
 ) -> Got
-    requires { ⌜ SoundAt (now records) first (now words) index ⌝ }
-    requires { ⌜ (WholeAt (now records) first (now words) index) × (level < 3) ⌝ }
-    ensures { λ r. ⌜ FindsAt (now (records .entry)) first (now (words .entry)) index (now (records .exit)) (now (words .exit)) r («allocate_def» level (levelsAt (now (records .entry)) (now (words .entry)) index) «try_zero» «only_zero») ⌝ }
-    ensures { λ _. ⌜ WholeAt (now (records .exit)) first (now (words .exit)) index ⌝ }
+    requires { ⌜ SoundAt standard (now records) first (now words) index ⌝ }
+    requires { ⌜ (WholeAt standard (now records) first (now words) index) × (level < 3) ⌝ }
+    ensures { λ r. ⌜ FindsAt standard (now (records .entry)) first (now (words .entry)) index (now (records .exit)) (now (words .exit)) r («allocate_def» level (levelsAt (now (records .entry)) (now (words .entry)) index) «try_zero» «only_zero») ⌝ }
+    ensures { λ _. ⌜ WholeAt standard (now (records .exit)) first (now (words .exit)) index ⌝ }
 {
     let got = do_allocate(records, first, words, index, level, try_zero, only_zero);
     if !got.found {
@@ -259,11 +259,11 @@ pub fn allocate(
 
 // AllocationRegion::free and AllocationRegionLevel::free, frame.rs 166 and 97: clears ALLOCATED only, and puts the frame on the back of its list.
 pub fn free(records: &mut [u8], first: usize, words: &mut [u64], index: usize, page: usize)
-    requires { ⌜ SoundAt (now records) first (now words) index ⌝ }
-    requires { ⌜ WholeAt (now records) first (now words) index ⌝ }
-    requires { ⌜ Held (levelsAt (now records) (now words) index) first (rowOf (rowsIn (now words)) index .pages) page ⌝ }
-    ensures { λ _. ⌜ LeavesAt (now (records .entry)) first (now (words .entry)) index (now (records .exit)) (now (words .exit)) («free_def» (levelsAt (now (records .entry)) (now (words .entry)) index) page) ⌝ }
-    ensures { λ _. ⌜ WholeAt (now (records .exit)) first (now (words .exit)) index ⌝ }
+    requires { ⌜ SoundAt standard (now records) first (now words) index ⌝ }
+    requires { ⌜ WholeAt standard (now records) first (now words) index ⌝ }
+    requires { ⌜ Held standard (levelsAt (now records) (now words) index) first (rowOf (rowsIn (now words)) index .pages) page ⌝ }
+    ensures { λ _. ⌜ LeavesAt standard (now (records .entry)) first (now (words .entry)) index (now (records .exit)) (now (words .exit)) («free_def» (levelsAt (now (records .entry)) (now (words .entry)) index) page) ⌝ }
+    ensures { λ _. ⌜ WholeAt standard (now (records .exit)) first (now (words .exit)) index ⌝ }
 {
     let r = record::load(records, page);
     let level = r.level as usize;
@@ -284,22 +284,22 @@ pub fn set_marks(
     zeroed: bool,
     kernel: bool,
 )
-    requires { ⌜ SoundRow (recordAt (now records)) (pagesIn (now records)) first row ⌝ }
-    requires { ⌜ WholeRow (recordAt (now records)) first row ⌝ }
-    requires { ⌜ Held (stateOf (recordAt (now records)) row) first (row .pages) page ⌝ }
-    ensures { λ _. ⌜ Becomes (recordAt (now (records .entry))) first row (recordAt (now (records .exit))) (pagesIn (now (records .exit))) row (markedLevels (stateOf (recordAt (now (records .entry))) row) page zeroed kernel) ⌝ }
-    ensures { λ _. ⌜ WholeRow (recordAt (now (records .exit))) first row ⌝ }
+    requires { ⌜ SoundRow standard (recordAt (now records)) (pagesIn (now records)) first row ⌝ }
+    requires { ⌜ WholeRow standard (recordAt (now records)) first row ⌝ }
+    requires { ⌜ Held standard (stateOf (recordAt (now records)) row) first (row .pages) page ⌝ }
+    ensures { λ _. ⌜ Becomes standard (recordAt (now (records .entry))) first row (recordAt (now (records .exit))) (pagesIn (now (records .exit))) row (markedLevels (stateOf (recordAt (now (records .entry))) row) page zeroed kernel) ⌝ }
+    ensures { λ _. ⌜ WholeRow standard (recordAt (now (records .exit))) first row ⌝ }
 {
     record::set_marks(records, page, record::free_marks(zeroed, kernel) + 2);
 }
 
 // AllocationRegion::split_and_keep, frame.rs 203: a held frame becomes 512 held ones, with its marks.
 pub fn split_and_keep(records: &mut [u8], first: usize, row: Row, page: usize)
-    requires { ⌜ SoundRow (recordAt (now records)) (pagesIn (now records)) first row ⌝ }
-    requires { ⌜ WholeRow (recordAt (now records)) first row ⌝ }
-    requires { ⌜ Held (stateOf (recordAt (now records)) row) first (row .pages) page ⌝ }
-    ensures { λ _. ⌜ Becomes (recordAt (now (records .entry))) first row (recordAt (now (records .exit))) (pagesIn (now (records .exit))) row (keptLevels (stateOf (recordAt (now (records .entry))) row) page) ⌝ }
-    ensures { λ _. ⌜ WholeRow (recordAt (now (records .exit))) first row ⌝ }
+    requires { ⌜ SoundRow standard (recordAt (now records)) (pagesIn (now records)) first row ⌝ }
+    requires { ⌜ WholeRow standard (recordAt (now records)) first row ⌝ }
+    requires { ⌜ Held standard (stateOf (recordAt (now records)) row) first (row .pages) page ⌝ }
+    ensures { λ _. ⌜ Becomes standard (recordAt (now (records .entry))) first row (recordAt (now (records .exit))) (pagesIn (now (records .exit))) row (keptLevels (stateOf (recordAt (now (records .entry))) row) page) ⌝ }
+    ensures { λ _. ⌜ WholeRow standard (recordAt (now (records .exit))) first row ⌝ }
 {
     let r = record::load(records, page);
     let old = r.level;
@@ -324,11 +324,11 @@ pub fn split_and_keep(records: &mut [u8], first: usize, row: Row, page: usize)
 
 // "Organize into levels", frame.rs 308: frames over `count` pages that have none, from the page frame number `from` on.
 fn organize(records: &mut [u8], first: usize, row: Row, from: usize, count: usize) -> Row
-    requires { ⌜ SoundRow (recordAt (now records)) (pagesIn (now records)) first row ⌝ }
-    requires { ⌜ (count ≡ managed (row .pages)) × (from ≡ fromOf row) × (from + count < 2 ^ 64) ⌝ }
-    requires { ⌜ Blank (stateOf (recordAt (now records)) row) first (row .pages) ⌝ }
-    ensures { λ r. ⌜ Becomes (recordAt (now (records .entry))) first row (recordAt (now (records .exit))) (pagesIn (now (records .exit))) r («organize_def» count (stateOf (recordAt (now (records .entry))) row) first from count) ⌝ }
-    ensures { λ r. ⌜ WholeRow (recordAt (now (records .exit))) first r ⌝ }
+    requires { ⌜ SoundRow standard (recordAt (now records)) (pagesIn (now records)) first row ⌝ }
+    requires { ⌜ (count ≡ managed standard (row .pages)) × (from ≡ fromOf standard row) × (from + count < 2 ^ 64) ⌝ }
+    requires { ⌜ Blank standard (stateOf (recordAt (now records)) row) first (row .pages) ⌝ }
+    ensures { λ r. ⌜ Becomes standard (recordAt (now (records .entry))) first row (recordAt (now (records .exit))) (pagesIn (now (records .exit))) r («organize_def» count (stateOf (recordAt (now (records .entry))) row) first from count) ⌝ }
+    ensures { λ r. ⌜ WholeRow standard (recordAt (now (records .exit))) first r ⌝ }
 {
     let mut r = row;
     let mut at: usize = 0;
@@ -367,9 +367,9 @@ pub fn empty_row(start: PhysAddr, pages: usize) -> Row
 
 // AllocationRegion::new, frame.rs 277, of a map entry that is kept: whatever stood in its records, they become its frames, all free.
 pub fn new(records: &mut [u8], first: usize, start: PhysAddr, pages: usize) -> Row
-    requires { ⌜ (pages ≤ 1048576) × (first + managed pages < 2 ^ 32) × (first + managed pages ≤ pagesIn (now records)) ⌝ }
-    ensures { λ r. ⌜ Becomes (recordAt (now (records .entry))) first (emptyRow start pages) (recordAt (now (records .exit))) (pagesIn (now (records .exit))) r (newState (recordAt (now (records .entry))) first start pages) ⌝ }
-    ensures { λ r. ⌜ WholeRow (recordAt (now (records .exit))) first r ⌝ }
+    requires { ⌜ (pages ≤ 1048576) × (first + managed standard pages < 2 ^ 32) × (first + managed standard pages ≤ pagesIn (now records)) ⌝ }
+    ensures { λ r. ⌜ Becomes standard (recordAt (now (records .entry))) first (emptyRow start pages) (recordAt (now (records .exit))) (pagesIn (now (records .exit))) r (newState standard (recordAt (now (records .entry))) first start pages) ⌝ }
+    ensures { λ r. ⌜ WholeRow standard (recordAt (now (records .exit))) first r ⌝ }
 {
     let tables = table_pages(pages);
     let count = pages - tables;
@@ -380,8 +380,8 @@ pub fn new(records: &mut [u8], first: usize, start: PhysAddr, pages: usize) -> R
 
 // FrameIndexer::get_frame, frame.rs 669: the page of an address, where the region manages it.
 pub fn get_frame(row: Row, first: usize, pa: PhysAddr) -> FoundPage
-    requires { ⌜ (row .pages ≤ 2 ^ 32) × (first + managed (row .pages) < 2 ^ 64) ⌝ }
-    ensures { λ r. ⌜ pageOf r ≡ lookup row first (pa .0 / 4096) ⌝ }
+    requires { ⌜ (row .pages ≤ 2 ^ 32) × (first + managed standard (row .pages) < 2 ^ 64) ⌝ }
+    ensures { λ r. ⌜ pageOf r ≡ lookup standard row first (pa .0 / 4096) ⌝ }
 {
     let number = pa.page_number();
     let begin = row.start;
@@ -399,8 +399,8 @@ pub fn get_frame(row: Row, first: usize, pa: PhysAddr) -> FoundPage
 
 // Frame::start_address, frame.rs 414: the first address of a page of the region.
 pub fn start_address(row: Row, first: usize, page: usize) -> PhysAddr
-    requires { ⌜ (row .pages ≤ 2 ^ 32) × Inside first (row .pages) page × (fromOf row + managed (row .pages) ≤ 2 ^ 52) ⌝ }
-    ensures { λ r. ⌜ r .0 ≡ 4096 * (fromOf row + (page - first)) ⌝ }
+    requires { ⌜ (row .pages ≤ 2 ^ 32) × Inside standard first (row .pages) page × (fromOf standard row + managed standard (row .pages) ≤ 2 ^ 52) ⌝ }
+    ensures { λ r. ⌜ r .0 ≡ 4096 * (fromOf standard row + (page - first)) ⌝ }
 {
     let begin = row.start;
     let start = begin.page_number();

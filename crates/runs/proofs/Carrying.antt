@@ -23,6 +23,7 @@ use Rattle.definition.specs.World.{World, noRow, usedRows}
 use Rattle.definition.proofs.Tests.{and-left, and-right, and-true}
 use Rattle.record.specs.Records.{withBytes}
 use Rattle.record.proofs.Bytes.{with-length}
+use Rattle.world.specs.Fit.{standard-fit}
 use Rattle.world.specs.Refusals.{numberIf}
 use Rattle.world.proofs.Calling.{none-met}
 use Rattle.world.proofs.Leaving.{sound-sane}
@@ -91,7 +92,7 @@ module _ (w : World) (s : sound standard w ≡ true) {used : ℕ} (m : length (u
   narrow = sound-narrow w s
 
   unused : drop (length (usedRows (w .rows))) (w .rows) ≡ replicate (8 - length (usedRows (w .rows))) noRow
-  unused = sound-sane w (sound-is standard w s) .unused
+  unused = sound-sane standard-fit w (sound-is standard w s) .unused
 
   call-keeps : isKept ws ≡ true → usedIn ws ≡ used → Keeps w (length ws) used (keptOver w ws)
   call-keeps k u =
@@ -188,7 +189,7 @@ told-accepted (Bytes t) ok = refl
 
 boot-sound : (ms : List MemoryRegion) (w : World) → Accepted (bootCall standard ms w .answer) → sound standard (bootCall standard ms w .world) ≡ true
 unfolding worldAfter
-boot-sound ms w ok = demand-3 ms w ok [] .whole
+boot-sound ms w ok = demand-3 standard-fit ms w ok [] .whole
 
 pub booted-world : (ms : List MemoryRegion) (l : Lent) {used : ℕ} → isRoomy l ≡ true → Accepted (bootCall standard ms (worldIn l) .answer)
     → length (usedRows (bootCall standard ms (worldIn l) .world .rows)) ≡ used

@@ -21,6 +21,7 @@ use Rattle.definition.specs.Store.{Store}
 use Rattle.definition.specs.World.{World, bareRegion, decode, decodeRows, recordAt, usedRows}
 use Rattle.definition.proofs.Tests.{and-left}
 use Rattle.record.specs.Records.{withBytes}
+use Rattle.world.specs.Fit.{standard-fit}
 use Rattle.world.proofs.Spans.{bare}
 use Rattle.bookkeeping.specs.Claim.{State}
 use Rattle.exam.specs.declared.Answer.{Answer}
@@ -50,14 +51,14 @@ as-many f base [] = refl
 as-many f base (row ∷ rows) = ap suc (as-many f (base + managed standard (bareRegion standard row)) rows)
 
 -- every call leaves as many as the boot made
-holds-used : {ms : List MemoryRegion} {w v : World} {x : State} → Holds ms w v x → length (usedRows (v .rows)) ≡ length (keptRegions standard ms)
+holds-used : {ms : List MemoryRegion} {w v : World} {x : State} → Holds standard ms w v x → length (usedRows (v .rows)) ≡ length (keptRegions standard ms)
 unfolding decode
 holds-used {v = v} {x = x} H =
     let rs = x .store .allocator .regions in
     sym (as-many (recordAt (v .records)) 0 (usedRows (v .rows)))
-    ∙ ap (λ (s : Store). length (s .allocator .regions)) (holds-decode H)
+    ∙ ap (λ (s : Store). length (s .allocator .regions)) (holds-decode standard-fit H)
     ∙ sym (length-map rs bare)
-    ∙ ap length (sym (emptied-bared rs) ∙ here H .regions)
+    ∙ ap length (sym (emptied-bared rs) ∙ here standard-fit H .regions)
 
 -- ---- a list of calls
 
@@ -67,19 +68,19 @@ BearsAll ms l v = Bears l v (length (keptRegions standard ms))
 
 module _ {ms : List MemoryRegion} {w : World} where
   -- one call, on a world that came of an accepted boot
-  next : {v : World} {x : State} (l : Lent) → Holds ms w v x → BearsAll ms l v → (c : Call) → BearsAll ms (served c l .lent) (call standard v c .world)
+  next : {v : World} {x : State} (l : Lent) → Holds standard ms w v x → BearsAll ms l v → (c : Call) → BearsAll ms (served c l .lent) (call standard v c .world)
   next {v} l H C c =
       let e = C .carries .world in
-      let N = call-holds H c in
+      let N = call-holds standard-fit H c in
       subst (λ (u : World). BearsAll ms (served c l .lent) (call standard u c .world)) e
-      (served-world c l (C .carries .lent) (rw e (holds-sound N)) (rw e (holds-used N)) (C .first))
+      (served-world c l (C .carries .lent) (rw e (holds-sound standard-fit N)) (rw e (holds-used N)) (C .first))
 
-  all-carried : {v : World} {x : State} (l : Lent) → Holds ms w v x → BearsAll ms l v → (cs : List Call) → Carries (lentAfter l cs) (worldAfter standard v cs)
+  all-carried : {v : World} {x : State} (l : Lent) → Holds standard ms w v x → BearsAll ms l v → (cs : List Call) → Carries (lentAfter l cs) (worldAfter standard v cs)
   unfolding lentAfter worldAfter
   all-carried l H C [] = C .carries
-  all-carried l H C (c ∷ cs) = all-carried (served c l .lent) (call-holds H c) (next l H C c) cs
+  all-carried l H C (c ∷ cs) = all-carried (served c l .lent) (call-holds standard-fit H c) (next l H C c) cs
 
-  all-numbers : {v : World} {x : State} (l : Lent) → Holds ms w v x → BearsAll ms l v → (cs : List Call)
+  all-numbers : {v : World} {x : State} (l : Lent) → Holds standard ms w v x → BearsAll ms l v → (cs : List Call)
       → numbersAfter l cs ≡ map answerNumber (answersOf standard v cs)
   unfolding numbersAfter answersOf
   all-numbers l H C [] = refl
@@ -89,7 +90,7 @@ module _ {ms : List MemoryRegion} {w : World} where
       ∙ told-number (call standard (worldIn l) c .answer)
       ∙ ap (λ (u : World). answerNumber (call standard u c .answer)) (C .carries .world)
       in
-      ap₂ (λ (n : ℕ) (ns : List ℕ). n ∷ ns) number (all-numbers (served c l .lent) (call-holds H c) (next l H C c) cs)
+      ap₂ (λ (n : ℕ) (ns : List ℕ). n ∷ ns) number (all-numbers (served c l .lent) (call-holds standard-fit H c) (next l H C c) cs)
 
 -- ---- the answer of the next call
 
@@ -114,18 +115,18 @@ carries-tells l C c =
 module _ (ms : List MemoryRegion) (l : Lent) (e : isRoomy l ≡ true) where
   module _ (ok : Accepted (bootCall standard ms (worldIn l) .answer)) where
     begins : BearsAll ms (booted ms l .lent) (bootCall standard ms (worldIn l) .world)
-    begins = booted-world ms l e ok (holds-used (boot-holds ms (worldIn l) ok))
+    begins = booted-world ms l e ok (holds-used (boot-holds standard standard-fit ms (worldIn l) ok))
 
     pub words-follow : (calls : List Call) → Follows ms l calls
     words-follow calls =
-        let H = boot-holds ms (worldIn l) ok in
+        let H = boot-holds standard standard-fit ms (worldIn l) ok in
         let C = begins in
         let all = all-carried (booted ms l .lent) H C calls in
         record { carries = all; numbers = all-numbers (booted ms l .lent) H C calls; tells = λ c. carries-tells (lentAfter (booted ms l .lent) calls) all c }
 
     pub words-demand-3 : (calls : List Call) → Demand3Words ms l calls
     words-demand-3 calls =
-        let D = demand-3 ms (worldIn l) ok calls in
+        let D = demand-3 standard-fit ms (worldIn l) ok calls in
         record {
           afterwards = rw (words-follow calls .carries .world) (D .afterwards);
           whole = rw (words-follow calls .carries .world) (D .whole);
@@ -138,5 +139,5 @@ module _ (ms : List MemoryRegion) (l : Lent) (e : isRoomy l ≡ true) where
       let passed : not (isSome (lowest (bootSheet standard ms (length (l .records)) (length (l .memory))))) ≡ true = and-left _ _ g in
       let ok : Accepted (bootCall standard ms (worldIn l) .answer) = λ r h. false≢true (rw (boot-answered ms (worldIn l) .refusedAsSheet r .0 h) at passed) in
       let w = begins ok .carries .world in
-      let D = demand-2 ms (worldIn l) g calls (rw w at ground) in
+      let D = demand-2 standard-fit ms (worldIn l) g calls (rw w at ground) in
       record { boots = rw w (D .boots); alike = rw (w, words-follow ok calls .carries .world) (D .alike) }

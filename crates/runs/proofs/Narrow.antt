@@ -22,6 +22,7 @@ use Rattle.list.specs.Linked.Seg.{seg-none, seg-more}
 use Rattle.list.proofs.Count.{holes}
 use Rattle.list.proofs.Laws.{all-map, seg-last}
 use Rattle.region.specs.Rep.{SoundRow, managed}
+use Rattle.world.specs.Fit.{standard-fit}
 use Rattle.world.specs.Stands.{Each, GoodRows}
 use Rattle.world.specs.Stands.Each.{each-none, each-more}
 use Rattle.world.specs.Stands.GoodRows.{good-more}
@@ -48,9 +49,9 @@ module _ {f : ℕ → Record} (m : ℕ) where
         count = omega (arith, k .counted, holes m xs (k .distinct) a);
       }
 
-used-narrow : {f : ℕ → Record} {n base : ℕ} {row : Row} → SoundRow f n base row → NarrowRow row
+used-narrow : {f : ℕ → Record} {n base : ℕ} {row : Row} → SoundRow standard f n base row → NarrowRow row
 used-narrow {base = base} {row = row} R =
-    let m = base + managed (row .pages) in
+    let m = base + managed standard (row .pages) in
     record {
       six = R .six;
       narrow = λ k h. linked-narrow m (R .small) (R .lists k h) (all-map (λ q i. i .inside .high) (R .listed k));
@@ -88,14 +89,14 @@ blanks-narrow (row ∷ rows) s e =
 
 module _ {f : ℕ → Record} {n : ℕ} where
   rows-narrow : {base : ℕ} (rows : List Row) → all sixLists rows ≡ true → all isNoRow (drop (length (usedRows rows)) rows) ≡ true
-      → GoodRows f n base (usedRows rows) → Each NarrowRow rows
+      → GoodRows standard f n base (usedRows rows) → Each NarrowRow rows
   unfolding all usedRows
   rows-narrow [] s e G = each-none
   rows-narrow {base} (row ∷ rows) s e G = go (eqb (row .pages) 0) e G (λ h rest. rows-narrow rows (and-right (sixLists row) _ s) h rest)
     where
       go : (t : Bool) → all isNoRow (drop (length (cond t [] (row ∷ usedRows rows))) (row ∷ rows)) ≡ true
-          → GoodRows f n base (cond t [] (row ∷ usedRows rows))
-          → (all isNoRow (drop (length (usedRows rows)) rows) ≡ true → GoodRows f n (base + managed (row .pages)) (usedRows rows) → Each NarrowRow rows)
+          → GoodRows standard f n base (cond t [] (row ∷ usedRows rows))
+          → (all isNoRow (drop (length (usedRows rows)) rows) ≡ true → GoodRows standard f n (base + managed standard (row .pages)) (usedRows rows) → Each NarrowRow rows)
           → Each NarrowRow (row ∷ rows)
       go true h G more = blanks-narrow (row ∷ rows) s h
       go false h (good-more g rest) more = each-more (used-narrow (g .sound)) (more h rest)
@@ -104,5 +105,5 @@ pub sound-narrow : (w : World) → sound standard w ≡ true → Narrow (w .rows
 sound-narrow w e =
     let S = sound-is standard w e in
     let b = as-boot (w .rows) (S .rows) in
-    let each = rows-narrow (w .rows) (b .six) (b .unused) (sound-rows w S) in
+    let each = rows-narrow (w .rows) (b .six) (b .unused) (sound-rows standard-fit w S) in
     record { eight = b .eight; narrow = λ i h. each-at noRow each i (omega (arith, b .eight)) }

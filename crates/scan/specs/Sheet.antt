@@ -9,7 +9,7 @@ use lib.ListN.{getD}
 use Rattle.definition.specs.declared.Record.{Record}
 use Rattle.definition.specs.declared.Links.{Links}
 use Rattle.definition.specs.declared.Row.{Row}
-use Rattle.definition.specs.Board.{standard}
+use Rattle.definition.specs.Board.{Board}
 use Rattle.definition.specs.Basics.{all, sum, range, member}
 use Rattle.definition.specs.Frame.{size, levels}
 use Rattle.definition.specs.Allocator.{managed}
@@ -34,25 +34,6 @@ use Rattle.scan.specs.declared.Scanned.{Scanned}
 use Rattle.scan.specs.declared.Whole.{Whole}
 
 -- ---- of a placed row
-
-abbrev pub tiledRow : Records → Placed → Bool
-tiledRow f x = all (isHead standard f x) (heads standard f x)
-
-abbrev pub aloneRow : Records → Placed → Bool
-aloneRow f x = all (λ h. aloneIfHeld (f h)) (heads standard f x)
-
-abbrev pub walksRow : Records → Placed → Bool
-walksRow f x = all (listWalks standard f x) (range 0 6)
-
-abbrev pub listedRow : Records → Placed → Bool
-listedRow f x = all (onItsList f x) (heads standard f x)
-
-abbrev pub heldRow : Bool → Records → Placed → ℕ
-heldRow kernel f x = sum (λ h. heldAs kernel (f h)) (heads standard f x)
-
--- the four clauses of the sheet that speak of a region's records
-abbrev pub wholeRow : Records → Placed → Bool
-wholeRow f x = tiledRow f x && (aloneRow f x && (walksRow f x && listedRow f x))
 
 abbrev pub placedAt : ℕ → Row → Placed
 placedAt base row = record { base = base; row = row }
@@ -145,9 +126,29 @@ pub record Tallied (f : Records) (from base past : ℕ) (r : Scanned) : Type 0 w
   pub kernel : r .ok ≡ true → r .kernel ≡ heldAt true f base past
   pub few : r .ok ≡ true → r .page + r .kernel ≤ past - base
 
--- whether a row's region is whole, and if so the pages held without and with KERNEL, which with those on its lists are all that it manages
-pub record Audited (f : Records) (x : Placed) (r : Whole) : Type 0 where
-  pub exact : r .ok ≡ wholeRow f x
-  pub page : r .ok ≡ true → r .page ≡ heldRow false f x
-  pub kernel : r .ok ≡ true → r .kernel ≡ heldRow true f x
-  pub pages : r .ok ≡ true → listedPages x + r .page + r .kernel ≡ managed standard (bareRegion standard (x .row))
+module _ (board : Board) where
+  abbrev pub tiledRow : Records → Placed → Bool
+  tiledRow f x = all (isHead board f x) (heads board f x)
+
+  abbrev pub aloneRow : Records → Placed → Bool
+  aloneRow f x = all (λ h. aloneIfHeld (f h)) (heads board f x)
+
+  abbrev pub walksRow : Records → Placed → Bool
+  walksRow f x = all (listWalks board f x) (range 0 6)
+
+  abbrev pub listedRow : Records → Placed → Bool
+  listedRow f x = all (onItsList f x) (heads board f x)
+
+  abbrev pub heldRow : Bool → Records → Placed → ℕ
+  heldRow kernel f x = sum (λ h. heldAs kernel (f h)) (heads board f x)
+
+  -- the four clauses of the sheet that speak of a region's records
+  abbrev pub wholeRow : Records → Placed → Bool
+  wholeRow f x = tiledRow f x && (aloneRow f x && (walksRow f x && listedRow f x))
+
+  -- whether a row's region is whole, and if so the pages held without and with KERNEL, which with those on its lists are all that it manages
+  pub record Audited (f : Records) (x : Placed) (r : Whole) : Type 0 where
+    pub exact : r .ok ≡ wholeRow f x
+    pub page : r .ok ≡ true → r .page ≡ heldRow false f x
+    pub kernel : r .ok ≡ true → r .kernel ≡ heldRow true f x
+    pub pages : r .ok ≡ true → listedPages x + r .page + r .kernel ≡ managed board (bareRegion board (x .row))

@@ -394,7 +394,7 @@ pub fn region_whole(
     requires { ⌜ InUse (now words) i × (row ≡ rowOf (rowsIn (now words)) i) ⌝ }
     requires { ⌜ (from ≡ first standard (bareRegion standard row)) × (past ≡ pastOf standard (placedAt base row)) ⌝ }
     requires { ⌜ (past ≤ pagesIn (now records)) × (from + (past - base) < 2 ^ 64) ⌝ }
-    ensures { λ r. ⌜ Audited (recordAt (now (records .entry))) (placedAt base row) r ⌝ }
+    ensures { λ r. ⌜ Audited standard (recordAt (now (records .entry))) (placedAt base row) r ⌝ }
 {
     let scanned = scan(records, from, base, past);
     let ok = scanned.ok;

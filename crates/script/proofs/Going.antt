@@ -6,6 +6,7 @@ use mathlib.Core.Path.{_≡_, refl, sym, ap, _∙_}
 use native.Mathlib.Omega.{arith}
 use lib.ListN.{length, take, drop, replicate, take-append-drop, drop-of-length-le}
 use lib.Seq.{length-take-le}
+use Rattle.world.specs.Fit.{standard-fit}
 use Rattle.definition.specs.Board.{standard}
 use Rattle.definition.specs.Script.{RunningOn, TurnOn, header, lineOn, lines, linesOn, partsBy, readLine, room, runOn, startedOn, worldAfter}
 use Rattle.definition.specs.Text.{bytesOf}
@@ -149,7 +150,7 @@ gone {script} {ws} {l₀} {l} {first} {out₀} {out} {w₀} {w} {at} {r} f h e g
     let o : onwards (g .run) script at ≡ record { running = g .run; text = [] }
     = ap (λ (ls : List (List ℕ)). linesOn standard (g .run) ls) (lines-none script at e) in
     let t : take w out ≡ printed l₀ script
-    = sym (append-nil (take w out)) ∙ ap (λ (y : TurnOn). take w out ++ y .text) (sym o) ∙ g .text ∙ script-printed (worldBy unbooted l₀) script in
+    = sym (append-nil (take w out)) ∙ ap (λ (y : TurnOn). take w out ++ y .text) (sym o) ∙ g .text ∙ script-printed standard standard-fit (worldBy unbooted l₀) script in
     let v : worldBy (stateWith (r .counters) ws) l ≡ leftBy l₀ script
     = sym (g .stands .world) ∙ ap (λ (y : TurnOn). y .running .world) (sym o) ∙ ap (λ (y : RunningOn). y .world) (g .ends) in
     let d : drop w out ≡ drop w first

@@ -16,6 +16,7 @@ use Rattle.definition.specs.Torn.{Left, call, sound, written as writtenWorld}
 use Rattle.bookkeeping.proofs.Answers.{answered}
 use Rattle.words.proofs.Words.{counters-again}
 use Rattle.audit.proofs.Sheets.{sound-is}
+use Rattle.world.specs.Fit.{standard-fit}
 use Rattle.world.proofs.Calling.{torn-call}
 use Rattle.world.proofs.RoundTrip.{round-trip}
 use Rattle.exam.specs.declared.Answer.{Answer}
@@ -55,12 +56,12 @@ module _ (w : World) (c : Call) where
   call-untouched small d = go (sound standard w) refl
     where
       go : (t : Bool) → sound standard w ≡ t → call standard w c .world ≡ w
-      go false e = ap (λ (x : Left). x .world) (torn-call w c e)
+      go false e = ap (λ (x : Left). x .world) (torn-call standard w c e)
       go true e =
           let f = refused-by (step standard (decode standard w) c .answer) (rw (whole-call e) at d) in
           ap (λ (x : Left). x .world) (whole-call e)
           ∙ ap (λ (s : Store). encode standard s w) (answered standard (decode standard w) c .untouched (f .0) (f .1))
-          ∙ round-trip w (sound-is standard w e) small
+          ∙ round-trip standard-fit w (sound-is standard w e) small
 
 -- ---- the words and the answer
 

@@ -8,9 +8,11 @@ use mathlib.Core.Path.{_≡_, refl, sym, ap, _∙_, subst}
 use native.Mathlib.Omega.{arith}
 use lib.ListN.{length, getD, length-append, List·getD-append}
 use lib.Seq.{getD-append-add}
+use Rattle.world.proofs.Bytes.{address-is, byte-inside, offset-small, pages-none, pages-sum}
+use Rattle.world.specs.Fit.{Fit}
 use Rattle.definition.specs.declared.Record.{Record}
 use Rattle.definition.specs.Basics.{any, sum, range}
-use Rattle.definition.specs.Board.{standard}
+use Rattle.definition.specs.Board.{Board}
 use Rattle.definition.specs.Boot.{managedPages}
 use Rattle.definition.specs.Frame.{Frames}
 use Rattle.definition.specs.Allocator.{AllocationRegion, first, managed, contains, isManaged}
@@ -84,113 +86,117 @@ pages-read f p (suc n) xs s (suc i) h =
 
 -- ---- regions: the first has the page number `base`
 
--- the records f are those of the regions' pages
-pub data Written (f : ℕ → Record) (fs : Frames) : ℕ → List AllocationRegion → Type 0 where
-  written-none : {base : ℕ} → Written f fs base []
-  written-more
-      : {base : ℕ} {r : AllocationRegion} {rs : List AllocationRegion}
-      → ((i : ℕ) → i < managed standard r → f (base + i) ≡ recordOf standard base r fs (first standard r + i))
-      → Written f fs (base + managed standard r) rs → Written f fs base (r ∷ rs)
+module _ (board : Board) where
+  -- the records f are those of the regions' pages
+  pub data Written (f : ℕ → Record) (fs : Frames) : ℕ → List AllocationRegion → Type 0 where
+    written-none : {base : ℕ} → Written f fs base []
+    written-more
+        : {base : ℕ} {r : AllocationRegion} {rs : List AllocationRegion}
+        → ((i : ℕ) → i < managed board r → f (base + i) ≡ recordOf board base r fs (first board r + i))
+        → Written f fs (base + managed board r) rs → Written f fs base (r ∷ rs)
 
--- each of these fits its bytes
-pub data Fitting (fs : Frames) : ℕ → List AllocationRegion → Type 0 where
-  fitting-none : {base : ℕ} → Fitting fs base []
-  fitting-more
-      : {base : ℕ} {r : AllocationRegion} {rs : List AllocationRegion}
-      → ((i : ℕ) → i < managed standard r → Small (recordOf standard base r fs (first standard r + i)))
-      → Fitting fs (base + managed standard r) rs → Fitting fs base (r ∷ rs)
+  -- each of these fits its bytes
+  pub data Fitting (fs : Frames) : ℕ → List AllocationRegion → Type 0 where
+    fitting-none : {base : ℕ} → Fitting fs base []
+    fitting-more
+        : {base : ℕ} {r : AllocationRegion} {rs : List AllocationRegion}
+        → ((i : ℕ) → i < managed board r → Small (recordOf board base r fs (first board r + i)))
+        → Fitting fs (base + managed board r) rs → Fitting fs base (r ∷ rs)
 
-module _ (fs : Frames) where
-  pub regions-length : (base : ℕ) (rs : List AllocationRegion) → length (regionsBytes standard base fs rs) ≡ 16 * managedPages standard rs
-  unfolding regionsBytes sum
-  regions-length base [] = refl
-  regions-length base (r ∷ rs) =
-      simp length-append
-      (omega (
-        arith,
-        pages-length (recordOf standard base r fs) (first standard r) (managed standard r),
-        regions-length (base + managed standard r) rs,
-      ))
+  module _ (fs : Frames) where
+    pub regions-length : (base : ℕ) (rs : List AllocationRegion) → length (regionsBytes board base fs rs) ≡ 16 * managedPages board rs
+    unfolding regionsBytes sum
+    regions-length base [] = refl
+    regions-length base (r ∷ rs) =
+        simp length-append
+        (omega (
+          arith,
+          pages-length (recordOf board base r fs) (first board r) (managed board r),
+          regions-length (base + managed board r) rs,
+        ))
 
-  written-from : (pre : List ℕ) (base : ℕ) (rs : List AllocationRegion) (xs : List ℕ) → length pre ≡ 16 * base → Fitting fs base rs
-      → Written (recordAt (pre ++ (regionsBytes standard base fs rs ++ xs))) fs base rs
-  unfolding regionsBytes
-  written-from pre base [] xs e fitting-none = written-none
-  written-from pre base (r ∷ rs) xs e (fitting-more s more) =
-      written-more
-      (λ i h.
-      record-after pre (here ++ rest ++ xs) i (base + i) (omega arith)
-      ∙ (ap (λ (l : List ℕ). recordAt l i) (append-assoc here rest xs)
-      ∙ pages-read (recordOf standard base r fs) (first standard r) (managed standard r) (rest ++ xs) s i h))
-      (subst (λ (l : List ℕ). Written (recordAt l) fs (base + managed standard r) rs)
-      (append-assoc pre here (rest ++ xs) ∙ ap (λ (l : List ℕ). pre ++ l) (sym (append-assoc here rest xs)))
-      (written-from (pre ++ here) (base + managed standard r) rs xs
-      (simp length-append (omega (arith, pages-length (recordOf standard base r fs) (first standard r) (managed standard r)))) more))
-    where
-      here : List ℕ
-      here = pagesBytes (recordOf standard base r fs) (range (first standard r) (managed standard r))
+    written-from : (pre : List ℕ) (base : ℕ) (rs : List AllocationRegion) (xs : List ℕ) → length pre ≡ 16 * base → Fitting fs base rs
+        → Written (recordAt (pre ++ (regionsBytes board base fs rs ++ xs))) fs base rs
+    unfolding regionsBytes
+    written-from pre base [] xs e fitting-none = written-none
+    written-from pre base (r ∷ rs) xs e (fitting-more s more) =
+        written-more
+        (λ i h.
+        record-after pre (here ++ rest ++ xs) i (base + i) (omega arith)
+        ∙ (ap (λ (l : List ℕ). recordAt l i) (append-assoc here rest xs)
+        ∙ pages-read (recordOf board base r fs) (first board r) (managed board r) (rest ++ xs) s i h))
+        (subst (λ (l : List ℕ). Written (recordAt l) fs (base + managed board r) rs)
+        (append-assoc pre here (rest ++ xs) ∙ ap (λ (l : List ℕ). pre ++ l) (sym (append-assoc here rest xs)))
+        (written-from (pre ++ here) (base + managed board r) rs xs
+        (simp length-append (omega (arith, pages-length (recordOf board base r fs) (first board r) (managed board r)))) more))
+      where
+        here : List ℕ
+        here = pagesBytes (recordOf board base r fs) (range (first board r) (managed board r))
 
-      rest : List ℕ
-      rest = regionsBytes standard (base + managed standard r) fs rs
+        rest : List ℕ
+        rest = regionsBytes board (base + managed board r) fs rs
 
-  pub regions-written : (rs : List AllocationRegion) (xs : List ℕ) → Fitting fs 0 rs → Written (recordAt (regionsBytes standard 0 fs rs ++ xs)) fs 0 rs
-  regions-written rs xs h = written-from [] 0 rs xs refl h
+    pub regions-written : (rs : List AllocationRegion) (xs : List ℕ) → Fitting fs 0 rs → Written (recordAt (regionsBytes board 0 fs rs ++ xs)) fs 0 rs
+    regions-written rs xs h = written-from [] 0 rs xs refl h
 
 -- ---- the memory
 
-module _ (m : Memory) where
-  run-length : (a n : ℕ) → length (bytesAt m a n) ≡ n
-  unfolding bytesAt
-  run-length a zero = refl
-  run-length a (suc n) = ap suc (run-length (a + 1) n)
+module _ (board : Board) (fit : Fit board) where
+  module _ (m : Memory) where
+    run-length : (a n : ℕ) → length (bytesAt m a n) ≡ n
+    unfolding bytesAt
+    run-length a zero = refl
+    run-length a (suc n) = ap suc (run-length (a + 1) n)
 
-  run-read : (a n i : ℕ) → i < n → getD (bytesAt m a n) i 0 ≡ m (a + i)
-  unfolding bytesAt
-  run-read a zero i h = absurd (omega arith)
-  run-read a (suc n) zero h = ap m (omega arith)
-  run-read a (suc n) (suc i) h = run-read (a + 1) n i (omega arith) ∙ ap m (omega arith)
+    run-read : (a n i : ℕ) → i < n → getD (bytesAt m a n) i 0 ≡ m (a + i)
+    unfolding bytesAt
+    run-read a zero i h = absurd (omega arith)
+    run-read a (suc n) zero h = ap m (omega arith)
+    run-read a (suc n) (suc i) h = run-read (a + 1) n i (omega arith) ∙ ap m (omega arith)
 
-  pub memory-length : (rs : List AllocationRegion) → length (memoryBytes standard m rs) ≡ 4096 * managedPages standard rs
-  unfolding memoryBytes sum
-  memory-length [] = refl
-  memory-length (r ∷ rs) =
-      simp length-append (omega (arith, run-length (4096 * first standard r) (4096 * managed standard r), memory-length rs))
+    pub memory-length : (rs : List AllocationRegion) → length (memoryBytes board m rs) ≡ board .page * managedPages board rs
+    unfolding memoryBytes sum
+    memory-length [] = sym (pages-none (board .page))
+    memory-length (r ∷ rs) =
+        simp length-append (omega (arith, run-length (board .page * first board r) (board .page * managed board r), memory-length rs))
 
-  -- a byte of the loan is the store's where some region manages its page
-  read-from : (pre : List ℕ) (base : ℕ) (rs : List AllocationRegion) (xs : List ℕ) → length pre ≡ 4096 * base → (a : ℕ)
-      → byteAt standard (pre ++ (memoryBytes standard m rs ++ xs)) a (numberIn standard base rs (a / 4096)) ≡ cond (isManaged standard rs (a / 4096)) (m a) 0
-  unfolding memoryBytes numberIn isManaged any
-  read-from pre base [] xs e a = refl
-  read-from pre base (r ∷ rs) xs e a =
-      go (contains standard r (a / 4096)) refl
-      (read-from (pre ++ here) (base + managed standard r) rs xs
-      (simp length-append (omega (arith, run-length (4096 * first standard r) (4096 * managed standard r)))) a)
-    where
-      here : List ℕ
-      here = bytesAt m (4096 * first standard r) (4096 * managed standard r)
+    -- a byte of the loan is the store's where some region manages its page
+    read-from : (pre : List ℕ) (base : ℕ) (rs : List AllocationRegion) (xs : List ℕ) → length pre ≡ board .page * base → (a : ℕ)
+        → byteAt board (pre ++ (memoryBytes board m rs ++ xs)) a (numberIn board base rs (a / board .page)) ≡ cond (isManaged board rs (a / board .page)) (m a) 0
+    unfolding memoryBytes numberIn isManaged any
+    read-from pre base [] xs e a = refl
+    read-from pre base (r ∷ rs) xs e a =
+        go (contains board r (a / board .page)) refl
+        (read-from (pre ++ here) (base + managed board r) rs xs
+        (simp length-append (omega (arith, run-length (board .page * first board r) (board .page * managed board r)))) a)
+      where
+        here : List ℕ
+        here = bytesAt m (board .page * first board r) (board .page * managed board r)
 
-      rest : List ℕ
-      rest = memoryBytes standard m rs
+        rest : List ℕ
+        rest = memoryBytes board m rs
 
-      go : (t : Bool) → contains standard r (a / 4096) ≡ t
-          → byteAt standard ((pre ++ here) ++ (rest ++ xs)) a (numberIn standard (base + managed standard r) rs (a / 4096))
-          ≡ cond (isManaged standard rs (a / 4096)) (m a) 0
-          → byteAt standard (pre ++ (here ++ rest ++ xs)) a
-          (cond t (some (pageNumber standard base r (a / 4096))) (numberIn standard (base + managed standard r) rs (a / 4096)))
-          ≡ cond (t || isManaged standard rs (a / 4096)) (m a) 0
-      go true c more =
-          let x = contains-facts standard r (a / 4096) c in
-          let i : ℕ = 4096 * (a / 4096 - first standard r) + a % 4096 in
-          let k : 4096 * first standard r + i ≡ a = omega arith in
-          byte-after pre (here ++ rest ++ xs) i (4096 * pageNumber standard base r (a / 4096) + a % 4096) (omega arith)
-          ∙ (ap (λ (l : List ℕ). getD l i 0) (append-assoc here rest xs)
-          ∙ (List·getD-append here (rest ++ xs) 0 i (omega (arith, run-length (4096 * first standard r) (4096 * managed standard r)))
-          ∙ (run-read (4096 * first standard r) (4096 * managed standard r) i (omega arith) ∙ ap m k)))
-      go false c more =
-          subst (λ (l : List ℕ).
-          byteAt standard l a (numberIn standard (base + managed standard r) rs (a / 4096)) ≡ cond (isManaged standard rs (a / 4096)) (m a) 0)
-          (append-assoc pre here (rest ++ xs) ∙ ap (λ (l : List ℕ). pre ++ l) (sym (append-assoc here rest xs))) more
+        go : (t : Bool) → contains board r (a / board .page) ≡ t
+            → byteAt board ((pre ++ here) ++ (rest ++ xs)) a (numberIn board (base + managed board r) rs (a / board .page))
+            ≡ cond (isManaged board rs (a / board .page)) (m a) 0
+            → byteAt board (pre ++ (here ++ rest ++ xs)) a
+            (cond t (some (pageNumber board base r (a / board .page))) (numberIn board (base + managed board r) rs (a / board .page)))
+            ≡ cond (t || isManaged board rs (a / board .page)) (m a) 0
+        go true c more =
+            let x = contains-facts board r (a / board .page) c in
+            let i : ℕ = board .page * (a / board .page - first board r) + a % board .page in
+            let sums = pages-sum (board .page) {p = a / board .page} (first board r) (a / board .page - first board r) (omega arith) in
+            let k : board .page * first board r + i ≡ a = omega (arith, sums, address-is (board .page) a) in
+            let low : i < board .page * managed board r = byte-inside (board .page) (a / board .page - first board r) (managed board r) (a % board .page) (omega arith) (offset-small (board .page) (omega (arith, fit .least)) a) in
+            byte-after pre (here ++ rest ++ xs) i (board .page * pageNumber board base r (a / board .page) + a % board .page) (omega arith)
+            ∙ (ap (λ (l : List ℕ). getD l i 0) (append-assoc here rest xs)
+            ∙ (List·getD-append here (rest ++ xs) 0 i (omega (arith, run-length (board .page * first board r) (board .page * managed board r)))
+            ∙ (run-read (board .page * first board r) (board .page * managed board r) i (omega arith) ∙ ap m k)))
+        go false c more =
+            subst (λ (l : List ℕ).
+            byteAt board l a (numberIn board (base + managed board r) rs (a / board .page)) ≡ cond (isManaged board rs (a / board .page)) (m a) 0)
+            (append-assoc pre here (rest ++ xs) ∙ ap (λ (l : List ℕ). pre ++ l) (sym (append-assoc here rest xs))) more
 
-  pub memory-read : (rs : List AllocationRegion) (xs : List ℕ) (a : ℕ)
-      → byteAt standard (memoryBytes standard m rs ++ xs) a (numberIn standard 0 rs (a / 4096)) ≡ cond (isManaged standard rs (a / 4096)) (m a) 0
-  memory-read rs xs a = read-from [] 0 rs xs refl a
+    pub memory-read : (rs : List AllocationRegion) (xs : List ℕ) (a : ℕ)
+        → byteAt board (memoryBytes board m rs ++ xs) a (numberIn board 0 rs (a / board .page)) ≡ cond (isManaged board rs (a / board .page)) (m a) 0
+    memory-read rs xs a = read-from [] 0 rs xs (sym (pages-none (board .page))) a

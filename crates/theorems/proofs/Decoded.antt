@@ -8,12 +8,14 @@ use mathlib.Core.Path.{_≡_, refl, sym, ap, ap₂, _∙_, fun-ext}
 use native.Mathlib.Omega.{arith}
 use lib.ListN.{length, take, drop}
 use lib.Seq.{take-at}
+use Rattle.world.proofs.Bytes.{pages-of}
+use Rattle.world.specs.Fit.{Fit}
 use Rattle.definition.specs.declared.Counters.{Counters}
 use Rattle.definition.specs.declared.MemoryRegion.{MemoryRegion}
 use Rattle.definition.specs.declared.Pass.{Pass}
 use Rattle.definition.specs.declared.Record.{Record}
 use Rattle.definition.specs.Basics.{any}
-use Rattle.definition.specs.Board.{standard}
+use Rattle.definition.specs.Board.{Board}
 use Rattle.definition.specs.Frame.{Frames}
 use Rattle.definition.specs.Allocator.{AllocationRegion, PhysicalFrameAllocator, first, managed, contains, isManaged}
 use Rattle.definition.specs.Book.{Book}
@@ -49,9 +51,10 @@ use Rattle.theorems.proofs.Rows.{used-rows}
 use Rattle.theorems.proofs.Encoded.{Sheets, Fits, written-records, all-regions, queue-length}
 use Rattle.theorems.proofs.Encoded.Sheets.{sheets-none, sheets-more}
 
--- the memory is 0 at every address that no region manages
-abbrev pub ZeroElsewhere : Store → Type 0
-ZeroElsewhere s = (a : ℕ) → isManaged standard (s .allocator .regions) (a / 4096) ≡ false → s .memory a ≡ 0
+module _ (board : Board) where
+  -- the memory is 0 at every address that no region manages
+  abbrev pub ZeroElsewhere : Store → Type 0
+  ZeroElsewhere s = (a : ℕ) → isManaged board (s .allocator .regions) (a / board .page) ≡ false → s .memory a ≡ 0
 
 -- ---- the regions
 
@@ -63,59 +66,62 @@ all-to : {A : Type 0} {P Q : A → Type 0} {xs : List A} → ((x : A) → P x �
 all-to h all-none = all-none
 all-to h (all-more {x = x} a more) = all-more {x = x} (h x a) (all-to h more)
 
-module _ {fs : Frames} {r : AllocationRegion} (K : Kept fs r) where
-  slot-low : (l : ℕ) (z : Bool) (p : ℕ) → IsFree standard fs r l z p → first standard r ≤ p
-  slot-low l z p i = contains-facts standard r p (i .inside) .0
+module _ {board : Board} (fit : Fit board) where
+  module _ {fs : Frames} {r : AllocationRegion} (K : Kept board fs r) where
+    slot-low : (l : ℕ) (z : Bool) (p : ℕ) → IsFree board fs r l z p → first board r ≤ p
+    slot-low l z p i = contains-facts board r p (i .inside) .0
 
-  free-low : (k : ℕ) → All (λ (p : ℕ). first standard r ≤ p) (r .free k)
-  free-low zero = all-to (slot-low 0 false) (K .lists .each 0 false (omega arith))
-  free-low (suc zero) = all-to (slot-low 0 true) (K .lists .each 0 true (omega arith))
-  free-low (suc (suc zero)) = all-to (slot-low 1 false) (K .lists .each 1 false (omega arith))
-  free-low (suc (suc (suc zero))) = all-to (slot-low 1 true) (K .lists .each 1 true (omega arith))
-  free-low (suc (suc (suc (suc zero)))) = all-to (slot-low 2 false) (K .lists .each 2 false (omega arith))
-  free-low (suc (suc (suc (suc (suc zero))))) = all-to (slot-low 2 true) (K .lists .each 2 true (omega arith))
-  free-low (suc (suc (suc (suc (suc (suc j)))))) = rw (K .six (suc (suc (suc (suc (suc (suc j)))))) (omega arith)) all-none
+    free-low : (k : ℕ) → All (λ (p : ℕ). first board r ≤ p) (r .free k)
+    free-low zero = all-to (slot-low 0 false) (K .lists .each 0 false (omega arith))
+    free-low (suc zero) = all-to (slot-low 0 true) (K .lists .each 0 true (omega arith))
+    free-low (suc (suc zero)) = all-to (slot-low 1 false) (K .lists .each 1 false (omega arith))
+    free-low (suc (suc (suc zero))) = all-to (slot-low 1 true) (K .lists .each 1 true (omega arith))
+    free-low (suc (suc (suc (suc zero)))) = all-to (slot-low 2 false) (K .lists .each 2 false (omega arith))
+    free-low (suc (suc (suc (suc (suc zero))))) = all-to (slot-low 2 true) (K .lists .each 2 true (omega arith))
+    free-low (suc (suc (suc (suc (suc (suc j)))))) = rw (K .six (suc (suc (suc (suc (suc (suc j)))))) (omega arith)) all-none
 
-  same-region : {a b c d : ℕ} {f g : ℕ → List ℕ} → a ≡ b → c ≡ d → f ≡ g
-      → _≡_ {A = AllocationRegion} (record { start = a; pages = c; free = f }) (record { start = b; pages = d; free = g })
-  same-region p q t = cc
+    same-region : {a b c d : ℕ} {f g : ℕ → List ℕ} → a ≡ b → c ≡ d → f ≡ g
+        → _≡_ {A = AllocationRegion} (record { start = a; pages = c; free = f }) (record { start = b; pages = d; free = g })
+    same-region p q t = cc
 
-  region-back : (f : ℕ → Record) (base : ℕ) → Sheet f fs base r → decodeRow standard f base (encodeRow standard base r) ≡ r
-  region-back f base S =
-      same-region (omega arith) refl
-      (fun-ext (λ k.
-      ap (map (λ (q : ℕ). first standard (bareRegion standard (encodeRow standard base r)) + (q - base))) (S .lists k)
-      ∙ map-back (λ (q : ℕ). first standard (bareRegion standard (encodeRow standard base r)) + (q - base)) (pageNumber standard base r)
-      (all-to (λ q i. omega arith) (free-low k))))
+    region-back : (f : ℕ → Record) (base : ℕ) → Sheet board f fs base r → decodeRow board f base (encodeRow board base r) ≡ r
+    region-back f base S =
+        same-region (pages-of (board .page) (omega (arith, fit .least)) (r .start)) refl
+        (fun-ext (λ k.
+        ap (map (λ (q : ℕ). first board (bareRegion board (encodeRow board base r)) + (q - base))) (S .lists k)
+        ∙ map-back (λ (q : ℕ). first board (bareRegion board (encodeRow board base r)) + (q - base)) (pageNumber board base r)
+        (all-to (λ q i. omega (arith, pages-of (board .page) (omega (arith, fit .least)) (r .start))) (free-low k))))
 
-regions-back : {f : ℕ → Record} {fs : Frames} {base : ℕ} {rs : List AllocationRegion} → All (Kept fs) rs → Sheets f fs base rs
-    → decodeRows standard f base (encodeRows standard base rs) ≡ rs
-unfolding decodeRows encodeRows
-regions-back all-none sheets-none = refl
-regions-back {f} (all-more K more) (sheets-more {base = base} S rest) =
-    ap₂ (λ (x : AllocationRegion) (y : List AllocationRegion). x ∷ y) (region-back K f base S) (regions-back more rest)
+  regions-back : {f : ℕ → Record} {fs : Frames} {base : ℕ} {rs : List AllocationRegion} → All (Kept board fs) rs → Sheets board f fs base rs
+      → decodeRows board f base (encodeRows board base rs) ≡ rs
+  unfolding decodeRows encodeRows
+  regions-back all-none sheets-none = refl
+  regions-back {f} (all-more K more) (sheets-more {base = base} S rest) =
+      ap₂ (λ (x : AllocationRegion) (y : List AllocationRegion). x ∷ y) (region-back K f base S) (regions-back more rest)
 
 -- ---- the frames
 
-frame-read : (base : ℕ) (r : AllocationRegion) (fs : Frames) (p : ℕ) → frameOf (recordOf standard base r fs p) ≡ fs p
-unfolding recordOf
-frame-read base r fs p = frame-back (fs p) _ _
+module _ (board : Board) where
+  frame-read : (base : ℕ) (r : AllocationRegion) (fs : Frames) (p : ℕ) → frameOf (recordOf board base r fs p) ≡ fs p
+  unfolding recordOf
+  frame-read base r fs p = frame-back (fs p) _ _
 
-frames-read : {f : ℕ → Record} {fs : Frames} {base : ℕ} {rs : List AllocationRegion} → All (Kept fs) rs → Written f fs base rs → (p : ℕ)
-    → frameAt f (numberIn standard base rs p) ≡ cond (isManaged standard rs p) (fs p) none
-unfolding numberIn isManaged any
-frames-read all-none written-none p = refl
-frames-read {f} {fs} (all-more K more) (written-more {base = base} {r = r} {rs = rs} w rest) p = go (contains standard r p) refl (frames-read more rest p)
-  where
-    go : (t : Bool) → contains standard r p ≡ t
-        → frameAt f (numberIn standard (base + managed standard r) rs p) ≡ cond (isManaged standard rs p) (fs p) none
-        → frameAt f (cond t (some (pageNumber standard base r p)) (numberIn standard (base + managed standard r) rs p))
-        ≡ cond (t || isManaged standard rs p) (fs p) none
-    go false c h = h
-    go true c h =
-        let x = contains-facts standard r p c in
-        let e : first standard r + (p - first standard r) ≡ p = omega arith in
-        ap frameOf (rw e at (w (p - first standard r) (omega (arith, ended K)))) ∙ frame-read base r fs p
+module _ {board : Board} where
+  frames-read : {f : ℕ → Record} {fs : Frames} {base : ℕ} {rs : List AllocationRegion} → All (Kept board fs) rs → Written board f fs base rs → (p : ℕ)
+      → frameAt f (numberIn board base rs p) ≡ cond (isManaged board rs p) (fs p) none
+  unfolding numberIn isManaged any
+  frames-read all-none written-none p = refl
+  frames-read {f} {fs} (all-more K more) (written-more {base = base} {r = r} {rs = rs} w rest) p = go (contains board r p) refl (frames-read more rest p)
+    where
+      go : (t : Bool) → contains board r p ≡ t
+          → frameAt f (numberIn board (base + managed board r) rs p) ≡ cond (isManaged board rs p) (fs p) none
+          → frameAt f (cond t (some (pageNumber board base r p)) (numberIn board (base + managed board r) rs p))
+          ≡ cond (t || isManaged board rs p) (fs p) none
+      go false c h = h
+      go true c h =
+          let x = contains-facts board r p c in
+          let e : first board r + (p - first board r) ≡ p = omega arith in
+          ap frameOf (rw e at (w (p - first board r) (omega (arith, ended K)))) ∙ frame-read board base r fs p
 
 -- ---- the store
 
@@ -128,40 +134,41 @@ either-way : {A : Type 0} (t : Bool) {x y : A} → (t ≡ false → x ≡ y) →
 either-way true h = refl
 either-way false h = sym (h refl)
 
-module _ {map : List MemoryRegion} {s : Store} {k : Book} (w : World) (G : Good standard map s k) (F : Fits s w) (Z : ZeroElsewhere s) where
-  abbrev rs : List AllocationRegion
-  rs = s .allocator .regions
+module _ {board : Board} (fit : Fit board) where
+  module _ {map : List MemoryRegion} {s : Store} {k : Book} (w : World) (G : Good board map s k) (F : Fits board s w) (Z : ZeroElsewhere board s) where
+    abbrev rs : List AllocationRegion
+    rs = s .allocator .regions
 
-  abbrev fs : Frames
-  fs = s .allocator .frames
+    abbrev fs : Frames
+    fs = s .allocator .frames
 
-  abbrev v : World
-  v = encode standard s w
+    abbrev v : World
+    v = encode board s w
 
-  used-are : usedRows (v .rows) ≡ encodeRows standard 0 rs
-  unfolding encode
-  used-are = used-rows (G .asBoot)
+    used-are : usedRows (v .rows) ≡ encodeRows board 0 rs
+    unfolding encode
+    used-are = used-rows (G .asBoot)
 
-  regions-are : decodeRows standard (recordAt (v .records)) 0 (usedRows (v .rows)) ≡ rs
-  regions-are = ap (decodeRows standard (recordAt (v .records)) 0) used-are ∙ regions-back (good-kept G) (all-regions w G F)
+    regions-are : decodeRows board (recordAt (v .records)) 0 (usedRows (v .rows)) ≡ rs
+    regions-are = ap (decodeRows board (recordAt (v .records)) 0) used-are ∙ regions-back fit (good-kept G) (all-regions fit w G F)
 
-  frames-are : (p : ℕ) → frameAt (recordAt (v .records)) (numberIn standard 0 rs p) ≡ fs p
-  frames-are p = frames-read (good-kept G) (written-records w G F) p ∙ either-way (isManaged standard rs p) (G .bare p)
+    frames-are : (p : ℕ) → frameAt (recordAt (v .records)) (numberIn board 0 rs p) ≡ fs p
+    frames-are p = frames-read (good-kept G) (written-records fit w G F) p ∙ either-way (isManaged board rs p) (G .bare p)
 
-  memory-is : (a : ℕ) → decodeWith standard v rs .memory a ≡ s .memory a
-  unfolding encode
-  memory-is a = memory-read (s .memory) rs _ a ∙ either-way (isManaged standard rs (a / 4096)) (Z a)
+    memory-is : (a : ℕ) → decodeWith board v rs .memory a ≡ s .memory a
+    unfolding encode
+    memory-is a = memory-read board fit (s .memory) rs _ a ∙ either-way (isManaged board rs (a / board .page)) (Z a)
 
-  queue-is : take (v .queued) (v .queue) ≡ s .queue
-  unfolding encode
-  queue-is = take-at (s .queue) (drop (length (s .queue)) (w .queue)) (length (s .queue)) refl
+    queue-is : take (v .queued) (v .queue) ≡ s .queue
+    unfolding encode
+    queue-is = take-at (s .queue) (drop (length (s .queue)) (w .queue)) (length (s .queue)) refl
 
-  read-back : decodeWith standard v rs ≡ s
-  unfolding encode
-  read-back =
-      same-store (ap (λ (g : Frames). record { frames = g; regions = rs }) (fun-ext frames-are)) (fun-ext memory-is) queue-is
-      (queue-length w G F ∙ sym (F .queue))
+    read-back : decodeWith board v rs ≡ s
+    unfolding encode
+    read-back =
+        same-store (ap (λ (g : Frames). record { frames = g; regions = rs }) (fun-ext frames-are)) (fun-ext memory-is) queue-is
+        (queue-length fit w G F ∙ sym (F .queue))
 
-  pub decode-encode : decode standard (encode standard s w) ≡ s
-  unfolding decode
-  decode-encode = ap (decodeWith standard v) regions-are ∙ read-back
+    pub decode-encode : decode board (encode board s w) ≡ s
+    unfolding decode
+    decode-encode = ap (decodeWith board v) regions-are ∙ read-back

@@ -7,10 +7,11 @@ use mathlib.Core.Option.{Option, none, some}
 use mathlib.Core.Path.{_≡_, refl, sym, ap, ap₂, _∙_, subst}
 use native.Mathlib.Omega.{arith}
 use lib.ListN.{length}
+use Rattle.world.specs.Fit.{Fit}
 use Rattle.definition.specs.declared.MemoryRegion.{MemoryRegion}
 use Rattle.definition.specs.declared.Refusal.{Refusal}
 use Rattle.definition.specs.Basics.{isSome}
-use Rattle.definition.specs.Board.{standard}
+use Rattle.definition.specs.Board.{Board}
 use Rattle.definition.specs.Boot.{keptRegions, bootSheet}
 use Rattle.definition.specs.Calls.{Call, Answer, Ran, step, run}
 use Rattle.definition.specs.Refusal.{lowest}
@@ -22,81 +23,87 @@ use Rattle.definition.specs.Torn.{bootCall, booted}
 use Rattle.definition.specs.World.{World, memoryOf}
 use Rattle.definition.proofs.Tests.{and-left}
 use Rattle.likeness.specs.Likeness.{Sane, groundAlong}
-use Rattle.likeness.proofs.Likeness.{likeness-run}
+use Rattle.likeness.proofs.Likeness.{alike-run}
 use Rattle.bookkeeping.specs.Claim as Claim
 use Rattle.bookkeeping.specs.Claim.{State, next, after, Bookkeeping}
 use Rattle.bookkeeping.specs.Good.{Good}
-use Rattle.bookkeeping.proofs.Bookkeeping.{bookkeeping}
+use Rattle.bookkeeping.proofs.Bookkeeping.{bookkeepingOf}
 use Rattle.theorems.specs.Demands.{Accepted, groundAll, Demand2}
 use Rattle.theorems.proofs.Runs.{Holds, keptPages, holds-decode, call-holds, all-hold, all-answers, stores-same, boot-accepted, boot-holds}
 use Rattle.theorems.proofs.Sanity.{sane-of}
 
 -- ---- the stores after an accepted boot
 
-record Reached (map : List MemoryRegion) (s : Store) : Type 0 where
-  state : State
-  is : state .store ≡ s
-  good : (cs : List Call) → Good standard map (after standard (keptPages map) state cs .store) (after standard (keptPages map) state cs .book)
-  books : (cs : List Call) → Bookkeeping standard map (after standard (keptPages map) state cs .store) (after standard (keptPages map) state cs .book)
+module _ (board : Board) where
+  record Reached (map : List MemoryRegion) (s : Store) : Type 0 where
+    state : State
+    is : state .store ≡ s
+    good : (cs : List Call) → Good board map (after board (keptPages board map) state cs .store) (after board (keptPages board map) state cs .book)
+    books : (cs : List Call) → Bookkeeping board map (after board (keptPages board map) state cs .store) (after board (keptPages board map) state cs .book)
 
-reached-sane : {map : List MemoryRegion} (s : Store) → Reached map s → Sane s
-unfolding after
-reached-sane s R = subst Sane (R .is) (sane-of (R .good []) (R .books []))
+module _ {board : Board} (fit : Fit board) where
+  reached-sane : {map : List MemoryRegion} (s : Store) → Reached board map s → Sane s
+  unfolding after
+  reached-sane s R = subst Sane (R .is) (sane-of fit (R .good []) (R .books []))
 
-reached-next : {map : List MemoryRegion} (s : Store) (c : Call) → Reached map s → Reached map (step standard s c .store)
-unfolding after next
-reached-next {map} s c R =
-    record {
-      state = next standard (keptPages map) (R .state) c;
-      is = ap (λ (t : Store). step standard t c .store) (R .is);
-      good = λ cs. R .good (c ∷ cs);
-      books = λ cs. R .books (c ∷ cs);
-    }
+module _ {board : Board} where
+  reached-next : {map : List MemoryRegion} (s : Store) (c : Call) → Reached board map s → Reached board map (step board s c .store)
+  unfolding after next
+  reached-next {map} s c R =
+      record {
+        state = next board (keptPages board map) (R .state) c;
+        is = ap (λ (t : Store). step board t c .store) (R .is);
+        good = λ cs. R .good (c ∷ cs);
+        books = λ cs. R .books (c ∷ cs);
+      }
 
 -- ---- common ground on worlds is common ground on their stores
 
-ground-same : {map : List MemoryRegion} {w v : World} {x : State} → Holds map w v x → (cs : List Call) → groundAll standard v cs ≡ groundAlong standard (x .store) cs
-unfolding groundAll groundAlong next
-ground-same H [] = refl
-ground-same H (c ∷ cs) =
-    ap₂ (λ (a b : Bool). a && b) (ap (λ (s : Store). commonGround standard s c) (holds-decode H)) (ground-same (call-holds H c) cs)
+module _ {board : Board} (fit : Fit board) where
+  ground-same : {map : List MemoryRegion} {w v : World} {x : State} → Holds board map w v x → (cs : List Call) → groundAll board v cs ≡ groundAlong board (x .store) cs
+  unfolding groundAll groundAlong next
+  ground-same H [] = refl
+  ground-same H (c ∷ cs) =
+      ap₂ (λ (a b : Bool). a && b) (ap (λ (s : Store). commonGround board s c) (holds-decode fit H)) (ground-same (call-holds fit H c) cs)
 
 -- ---- the demand
 
-ground-accepted : (map : List MemoryRegion) (w : World) → groundMap standard map (length (w .records)) (length (w .memory)) ≡ true
-    → Accepted (bootCall standard map w .answer)
-unfolding bootCall
-ground-accepted map w g = go (lowest (bootSheet standard map (length (w .records)) (length (w .memory)))) (and-left _ _ g)
-  where
-    go : (o : Option Refusal) → not (isSome o) ≡ true → Accepted (Torn.unlessRefused w o (booted standard map w) .answer)
-    go none e r h = let z : _≡_ {A = ℕ} 0 1 = cc in omega arith
-    go (some t) e r h = let z : _≡_ {A = ℕ} 0 1 = cc in omega arith
+module _ (board : Board) where
+  ground-accepted : (map : List MemoryRegion) (w : World) → groundMap board map (length (w .records)) (length (w .memory)) ≡ true
+      → Accepted (bootCall board map w .answer)
+  unfolding bootCall
+  ground-accepted map w g = go (lowest (bootSheet board map (length (w .records)) (length (w .memory)))) (and-left _ _ g)
+    where
+      go : (o : Option Refusal) → not (isSome o) ≡ true → Accepted (Torn.unlessRefused w o (booted board map w) .answer)
+      go none e r h = let z : _≡_ {A = ℕ} 0 1 = cc in omega arith
+      go (some t) e r h = let z : _≡_ {A = ℕ} 0 1 = cc in omega arith
 
 same-ran : {s t : Store} {x y : List Answer} → s ≡ t → x ≡ y → _≡_ {A = Ran} (record { store = s; answers = x }) (record { store = t; answers = y })
 same-ran p q = cc
 
-pub demand-2 : (map : List MemoryRegion) (w : World) → groundMap standard map (length (w .records)) (length (w .memory)) ≡ true
-    → (calls : List Call) → groundAll standard (bootCall standard map w .world) calls ≡ true → Demand2 standard map w calls
-demand-2 map w g calls ground =
-    let ok = ground-accepted map w g in
-    let H = boot-holds map w ok in
-    let K = all-hold H calls in
-    let begun = Claim.booted standard map (memoryOf standard (w .memory) (keptRegions standard map)) (length (w .queue)) in
-    let reached : Reached map (begun .store) =
-    record {
-      state = begun;
-      is = refl;
-      good = H .good;
-      books =
-          λ cs.
-          bookkeeping map (length (w .records)) (length (w .memory)) (boot-accepted map w ok) (memoryOf standard (w .memory) (keptRegions standard map))
-          (length (w .queue)) cs .afterwards;
-    } in
-    record {
-      boots = holds-decode H;
-      alike =
-          ap (λ (s : Store). Rust.run standard s calls) (holds-decode H)
-          ∙ (likeness-run (Reached map) reached-sane reached-next (begun .store) reached calls (sym (ground-same H calls) ∙ ground)
-          ∙ ap {B = Option Ran} some
-          (same-ran (sym (holds-decode K ∙ stores-same (keptPages map) begun calls)) (sym (all-answers H calls))));
-    }
+module _ {board : Board} (fit : Fit board) where
+  pub demand-2 : (map : List MemoryRegion) (w : World) → groundMap board map (length (w .records)) (length (w .memory)) ≡ true
+      → (calls : List Call) → groundAll board (bootCall board map w .world) calls ≡ true → Demand2 board map w calls
+  demand-2 map w g calls ground =
+      let ok = ground-accepted board map w g in
+      let H = boot-holds board fit map w ok in
+      let K = all-hold fit H calls in
+      let begun = Claim.booted board map (memoryOf board (w .memory) (keptRegions board map)) (length (w .queue)) in
+      let reached : Reached board map (begun .store) =
+      record {
+        state = begun;
+        is = refl;
+        good = H .good;
+        books =
+            λ cs.
+            bookkeepingOf board (omega (arith, fit .least)) map (length (w .records)) (length (w .memory)) (boot-accepted board map w ok) (memoryOf board (w .memory) (keptRegions board map))
+            (length (w .queue)) cs .afterwards;
+      } in
+      record {
+        boots = holds-decode fit H;
+        alike =
+            ap (λ (s : Store). Rust.run board s calls) (holds-decode fit H)
+            ∙ (alike-run board (record { least = omega (arith, fit .least); most = omega (arith, fit .most) }) (Reached board map) (reached-sane fit) reached-next (begun .store) reached calls (sym (ground-same fit H calls) ∙ ground)
+            ∙ ap {B = Option Ran} some
+            (same-ran (sym (holds-decode fit K ∙ stores-same board (keptPages board map) begun calls)) (sym (all-answers fit H calls))));
+      }

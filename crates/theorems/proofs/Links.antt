@@ -10,7 +10,7 @@ use lib.Dec.{eqb}
 use lib.ListN.{length}
 use Rattle.definition.specs.declared.Record.{Record}
 use Rattle.definition.specs.Basics.{any, bit, member}
-use Rattle.definition.specs.Board.{standard}
+use Rattle.definition.specs.Board.{Board}
 use Rattle.definition.specs.World.{frontOf, backOf, earlierIn, laterIn, pagesOf, linksOf}
 use Rattle.definition.specs.Torn.{Placed, past, walks}
 use Rattle.definition.proofs.Tests.{and-true}
@@ -43,21 +43,22 @@ pub pages-of : {f : ℕ → Record} {xs : List ℕ} → Seg f 0 (frontOf xs) xs 
 unfolding pagesOf
 pages-of s = seg-walk s
 
-pub walks-of : {f : ℕ → Record} (x : Placed) {k prev at last : ℕ} {xs : List ℕ} → Seg f prev at xs last 0
-    → All (λ (q : ℕ). Met f (x .base) (past standard x) k q) xs → walks standard f x k (length xs) prev at last ≡ true
-unfolding walks
-walks-of x (seg-none u v) all-none = and-true (eq-eqb _ _ u) (eq-eqb _ _ (sym v))
-walks-of {f} x (seg-more {p = p} {xs = xs} u v s) (all-more m more) =
-    rw u
-    (let e : p + 1 - 1 ≡ p = omega arith in
-    let unheld : not (eqb (f p .marks / 2 % 2) 1) ≡ true = rw (ne-eqb (f p .marks / 2 % 2) 1 (omega (arith, m .unheld))) in
-    rw e
-    (and-true
-    (and-true (lt-ltb (x .base) (p + 1) (omega (arith, m .low)))
-    (and-true (le-leb (p + 1) (past standard x) (omega (arith, m .high)))
-    (and-true (eq-eqb (f p .marks % 2) 1 (m .admitted))
-    (and-true unheld (and-true (eq-eqb _ _ (m .class)) (eq-eqb _ _ v))))))
-    (walks-of x s more)))
+module _ (board : Board) where
+  pub walks-of : {f : ℕ → Record} (x : Placed) {k prev at last : ℕ} {xs : List ℕ} → Seg f prev at xs last 0
+      → All (λ (q : ℕ). Met f (x .base) (past board x) k q) xs → walks board f x k (length xs) prev at last ≡ true
+  unfolding walks
+  walks-of x (seg-none u v) all-none = and-true (eq-eqb _ _ u) (eq-eqb _ _ (sym v))
+  walks-of {f} x (seg-more {p = p} {xs = xs} u v s) (all-more m more) =
+      rw u
+      (let e : p + 1 - 1 ≡ p = omega arith in
+      let unheld : not (eqb (f p .marks / 2 % 2) 1) ≡ true = rw (ne-eqb (f p .marks / 2 % 2) 1 (omega (arith, m .unheld))) in
+      rw e
+      (and-true
+      (and-true (lt-ltb (x .base) (p + 1) (omega (arith, m .low)))
+      (and-true (le-leb (p + 1) (past board x) (omega (arith, m .high)))
+      (and-true (eq-eqb (f p .marks % 2) 1 (m .admitted))
+      (and-true unheld (and-true (eq-eqb _ _ (m .class)) (eq-eqb _ _ v))))))
+      (walks-of x s more)))
 
 -- ---- bounds
 

@@ -8,6 +8,7 @@ use mathlib.Core.Path.{_≡_, refl, sym, ap, _∙_}
 use native.Mathlib.Omega.{arith}
 use lib.Dec.{ltb, eqb}
 use lib.ListN.{length}
+use Rattle.world.proofs.Bytes.{page-below, page-reached}
 use Rattle.definition.specs.declared.FrameAllocFlags.{FrameAllocFlags}
 use Rattle.definition.specs.declared.MemoryRegion.{MemoryRegion}
 use Rattle.definition.specs.declared.Pass.{Pass}
@@ -85,6 +86,7 @@ use Rattle.definition.specs.Calls.{
   unlessRefused,
   step,
 }
+use Rattle.world.specs.Fit.{Fit}
 use Rattle.world.proofs.Spans.{bare, bared, manages-spans}
 use Rattle.bookkeeping.specs.Blocks.{emptied}
 use Rattle.bookkeeping.specs.Good.{Good}
@@ -236,24 +238,26 @@ module _ (b : Board) (a : ℕ) where
 
 -- ---- the frames of a good store are managed
 
-module _ {map : List MemoryRegion} {s : Store} {k : Book} (G : Good standard map s k) where
-  frame-in : (p q : ℕ) (o : Option Frame) → s .allocator .frames p ≡ o → p ≤ q → q < p + sizeOf o → isManaged standard (s .allocator .regions) q ≡ true
-  frame-in p q none e l h = absurd (omega arith)
-  frame-in p q (some f) e l h = go (isManaged standard (s .allocator .regions) p) refl
-    where
-      go : (t : Bool) → isManaged standard (s .allocator .regions) p ≡ t → isManaged standard (s .allocator .regions) q ≡ true
-      go true i = frame-managed (good-kept G) p q f i e l h
-      go false i = absurd (Option·none-ne-some f (sym (G .bare p i) ∙ e))
+module _ {board : Board} (fit : Fit board) where
+  module _ {map : List MemoryRegion} {s : Store} {k : Book} (G : Good board map s k) where
+    frame-in : (p q : ℕ) (o : Option Frame) → s .allocator .frames p ≡ o → p ≤ q → q < p + sizeOf o → isManaged board (s .allocator .regions) q ≡ true
+    frame-in p q none e l h = absurd (omega arith)
+    frame-in p q (some f) e l h = go (isManaged board (s .allocator .regions) p) refl
+      where
+        go : (t : Bool) → isManaged board (s .allocator .regions) p ≡ t → isManaged board (s .allocator .regions) q ≡ true
+        go true i = frame-managed (good-kept G) p q f i e l h
+        go false i = absurd (Option·none-ne-some f (sym (G .bare p i) ∙ e))
 
-  apart-from : (a : ℕ) → isManaged standard (s .allocator .regions) (a / 4096) ≡ false → (p off len : ℕ) → off + len ≤ frameBytes standard s p
-      → within (4096 * p + off) len a ≡ false
-  apart-from a n p off len h = go (within (4096 * p + off) len a) refl
-    where
-      go : (t : Bool) → within (4096 * p + off) len a ≡ t → t ≡ false
-      go false e = refl
-      go true e =
-          let x = within-facts (4096 * p + off) len a e in
-          absurd (false≢true (sym n ∙ frame-in p (a / 4096) (s .allocator .frames p) refl (omega arith) (omega arith)))
+    apart-from : (a : ℕ) → isManaged board (s .allocator .regions) (a / board .page) ≡ false → (p off len : ℕ) → off + len ≤ frameBytes board s p
+        → within (board .page * p + off) len a ≡ false
+    apart-from a n p off len h = go (within (board .page * p + off) len a) refl
+      where
+        go : (t : Bool) → within (board .page * p + off) len a ≡ t → t ≡ false
+        go false e = refl
+        go true e =
+            let x = within-facts (board .page * p + off) len a e in
+            absurd (false≢true (sym n ∙ frame-in p (a / board .page) (s .allocator .frames p) refl
+            (page-reached (board .page) (omega (arith, fit .least)) (omega arith)) (page-below (board .page) (omega arith))))
 
 -- ---- the regions manage what the map's do
 
@@ -262,30 +266,34 @@ unfolding emptied
 emptied-bared [] = refl
 emptied-bared (r ∷ rs) = ap (λ (l : List AllocationRegion). bare r ∷ l) (emptied-bared rs)
 
-pub same-managed : {map : List MemoryRegion} {s : Store} {k : Book} → Good standard map s k → (p : ℕ)
-    → isManaged standard (s .allocator .regions) p ≡ isManaged standard (keptRegions standard map) p
-same-managed {s = s} G p =
-    let rs = s .allocator .regions in
-    sym (manages-spans p .same rs) ∙ ap (λ (l : List AllocationRegion). isManaged standard l p) (sym (emptied-bared rs) ∙ G .regions)
+module _ {board : Board} where
+  pub same-managed : {map : List MemoryRegion} {s : Store} {k : Book} → Good board map s k → (p : ℕ)
+      → isManaged board (s .allocator .regions) p ≡ isManaged board (keptRegions board map) p
+  same-managed {s = s} G p =
+      let rs = s .allocator .regions in
+      sym (manages-spans board p .same rs) ∙ ap (λ (l : List AllocationRegion). isManaged board l p) (sym (emptied-bared rs) ∙ G .regions)
 
--- a call keeps the bytes that no region manages at 0
-pub step-elsewhere : {map : List MemoryRegion} {s t : Store} {j k : Book} (c : Call) → Good standard map s j → step standard s c .store ≡ t → Good standard map t k
-    → ZeroElsewhere s → ZeroElsewhere t
-step-elsewhere {s = s} c G e H Z a n =
-    let m : isManaged standard (s .allocator .regions) (a / 4096) ≡ false = same-managed G (a / 4096) ∙ (sym (same-managed H (a / 4096)) ∙ n) in
-    rw (← e) (step-zero standard a s (Z a m) (apart-from G a m) c)
+module _ {board : Board} (fit : Fit board) where
+  -- a call keeps the bytes that no region manages at 0
+  pub step-elsewhere : {map : List MemoryRegion} {s t : Store} {j k : Book} (c : Call) → Good board map s j → step board s c .store ≡ t → Good board map t k
+      → ZeroElsewhere board s → ZeroElsewhere board t
+  step-elsewhere {s = s} c G e H Z a n =
+      let m : isManaged board (s .allocator .regions) (a / board .page) ≡ false = same-managed G (a / board .page) ∙ (sym (same-managed H (a / board .page)) ∙ n) in
+      rw (← e) (step-zero board a s (Z a m) (apart-from fit G a m) c)
 
--- a boot has 0 there: only managed pages have a byte in the loan
-number-none : (base : ℕ) (rs : List AllocationRegion) (p : ℕ) → isManaged standard rs p ≡ false → numberIn standard base rs p ≡ none
-unfolding isManaged any numberIn
-number-none base [] p e = refl
-number-none base (r ∷ rs) p e =
-    let x = or-false (contains standard r p) (isManaged standard rs p) e in
-    rw (x .0) (number-none (base + managed standard r) rs p (x .1))
+module _ (board : Board) where
+  -- a boot has 0 there: only managed pages have a byte in the loan
+  number-none : (base : ℕ) (rs : List AllocationRegion) (p : ℕ) → isManaged board rs p ≡ false → numberIn board base rs p ≡ none
+  unfolding isManaged any numberIn
+  number-none base [] p e = refl
+  number-none base (r ∷ rs) p e =
+      let x = or-false (contains board r p) (isManaged board rs p) e in
+      rw (x .0) (number-none (base + managed board r) rs p (x .1))
 
-pub boot-elsewhere : {map : List MemoryRegion} {k : Book} (bytes : List ℕ) (room : ℕ)
-    → Good standard map (boot standard map (memoryOf standard bytes (keptRegions standard map)) room) k
-    → ZeroElsewhere (boot standard map (memoryOf standard bytes (keptRegions standard map)) room)
-unfolding boot
-boot-elsewhere {map} bytes room G a n =
-    ap (byteAt standard bytes a) (number-none 0 (keptRegions standard map) (a / 4096) (sym (same-managed G (a / 4096)) ∙ n))
+module _ {board : Board} where
+  pub boot-elsewhere : {map : List MemoryRegion} {k : Book} (bytes : List ℕ) (room : ℕ)
+      → Good board map (boot board map (memoryOf board bytes (keptRegions board map)) room) k
+      → ZeroElsewhere board (boot board map (memoryOf board bytes (keptRegions board map)) room)
+  unfolding boot
+  boot-elsewhere {map} bytes room G a n =
+      ap (byteAt board bytes a) (number-none board 0 (keptRegions board map) (a / board .page) (sym (same-managed G (a / board .page)) ∙ n))

@@ -9,12 +9,14 @@ use native.Mathlib.Omega.{arith}
 use borrow.Author.Tests.{eq-eqb, eqb-true}
 use lib.Dec.{eqb}
 use lib.ListN.{length}
+use Rattle.world.proofs.Bytes.{bytes-order, pages-none}
+use Rattle.world.specs.Fit.{Fit}
 use Rattle.definition.specs.declared.MemoryRegion.{MemoryRegion}
 use Rattle.definition.specs.Basics.{all, any, sum, range, bit}
-use Rattle.definition.specs.Board.{standard}
+use Rattle.definition.specs.Board.{Board}
 use Rattle.definition.specs.Frame.{Frame, Frames, size, slot}
 use Rattle.definition.specs.Allocator.{AllocationRegion, isEmpty, isListed, total}
-use Rattle.definition.specs.Boot.{keptRegions}
+use Rattle.definition.specs.Boot.{keptRegions, managedPages}
 use Rattle.definition.specs.Book.{Held, Book}
 use Rattle.definition.specs.Rust.{oldCount}
 use Rattle.definition.specs.Store.{Store}
@@ -70,31 +72,33 @@ region-idle l r e =
       sum-has (λ j. size (j / 2) * length (r .free j)) 0 6 (k .at) (omega arith) (omega (arith, k .low, k .high)),
     )
 
-all-idle : (l : ℕ) (rs : List AllocationRegion) → isListed l rs ≡ true → size l ≤ sum (λ r. listedPages r + tables standard r) rs
-unfolding isListed any sum
-all-idle l [] e = absurd (false≢true e)
-all-idle l (r ∷ rs) e = go (any (λ k. not (isEmpty (r .free k))) (range (slot l false) (6 - slot l false))) refl e (all-idle l rs)
-  where
-    go : (t : Bool) → any (λ k. not (isEmpty (r .free k))) (range (slot l false) (6 - slot l false)) ≡ t → t || isListed l rs ≡ true
-        → (isListed l rs ≡ true → size l ≤ sum (λ r. listedPages r + tables standard r) rs)
-        → size l ≤ listedPages r + tables standard r + sum (λ r. listedPages r + tables standard r) rs
-    go true i j more = omega (arith, region-idle l r i)
-    go false i j more = omega (arith, more j)
+module _ (board : Board) where
+  all-idle : (l : ℕ) (rs : List AllocationRegion) → isListed l rs ≡ true → size l ≤ sum (λ r. listedPages r + tables board r) rs
+  unfolding isListed any sum
+  all-idle l [] e = absurd (false≢true e)
+  all-idle l (r ∷ rs) e = go (any (λ k. not (isEmpty (r .free k))) (range (slot l false) (6 - slot l false))) refl e (all-idle l rs)
+    where
+      go : (t : Bool) → any (λ k. not (isEmpty (r .free k))) (range (slot l false) (6 - slot l false)) ≡ t → t || isListed l rs ≡ true
+          → (isListed l rs ≡ true → size l ≤ sum (λ r. listedPages r + tables board r) rs)
+          → size l ≤ listedPages r + tables board r + sum (λ r. listedPages r + tables board r) rs
+      go true i j more = omega (arith, region-idle l r i)
+      go false i j more = omega (arith, more j)
 
 -- ---- a listed frame has the level of its list
 
-list-level : {fs : Frames} {r : AllocationRegion} {l : ℕ} {z : Bool} {ps : List ℕ} → All (IsFree standard fs r l z) ps → all (λ p. hasLevel l (fs p)) ps ≡ true
-unfolding all
-list-level all-none = refl
-list-level {fs} {l = l} (all-more {x = p} i more) =
-    let here : hasLevel l (fs p) ≡ true = rw (i .here) (eq-eqb (i .frame .level) l (i .level)) in
-    and-true here (list-level more)
+module _ {board : Board} where
+  list-level : {fs : Frames} {r : AllocationRegion} {l : ℕ} {z : Bool} {ps : List ℕ} → All (IsFree board fs r l z) ps → all (λ p. hasLevel l (fs p)) ps ≡ true
+  unfolding all
+  list-level all-none = refl
+  list-level {fs} {l = l} (all-more {x = p} i more) =
+      let here : hasLevel l (fs p) ≡ true = rw (i .here) (eq-eqb (i .frame .level) l (i .level)) in
+      and-true here (list-level more)
 
-lists-level : {fs : Frames} {rs : List AllocationRegion} → All (Lists standard fs) rs → (l : ℕ) (z : Bool) → l < 3
-    → all (λ r. all (λ p. hasLevel l (fs p)) (r .free (slot l z))) rs ≡ true
-unfolding all
-lists-level all-none l z h = refl
-lists-level (all-more L more) l z h = and-true (list-level (L .each l z h)) (lists-level more l z h)
+  lists-level : {fs : Frames} {rs : List AllocationRegion} → All (Lists board fs) rs → (l : ℕ) (z : Bool) → l < 3
+      → all (λ r. all (λ p. hasLevel l (fs p)) (r .free (slot l z))) rs ≡ true
+  unfolding all
+  lists-level all-none l z h = refl
+  lists-level (all-more L more) l z h = and-true (list-level (L .each l z h)) (lists-level more l z h)
 
 -- ---- the counters have the pages of whatever frames are held
 
@@ -162,10 +166,11 @@ page-sum (h ∷ hs) = rw (same-false (h .kernel), not-cond (h .kernel) (size (h 
 
 -- ---- the pages counted are the map's
 
-bytes-sum : (xs : List Block) → sum (bytesOf standard) xs ≡ 4096 * sum pagesOf xs
-unfolding sum
-bytes-sum [] = refl
-bytes-sum (x ∷ xs) = omega (arith, bytes-sum xs)
+module _ (board : Board) where
+  bytes-sum : (xs : List Block) → sum (bytesOf board) xs ≡ board .page * sum pagesOf xs
+  unfolding sum
+  bytes-sum [] = sym (pages-none (board .page))
+  bytes-sum (x ∷ xs) = omega (arith, bytes-sum xs)
 
 both-sum : (xs : List Block) → sum pagesWithKernel xs + sum pagesWithout xs ≡ sum pagesOf xs
 unfolding sum
@@ -179,41 +184,42 @@ both-sum (x ∷ xs) = go (x .mark) (both-sum xs)
 
 -- ---- the four facts
 
-module _ {map : List MemoryRegion} {s : Store} {k : Book} (G : Good standard map s k) (B : Bookkeeping standard map s k) where
-  idle : IdleCovers s
-  idle l e = rw (G .idle) (all-idle l (s .allocator .regions) e)
+module _ {board : Board} (fit : Fit board) where
+  module _ {map : List MemoryRegion} {s : Store} {k : Book} (G : Good board map s k) (B : Bookkeeping board map s k) where
+    idle : IdleCovers s
+    idle l e = rw (G .idle) (all-idle board l (s .allocator .regions) e)
 
-  booked : HeldBooked s
-  booked t ps once =
-      let h =
-      booked-of (λ (h : Held). h .page) (heldWeight t) (k .held) (s .allocator .frames) t
-      (λ p. frame-stands t p (s .allocator .frames p) (k .held) (λ l. G .booked p l t)) ps once in
-      go t h
-    where
-      go : (u : Bool) → sum (λ p. pagesHeld t (s .allocator .frames p)) ps ≤ sum (heldWeight u) (k .held)
-          → sum (λ p. pagesHeld t (s .allocator .frames p)) ps ≤ oldCount u (s .counters)
-      go true h = omega (arith, kernel-sum (k .held), B .kernelPages)
-      go false h = omega (arith, page-sum (k .held), B .pageData)
+    booked : HeldBooked s
+    booked t ps once =
+        let h =
+        booked-of (λ (h : Held). h .page) (heldWeight t) (k .held) (s .allocator .frames) t
+        (λ p. frame-stands t p (s .allocator .frames p) (k .held) (λ l. G .booked p l t)) ps once in
+        go t h
+      where
+        go : (u : Bool) → sum (λ p. pagesHeld t (s .allocator .frames p)) ps ≤ sum (heldWeight u) (k .held)
+            → sum (λ p. pagesHeld t (s .allocator .frames p)) ps ≤ oldCount u (s .counters)
+        go true h = omega (arith, kernel-sum (k .held), B .kernelPages)
+        go false h = omega (arith, page-sum (k .held), B .pageData)
 
-  fits : CountsFit s
-  fits =
-      let kept = keptRegions standard map in
-      let xs = listed (s .allocator .regions) in
-      let ys = holding (k .held) in
-      let most : total kept ≡ total (s .allocator .regions) = ap total (sym (G .regions)) ∙ total-emptied standard (s .allocator .regions) in
-      omega (
-        arith,
-        B .idle,
-        B .kernelPages,
-        B .pageData,
-        both-sum ys,
-        sum-append pagesOf xs ys,
-        bytes-sum (xs ++ ys),
-        B .adds,
-        map-sums standard map,
-        most,
-        G .pages,
-      )
+    fits : CountsFit s
+    fits =
+        let kept = keptRegions board map in
+        let xs = listed (s .allocator .regions) in
+        let ys = holding (k .held) in
+        let few : sum pagesOf (xs ++ ys) ≤ managedPages board kept = bytes-order (board .page) (omega (arith, fit .least)) (omega (arith, bytes-sum board (xs ++ ys), B .adds)) in
+        let most : total kept ≡ total (s .allocator .regions) = ap total (sym (G .regions)) ∙ total-emptied board (s .allocator .regions) in
+        omega (
+          arith,
+          B .idle,
+          B .kernelPages,
+          B .pageData,
+          both-sum ys,
+          sum-append pagesOf xs ys,
+          few,
+          map-sums board map,
+          most,
+          G .pages,
+        )
 
-  pub sane-of : Sane s
-  sane-of = record { idle = idle; listed = lists-level (G .lists); booked = booked; fits = fits }
+    pub sane-of : Sane s
+    sane-of = record { idle = idle; listed = lists-level (G .lists); booked = booked; fits = fits }

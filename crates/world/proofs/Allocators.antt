@@ -13,7 +13,7 @@ use lib.ListN.{length, set}
 use Rattle.definition.specs.declared.Record.{Record}
 use Rattle.definition.specs.declared.Row.{Row}
 use Rattle.definition.specs.Basics.{any}
-use Rattle.definition.specs.Board.{standard}
+use Rattle.definition.specs.Board.{Board}
 use Rattle.definition.specs.Frame.{Found, Frames, Levels, allocate, free}
 use Rattle.definition.specs.Allocator.{
   AllocationRegion,
@@ -40,42 +40,44 @@ use Rattle.world.proofs.Sheets.{each-at}
 
 -- ---- which region has a page
 
-module _ {f : ℕ → Record} {n base : ℕ} {row : Row} {fs : Frames} {r : AllocationRegion} (S : StandsRow f n base row fs r) (p : ℕ) where
-  pub contains-in : Inside (fromOf row) (row .pages) p → contains standard r p ≡ true
-  unfolding fromOf managed
-  contains-in i =
-      let h = i .high in
-      let l = i .low in
-      let a : first standard r ≤ p = rw (S .start, S .pages) l in
-      let b : p < end standard r = rw (S .start, S .pages) (omega arith) in
-      and-true (le-leb (first standard r) p a) (lt-ltb p (end standard r) b)
+module _ {board : Board} where
+  module _ {f : ℕ → Record} {n base : ℕ} {row : Row} {fs : Frames} {r : AllocationRegion} (S : StandsRow board f n base row fs r) (p : ℕ) where
+    pub contains-in : Inside board (fromOf board row) (row .pages) p → contains board r p ≡ true
+    unfolding fromOf managed
+    contains-in i =
+        let h = i .high in
+        let l = i .low in
+        let a : first board r ≤ p = rw (S .start, S .pages) l in
+        let b : p < end board r = rw (S .start, S .pages) (omega arith) in
+        and-true (le-leb (first board r) p a) (lt-ltb p (end board r) b)
 
-  pub in-contains : contains standard r p ≡ true → Inside (fromOf row) (row .pages) p
-  unfolding fromOf managed
-  in-contains t =
-      let a = leb-true (first standard r) p (and-left _ _ t) in
-      let b = ltb-true p (end standard r) (and-right (leb (first standard r) p) _ t) in
-      record { low = rw (S .start, S .pages) at a; high = let c = rw (S .start, S .pages) at a in let d = rw (S .start, S .pages) at b in omega arith }
+    pub in-contains : contains board r p ≡ true → Inside board (fromOf board row) (row .pages) p
+    unfolding fromOf managed
+    in-contains t =
+        let a = leb-true (first board r) p (and-left _ _ t) in
+        let b = ltb-true p (end board r) (and-right (leb (first board r) p) _ t) in
+        record { low = rw (S .start, S .pages) at a; high = let c = rw (S .start, S .pages) at a in let d = rw (S .start, S .pages) at b in omega arith }
 
-  pub contains-out : (Inside (fromOf row) (row .pages) p → ⊥) → contains standard r p ≡ false
-  contains-out o = go (contains standard r p) refl
-    where
-      go : (b : Bool) → contains standard r p ≡ b → b ≡ false
-      go false e = refl
-      go true e = absurd (o (in-contains e))
+    pub contains-out : (Inside board (fromOf board row) (row .pages) p → ⊥) → contains board r p ≡ false
+    contains-out o = go (contains board r p) refl
+      where
+        go : (b : Bool) → contains board r p ≡ b → b ≡ false
+        go false e = refl
+        go true e = absurd (o (in-contains e))
 
 -- ---- a free
 
-pub free-in
-    : {f : ℕ → Record} {n base : ℕ} {fs : Frames} (rows : List Row) (rs : List AllocationRegion) (i p : ℕ) → StandRows f n fs base rows rs → Disjoint rows
-    → i < length rows → Inside (fromOf (rowAt rows i)) (rowAt rows i .pages) p
-    → freeIn standard p fs rs
-    ≡ record { frames = free (levelsOf fs (regionAt rs i)) p .frames; regions = set rs i (withFree (regionAt rs i) (free (levelsOf fs (regionAt rs i)) p .free)) }
-unfolding freeIn
-free-in (row ∷ rows) (r ∷ rs) zero p (stand-more S Ss) (disjoint-more d ds) h k = rw (contains-in S p k) refl
-free-in (row ∷ rows) (r ∷ rs) (suc i) p (stand-more S Ss) (disjoint-more d ds) h k =
-    rw (contains-out S p (λ j. each-at _ d i (omega arith) p j k))
-    (ap (behindRegion r) (free-in rows rs i p Ss ds (omega arith) k))
+module _ {board : Board} where
+  pub free-in
+      : {f : ℕ → Record} {n base : ℕ} {fs : Frames} (rows : List Row) (rs : List AllocationRegion) (i p : ℕ) → StandRows board f n fs base rows rs → Disjoint board rows
+      → i < length rows → Inside board (fromOf board (rowAt rows i)) (rowAt rows i .pages) p
+      → freeIn board p fs rs
+      ≡ record { frames = free (levelsOf fs (regionAt rs i)) p .frames; regions = set rs i (withFree (regionAt rs i) (free (levelsOf fs (regionAt rs i)) p .free)) }
+  unfolding freeIn
+  free-in (row ∷ rows) (r ∷ rs) zero p (stand-more S Ss) (disjoint-more d ds) h k = rw (contains-in S p k) refl
+  free-in (row ∷ rows) (r ∷ rs) (suc i) p (stand-more S Ss) (disjoint-more d ds) h k =
+      rw (contains-out S p (λ j. each-at _ d i (omega arith) p j k))
+      (ap (behindRegion r) (free-in rows rs i p Ss ds (omega arith) k))
 
 -- ---- a grant
 

@@ -26,33 +26,36 @@ use Rattle.definition.specs.declared.Refusal.the-variants.{
   QueueFull,
   BadLine,
 }
-use Rattle.definition.specs.Board.{standard}
+use Rattle.definition.specs.Board.{Board}
 use Rattle.definition.specs.Refusal.{lowest, numberOf}
 use Rattle.definition.specs.Calls.{Call, Answer, Refused, Outcome, names, perform, sheet, step}
 use Rattle.definition.specs.World.{World, decode, encode}
 use Rattle.definition.specs.Torn.{Left, Sound, call, sound}
+use Rattle.world.specs.Fit.{Fit}
 use Rattle.world.specs.Refusals.{numberIf}
 use Rattle.world.proofs.RoundTrip.{round-trip}
 
-pub torn-call : (w : World) (c : Call) → sound standard w ≡ false → call standard w c ≡ record { world = w; answer = Refused Torn }
-unfolding call
-torn-call w c e = rw e refl
+module _ (board : Board) where
+  pub torn-call : (w : World) (c : Call) → sound board w ≡ false → call board w c ≡ record { world = w; answer = Refused Torn }
+  unfolding call
+  torn-call w c e = rw e refl
 
-module _ (w : World) (c : Call) (t : sound standard w ≡ true) where
-  abbrev found : Option Refusal
-  found = lowest (sheet standard (decode standard w) (names c))
+module _ {board : Board} (fit : Fit board) where
+  module _ (w : World) (c : Call) (t : sound board w ≡ true) where
+    abbrev found : Option Refusal
+    found = lowest (sheet board (decode board w) (names c))
 
-  pub refused-call
-      : Sound standard w → ((i : ℕ) → getD (w .records) i 0 < 256) → (r : Refusal) → found ≡ some r
-      → call standard w c ≡ record { world = w; answer = Refused r }
-  unfolding call step
-  refused-call S small r e = rw (t, e) (ap (λ (v : World). record { world = v; answer = Refused r }) (round-trip w S small))
+    pub refused-call
+        : Sound board w → ((i : ℕ) → getD (w .records) i 0 < 256) → (r : Refusal) → found ≡ some r
+        → call board w c ≡ record { world = w; answer = Refused r }
+    unfolding call step
+    refused-call S small r e = rw (t, e) (ap (λ (v : World). record { world = v; answer = Refused r }) (round-trip fit w S small))
 
-  pub done-call
-      : (o : Outcome) (v : World) → found ≡ none → perform standard (decode standard w) c ≡ o → encode standard (o .store) w ≡ v
-      → call standard w c ≡ record { world = v; answer = o .answer }
-  unfolding call step
-  done-call o v e p d = rw (t, e, p) (ap (λ (x : World). record { world = x; answer = o .answer }) d)
+    pub done-call
+        : (o : Outcome) (v : World) → found ≡ none → perform board (decode board w) c ≡ o → encode board (o .store) w ≡ v
+        → call board w c ≡ record { world = v; answer = o .answer }
+    unfolding call step
+    done-call o v e p d = rw (t, e, p) (ap (λ (x : World). record { world = x; answer = o .answer }) d)
 
 -- ---- by numbers
 

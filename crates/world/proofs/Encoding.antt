@@ -13,7 +13,7 @@ use Rattle.definition.specs.declared.Pass.{Pass}
 use Rattle.definition.specs.declared.Record.{Record}
 use Rattle.definition.specs.declared.Row.{Row}
 use Rattle.definition.specs.Basics.{sum}
-use Rattle.definition.specs.Board.{standard}
+use Rattle.definition.specs.Board.{Board}
 use Rattle.definition.specs.Boot.{managedPages, recordSize}
 use Rattle.definition.specs.Frame.{Frames}
 use Rattle.definition.specs.Allocator.{AllocationRegion, first, managed as managedOf}
@@ -38,32 +38,34 @@ used-split (row ∷ rows) = go (eqb (row .pages) 0) (used-split rows)
     go true e = refl
     go false e = ap (λ (x : List Row). row ∷ x) e
 
-module _ {f : ℕ → Record} {n : ℕ} {fs : Frames} where
-  rows-back : {base : ℕ} {rows : List Row} {rs : List AllocationRegion} → StandRows f n fs base rows rs → encodeRows standard base rs ≡ rows
-  unfolding encodeRows
-  rows-back stand-none = refl
-  rows-back (stand-more {base = base} {rs = rs} S rest) =
-      ap₂ (λ (x : Row) (y : List Row). x ∷ y) (row-back S) (ap (λ (m : ℕ). encodeRows standard (base + m) rs) (managed-same S) ∙ rows-back rest)
+module _ {board : Board} where
+  module _ {f : ℕ → Record} {n : ℕ} {fs : Frames} where
+    rows-back : {base : ℕ} {rows : List Row} {rs : List AllocationRegion} → StandRows board f n fs base rows rs → encodeRows board base rs ≡ rows
+    unfolding encodeRows
+    rows-back stand-none = refl
+    rows-back (stand-more {base = base} {rs = rs} S rest) =
+        ap₂ (λ (x : Row) (y : List Row). x ∷ y) (row-back S) (ap (λ (m : ℕ). encodeRows board (base + m) rs) (managed-same S) ∙ rows-back rest)
 
-  as-many : {base : ℕ} {rows : List Row} {rs : List AllocationRegion} → StandRows f n fs base rows rs → length rs ≡ length rows
-  as-many stand-none = refl
-  as-many (stand-more S rest) = ap suc (as-many rest)
+    as-many : {base : ℕ} {rows : List Row} {rs : List AllocationRegion} → StandRows board f n fs base rows rs → length rs ≡ length rows
+    as-many stand-none = refl
+    as-many (stand-more S rest) = ap suc (as-many rest)
 
 -- ---- the records
 
-module _ (bs : List ℕ) (small : (i : ℕ) → getD bs i 0 < 256) {fs : Frames} where
-  records-back
-      : {base : ℕ} {rows : List Row} {rs : List AllocationRegion} → StandRows (recordAt bs) (pagesIn bs) fs base rows rs
-      → regionsBytes standard base fs rs ≡ part bs (16 * base) (16 * managedPages standard rs)
-  unfolding regionsBytes sum
-  records-back {base = base} stand-none = sym (part-none bs (16 * base))
-  records-back (stand-more {base = base} {r = r} {rs = rs} S rest) =
-      let same = managed-same S in
-      let fits = S .sound .fits in
-      part-join bs (16 * base) (16 * managedOf standard r) (16 * managedPages standard rs)
-      (pages-part bs small (recordOf standard base r fs) (first standard r) base (managedOf standard r) (omega arith) (λ i h. record-back S i (omega arith)))
-      (ap (λ (m : ℕ). regionsBytes standard (base + m) fs rs) same ∙ records-back rest)
-      (omega arith) (omega arith)
+module _ {board : Board} where
+  module _ (bs : List ℕ) (small : (i : ℕ) → getD bs i 0 < 256) {fs : Frames} where
+    records-back
+        : {base : ℕ} {rows : List Row} {rs : List AllocationRegion} → StandRows board (recordAt bs) (pagesIn bs) fs base rows rs
+        → regionsBytes board base fs rs ≡ part bs (16 * base) (16 * managedPages board rs)
+    unfolding regionsBytes sum
+    records-back {base = base} stand-none = sym (part-none bs (16 * base))
+    records-back (stand-more {base = base} {r = r} {rs = rs} S rest) =
+        let same = managed-same S in
+        let fits = S .sound .fits in
+        part-join bs (16 * base) (16 * managedOf board r) (16 * managedPages board rs)
+        (pages-part bs small (recordOf board base r fs) (first board r) base (managedOf board r) (omega arith) (λ i h. record-back S i (omega arith)))
+        (ap (λ (m : ℕ). regionsBytes board (base + m) fs rs) same ∙ records-back rest)
+        (omega arith) (omega arith)
 
 -- ---- the ends of the records
 
@@ -106,31 +108,33 @@ ends-agree bs cs m e small small′ same =
 
 -- ---- the world
 
--- the managed pages of a store
-abbrev pub managedIn : Store → ℕ
-managedIn s = managedPages standard (s .allocator .regions)
+module _ (board : Board) where
+  -- the managed pages of a store
+  abbrev pub managedIn : Store → ℕ
+  managedIn s = managedPages board (s .allocator .regions)
 
-pub stands-encode
-    : (w v : World) (s : Store) → Stands v s → ((i : ℕ) → getD (v .records) i 0 < 256)
-    → drop (recordSize * managedIn s) (v .records) ≡ drop (recordSize * managedIn s) (w .records)
-    → drop (standard .page * managedIn s) (v .memory) ≡ drop (standard .page * managedIn s) (w .memory)
-    → drop (v .queued) (v .queue) ≡ drop (v .queued) (w .queue)
-    → encode standard s w ≡ v
-unfolding encode
-stands-encode w v s S small records memory queue =
-    same
-    (rw (rows-back (S .rows), as-many (S .rows), ← S .unused) (used-split (v .rows)))
-    (S .counters)
-    count
-    (S .pass)
-    (rw (records-back (v .records) small (S .rows), part-front (v .records), ← records, take-append-drop))
-    (rw (S .memory, ← memory, take-append-drop))
-    (rw (count, S .queue, ← queue, take-append-drop))
-  where
-    count : length (s .queue) ≡ v .queued
-    count = ap length (S .queue) ∙ length-take-le (v .queued) (v .queue) (S .queued)
+module _ {board : Board} where
+  pub stands-encode
+      : (w v : World) (s : Store) → Stands board v s → ((i : ℕ) → getD (v .records) i 0 < 256)
+      → drop (recordSize * managedIn board s) (v .records) ≡ drop (recordSize * managedIn board s) (w .records)
+      → drop (board .page * managedIn board s) (v .memory) ≡ drop (board .page * managedIn board s) (w .memory)
+      → drop (v .queued) (v .queue) ≡ drop (v .queued) (w .queue)
+      → encode board s w ≡ v
+  unfolding encode
+  stands-encode w v s S small records memory queue =
+      same
+      (rw (rows-back (S .rows), as-many (S .rows), ← S .unused) (used-split (v .rows)))
+      (S .counters)
+      count
+      (S .pass)
+      (rw (records-back (v .records) small (S .rows), part-front (v .records), ← records, take-append-drop))
+      (rw (S .memory, ← memory, take-append-drop))
+      (rw (count, S .queue, ← queue, take-append-drop))
+    where
+      count : length (s .queue) ≡ v .queued
+      count = ap length (S .queue) ∙ length-take-le (v .queued) (v .queue) (S .queued)
 
-    same : {a b : List Row} {c d : Counters} {m n : ℕ} {p q : Pass} {f g h i j k : List ℕ} → a ≡ b → c ≡ d → m ≡ n → p ≡ q → f ≡ g → h ≡ i → j ≡ k
-        → _≡_ {A = World} (record { rows = a; counters = c; queued = m; pass = p; records = f; memory = h; queue = j })
-        (record { rows = b; counters = d; queued = n; pass = q; records = g; memory = i; queue = k })
-    same e0 e1 e2 e3 e4 e5 e6 = cc
+      same : {a b : List Row} {c d : Counters} {m n : ℕ} {p q : Pass} {f g h i j k : List ℕ} → a ≡ b → c ≡ d → m ≡ n → p ≡ q → f ≡ g → h ≡ i → j ≡ k
+          → _≡_ {A = World} (record { rows = a; counters = c; queued = m; pass = p; records = f; memory = h; queue = j })
+          (record { rows = b; counters = d; queued = n; pass = q; records = g; memory = i; queue = k })
+      same e0 e1 e2 e3 e4 e5 e6 = cc

@@ -1,3 +1,4 @@
+pub mod Bytes
 pub mod Clauses
 pub mod Regions
 pub mod Sheets

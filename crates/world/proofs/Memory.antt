@@ -3,44 +3,56 @@
 use Prim.Native.Nat.{ℕ, _+_, _*_, _/_, _%_, _≤_, _<_}
 use mathlib.Core.Bool.{false}
 use mathlib.Core.List.{List, [], _∷_}
-use mathlib.Core.Path.{_≡_, sym, _∙_}
+use mathlib.Core.Path.{_≡_, sym, ap, _∙_}
 use native.Mathlib.Omega.{arith}
 use lib.ListN.{length, getD, take}
 use Rattle.definition.specs.Basics.{sum}
-use Rattle.definition.specs.Board.{standard}
+use Rattle.definition.specs.Board.{Board}
 use Rattle.definition.specs.Boot.{managedPages, overlap}
 use Rattle.definition.specs.Allocator.{AllocationRegion, first, managed}
 use Rattle.definition.specs.Store.{Memory}
 use Rattle.definition.specs.World.{memoryOf, memoryBytes}
+use Rattle.world.proofs.Bytes.{address-is, offset-of, offset-small, page-below, page-of, pages-none, some-byte}
 use Rattle.world.proofs.Numbering.{EachPage, each-first, each-rest, overlap-rest}
 use Rattle.world.proofs.Parts.{part, part-front, part-none, part-join, run-part}
 
--- the page p of the memory has the bytes of the page q of the loan
-abbrev pub Holds : List ℕ → Memory → ℕ → ℕ → Type 0
-Holds bs m p q = (i : ℕ) → i < standard .page → m (standard .page * p + i) ≡ getD bs (standard .page * q + i) 0
+module _ (board : Board) where
+  -- the page p of the memory has the bytes of the page q of the loan
+  abbrev pub Holds : List ℕ → Memory → ℕ → ℕ → Type 0
+  Holds bs m p q = (i : ℕ) → i < board .page → m (board .page * p + i) ≡ getD bs (board .page * q + i) 0
 
-pub memory-part
-    : (bs : List ℕ) (m : Memory) (base : ℕ) (rs : List AllocationRegion) → standard .page * (base + managedPages standard rs) ≤ length bs
-    → overlap standard rs ≡ false → EachPage (Holds bs m) base rs
-    → memoryBytes standard m rs ≡ part bs (standard .page * base) (standard .page * managedPages standard rs)
-unfolding memoryBytes sum
-memory-part bs m base [] h e each = sym (part-none bs (4096 * base))
-memory-part bs m base (r ∷ rs) h e each =
-    part-join bs (4096 * base) (4096 * managed standard r) (4096 * managedPages standard rs)
-    (run-part bs m (4096 * first standard r) (4096 * base) (4096 * managed standard r) (omega arith) (λ i k.
-    let x : 4096 * (first standard r + i / 4096) + i % 4096 ≡ 4096 * first standard r + i = omega arith in
-    let y : 4096 * (base + i / 4096) + i % 4096 ≡ 4096 * base + i = omega arith in
-    rw (x, y) at (each-first (Holds bs m) base r rs each (i / 4096) (omega arith) (i % 4096) (omega arith))))
-    (memory-part bs m (base + managed standard r) rs (omega arith) (overlap-rest r rs e) (each-rest (Holds bs m) base r rs each e))
-    (omega arith) (omega arith)
+  pub memory-part
+      : (bs : List ℕ) (m : Memory) (base : ℕ) (rs : List AllocationRegion) → board .page * (base + managedPages board rs) ≤ length bs
+      → overlap board rs ≡ false → EachPage board (Holds bs m) base rs
+      → memoryBytes board m rs ≡ part bs (board .page * base) (board .page * managedPages board rs)
+  unfolding memoryBytes sum
+  memory-part bs m base [] h e each = rw (pages-none (board .page)) (sym (part-none bs (board .page * base)))
+  memory-part bs m base (r ∷ rs) h e each =
+      part-join bs (board .page * base) (board .page * managed board r) (board .page * managedPages board rs)
+      (run-part bs m (board .page * first board r) (board .page * base) (board .page * managed board r) (omega arith) (λ i k.
+      let is = address-is (board .page) i in
+      let x : board .page * (first board r + i / board .page) + i % board .page ≡ board .page * first board r + i = omega (arith, is) in
+      let y : board .page * (base + i / board .page) + i % board .page ≡ board .page * base + i = omega (arith, is) in
+      rw (x, y) at (each-first board (Holds bs m) base r rs each (i / board .page) (page-below (board .page) k) (i % board .page) (offset-small (board .page) (some-byte (board .page) (managed board r) k) i))))
+      (memory-part bs m (base + managed board r) rs (omega arith) (overlap-rest board r rs e) (each-rest board (Holds bs m) base r rs each e))
+      (omega arith) (omega arith)
 
-module _ (bs : List ℕ) (rs : List AllocationRegion) where
-  holds : EachPage (Holds bs (memoryOf standard bs rs)) 0 rs
-  holds p q h i k =
-      let x : (4096 * p + i) / 4096 ≡ p = omega arith in
-      let y : (4096 * p + i) % 4096 ≡ i = omega arith in
-      rw (x, h, y)
+  -- from the first region on
+  pub memory-front
+      : (bs : List ℕ) (m : Memory) (rs : List AllocationRegion) → board .page * managedPages board rs ≤ length bs → overlap board rs ≡ false
+      → EachPage board (Holds bs m) 0 rs → memoryBytes board m rs ≡ take (board .page * managedPages board rs) bs
+  memory-front bs m rs h e each =
+      memory-part bs m 0 rs (omega arith) e each
+      ∙ ap (λ (at : ℕ). part bs at (board .page * managedPages board rs)) (pages-none (board .page))
+      ∙ part-front bs (board .page * managedPages board rs)
 
-  pub memory-back : standard .page * managedPages standard rs ≤ length bs → overlap standard rs ≡ false
-      → memoryBytes standard (memoryOf standard bs rs) rs ≡ take (standard .page * managedPages standard rs) bs
-  memory-back h e = memory-part bs (memoryOf standard bs rs) 0 rs (omega arith) e holds ∙ part-front bs (4096 * managedPages standard rs)
+  module _ (bs : List ℕ) (rs : List AllocationRegion) where
+    holds : EachPage board (Holds bs (memoryOf board bs rs)) 0 rs
+    holds p q h i k =
+        let x : (board .page * p + i) / board .page ≡ p = page-of (board .page) p i k in
+        let y : (board .page * p + i) % board .page ≡ i = offset-of (board .page) p i k in
+        rw (x, h, y)
+
+    pub memory-back : board .page * managedPages board rs ≤ length bs → overlap board rs ≡ false
+        → memoryBytes board (memoryOf board bs rs) rs ≡ take (board .page * managedPages board rs) bs
+    memory-back h e = memory-front bs (memoryOf board bs rs) rs h e holds

@@ -22,7 +22,7 @@ use Rattle.definition.specs.declared.Refusal.the-variants.{
   QueueFull,
 }
 use Rattle.definition.specs.Basics.{any}
-use Rattle.definition.specs.Board.{standard}
+use Rattle.definition.specs.Board.{Board}
 use Rattle.definition.specs.Refusal.{Test, _when_, numberOf, orLater, lowest}
 use Rattle.definition.specs.Allocator.{AllocationRegion, contains, end}
 use Rattle.definition.specs.Store.{Store}
@@ -54,13 +54,14 @@ four a b c d = (Outside when a) ∷ (NoFrameStart when b) ∷ (NotHeld when c) �
 abbrev of-four : (a b c d : Bool) → ℕ
 of-four a b c d = numberIf (lowest (four a b c d))
 
--- the lines that no range meets
-ranges : (s : Store) (fs ps : List Range)
-    → numberIf (lowest (sheet standard s (rangesNamed fs ps)))
-    ≡ of-four (any (outside standard s) (fs ++ ps)) (any (λ r. not (startsFrame standard s (r .address))) fs) (any (λ r. not (isHeld standard s (r .address))) fs)
-    (any (leavesFrame standard s) fs || any (leavesRegion standard s) ps)
-unfolding lowest sheet any
-ranges s fs ps = refl
+module _ (board : Board) where
+  -- the lines that no range meets
+  ranges : (s : Store) (fs ps : List Range)
+      → numberIf (lowest (sheet board s (rangesNamed fs ps)))
+      ≡ of-four (any (outside board s) (fs ++ ps)) (any (λ r. not (startsFrame board s (r .address))) fs) (any (λ r. not (isHeld board s (r .address))) fs)
+      (any (leavesFrame board s) fs || any (leavesRegion board s) ps)
+  unfolding lowest sheet any
+  ranges s fs ps = refl
 
 or-false : (a : Bool) → (a || false) ≡ a
 or-false true = refl
@@ -129,128 +130,129 @@ of-place true h = refl
 of-place false true = refl
 of-place false false = refl
 
-module _ (s : Store) where
-  -- a frame
-  pub one-frame : (a off len : ℕ) → numberIf (lowest (sheet standard s (rangesNamed (part a off len) []))) ≡ frameRefusal s (rangeOf a off len)
-  unfolding any
-  one-frame a off len =
-      let r = rangeOf a off len in
-      ranges s (part a off len) []
-      ∙ rw (
-        or-false (outside standard s r),
-        or-false (not (startsFrame standard s a)),
-        or-false (not (isHeld standard s a)),
-        or-false (leavesFrame standard s r || false),
-        or-false (leavesFrame standard s r),
-      )
-      refl
+module _ (board : Board) where
+  module _ (s : Store) where
+    -- a frame
+    pub one-frame : (a off len : ℕ) → numberIf (lowest (sheet board s (rangesNamed (part a off len) []))) ≡ frameRefusal board s (rangeOf a off len)
+    unfolding any
+    one-frame a off len =
+        let r = rangeOf a off len in
+        ranges board s (part a off len) []
+        ∙ rw (
+          or-false (outside board s r),
+          or-false (not (startsFrame board s a)),
+          or-false (not (isHeld board s a)),
+          or-false (leavesFrame board s r || false),
+          or-false (leavesFrame board s r),
+        )
+        refl
 
-  -- two frames
-  pub two-frames
-      : (a off b soff len : ℕ)
-      → numberIf (lowest (sheet standard s (rangesNamed (part a off len ++ part b soff len) [])))
-      ≡ lower (frameRefusal s (rangeOf a off len)) (frameRefusal s (rangeOf b soff len))
-  unfolding any
-  two-frames a off b soff len =
-      let r = rangeOf a off len in
-      let t = rangeOf b soff len in
-      ranges s (part a off len ++ part b soff len) []
-      ∙ rw (
-        or-false (outside standard s t),
-        or-false (not (startsFrame standard s b)),
-        or-false (not (isHeld standard s b)),
-        or-false (leavesFrame standard s r || (leavesFrame standard s t || false)),
-        or-false (leavesFrame standard s t),
-      )
-      (joint (outside standard s r) (outside standard s t) (not (startsFrame standard s a)) (not (startsFrame standard s b)) (not (isHeld standard s a)) (not (isHeld standard s b)) (leavesFrame standard s r) (leavesFrame standard s t))
+    -- two frames
+    pub two-frames
+        : (a off b soff len : ℕ)
+        → numberIf (lowest (sheet board s (rangesNamed (part a off len ++ part b soff len) [])))
+        ≡ lower (frameRefusal board s (rangeOf a off len)) (frameRefusal board s (rangeOf b soff len))
+    unfolding any
+    two-frames a off b soff len =
+        let r = rangeOf a off len in
+        let t = rangeOf b soff len in
+        ranges board s (part a off len ++ part b soff len) []
+        ∙ rw (
+          or-false (outside board s t),
+          or-false (not (startsFrame board s b)),
+          or-false (not (isHeld board s b)),
+          or-false (leavesFrame board s r || (leavesFrame board s t || false)),
+          or-false (leavesFrame board s t),
+        )
+        (joint (outside board s r) (outside board s t) (not (startsFrame board s a)) (not (startsFrame board s b)) (not (isHeld board s a)) (not (isHeld board s b)) (leavesFrame board s r) (leavesFrame board s t))
 
-  -- a frame and a place
-  pub frame-and-place
-      : (a off b soff len n : ℕ)
-      → numberIf (lowest (sheet standard s (rangesNamed (part a off len) (part b soff n))))
-      ≡ lower (frameRefusal s (rangeOf a off len)) (placeRefusal s (rangeOf b soff n))
-  unfolding any
-  frame-and-place a off b soff len n =
-      let r = rangeOf a off len in
-      let t = rangeOf b soff n in
-      ranges s (part a off len) (part b soff n)
-      ∙ rw (or-false (outside standard s t), or-false (leavesFrame standard s r), or-false (leavesRegion standard s t))
-      (joint (outside standard s r) (outside standard s t) (not (startsFrame standard s a)) false (not (isHeld standard s a)) false (leavesFrame standard s r) (leavesRegion standard s t))
-      ∙ ap (lower (frameRefusal s r)) (sym (of-place (outside standard s t) (leavesRegion standard s t)))
+    -- a frame and a place
+    pub frame-and-place
+        : (a off b soff len n : ℕ)
+        → numberIf (lowest (sheet board s (rangesNamed (part a off len) (part b soff n))))
+        ≡ lower (frameRefusal board s (rangeOf a off len)) (placeRefusal board s (rangeOf b soff n))
+    unfolding any
+    frame-and-place a off b soff len n =
+        let r = rangeOf a off len in
+        let t = rangeOf b soff n in
+        ranges board s (part a off len) (part b soff n)
+        ∙ rw (or-false (outside board s t), or-false (leavesFrame board s r), or-false (leavesRegion board s t))
+        (joint (outside board s r) (outside board s t) (not (startsFrame board s a)) false (not (isHeld board s a)) false (leavesFrame board s r) (leavesRegion board s t))
+        ∙ ap (lower (frameRefusal board s r)) (sym (of-place (outside board s t) (leavesRegion board s t)))
 
-  -- a place
-  pub one-place : (a off len : ℕ) → numberIf (lowest (sheet standard s (rangesNamed [] (part a off len)))) ≡ placeRefusal s (rangeOf a off len)
-  unfolding any
-  one-place a off len =
-      let t = rangeOf a off len in
-      ranges s [] (part a off len)
-      ∙ rw (or-false (outside standard s t), or-false (leavesRegion standard s t)) refl
-      ∙ sym (of-place (outside standard s t) (leavesRegion standard s t))
+    -- a place
+    pub one-place : (a off len : ℕ) → numberIf (lowest (sheet board s (rangesNamed [] (part a off len)))) ≡ placeRefusal board s (rangeOf a off len)
+    unfolding any
+    one-place a off len =
+        let t = rangeOf a off len in
+        ranges board s [] (part a off len)
+        ∙ rw (or-false (outside board s t), or-false (leavesRegion board s t)) refl
+        ∙ sym (of-place (outside board s t) (leavesRegion board s t))
 
-  -- a call that names nothing is not refused
-  pub nothing-refused : numberIf (lowest (sheet standard s nothingNamed)) ≡ 0
-  unfolding lowest sheet any
-  nothing-refused = refl
+    -- a call that names nothing is not refused
+    pub nothing-refused : numberIf (lowest (sheet board s nothingNamed)) ≡ 0
+    unfolding lowest sheet any
+    nothing-refused = refl
 
-  -- pages that the pager gives back
-  pub back-refused : (n : ℕ) → numberIf (lowest (sheet standard s (names (Back n)))) ≡ cond (ltb (s .counters .«pager_outstanding») n) 15 0
-  unfolding lowest sheet any
-  back-refused n = go (ltb (s .counters .«pager_outstanding») n)
-    where
-      go : (b : Bool) → numberIf (orLater (PagerLow when (b || false)) none) ≡ cond b 15 0
-      go true = refl
-      go false = refl
+    -- pages that the pager gives back
+    pub back-refused : (n : ℕ) → numberIf (lowest (sheet board s (names (Back n)))) ≡ cond (ltb (s .counters .«pager_outstanding») n) 15 0
+    unfolding lowest sheet any
+    back-refused n = go (ltb (s .counters .«pager_outstanding») n)
+      where
+        go : (b : Bool) → numberIf (orLater (PagerLow when (b || false)) none) ≡ cond b 15 0
+        go true = refl
+        go false = refl
 
-  -- a held frame that goes into the queue
-  pub queue-refused : (a : ℕ) → numberIf (lowest (sheet standard s (names (Queue a)))) ≡ lower (frameRefusal s (rangeOf a 0 0)) (cond (leb (s .room) (length (s .queue))) 16 0)
-  unfolding lowest sheet any
-  queue-refused a =
-      let r = rangeOf a 0 0 in
-      rw (
-        or-false (outside standard s r),
-        or-false (not (startsFrame standard s a)),
-        or-false (not (isHeld standard s a)),
-        or-false (leavesFrame standard s r || false),
-        or-false (leavesFrame standard s r),
-        or-false (leb (s .room) (length (s .queue))),
-      )
-      (go (outside standard s r) (not (startsFrame standard s a)) (not (isHeld standard s a)) (leavesFrame standard s r) (leb (s .room) (length (s .queue))))
-    where
-      go : (a b c d f : Bool)
-          → numberIf (orLater (Outside when a) (orLater (NoFrameStart when b) (orLater (NotHeld when c) (orLater (PastTheEnd when d) (orLater (QueueFull when f) none)))))
-          ≡ lower (numberIf (orLater (Outside when a) (orLater (NoFrameStart when b) (orLater (NotHeld when c) (orLater (PastTheEnd when d) none))))) (cond f 16 0)
-      go true b c d true = refl
-      go true b c d false = refl
-      go false true c d true = refl
-      go false true c d false = refl
-      go false false true d true = refl
-      go false false true d false = refl
-      go false false false true true = refl
-      go false false false true false = refl
-      go false false false false true = refl
-      go false false false false false = refl
+    -- a held frame that goes into the queue
+    pub queue-refused : (a : ℕ) → numberIf (lowest (sheet board s (names (Queue a)))) ≡ lower (frameRefusal board s (rangeOf a 0 0)) (cond (leb (s .room) (length (s .queue))) 16 0)
+    unfolding lowest sheet any
+    queue-refused a =
+        let r = rangeOf a 0 0 in
+        rw (
+          or-false (outside board s r),
+          or-false (not (startsFrame board s a)),
+          or-false (not (isHeld board s a)),
+          or-false (leavesFrame board s r || false),
+          or-false (leavesFrame board s r),
+          or-false (leb (s .room) (length (s .queue))),
+        )
+        (go (outside board s r) (not (startsFrame board s a)) (not (isHeld board s a)) (leavesFrame board s r) (leb (s .room) (length (s .queue))))
+      where
+        go : (a b c d f : Bool)
+            → numberIf (orLater (Outside when a) (orLater (NoFrameStart when b) (orLater (NotHeld when c) (orLater (PastTheEnd when d) (orLater (QueueFull when f) none)))))
+            ≡ lower (numberIf (orLater (Outside when a) (orLater (NoFrameStart when b) (orLater (NotHeld when c) (orLater (PastTheEnd when d) none))))) (cond f 16 0)
+        go true b c d true = refl
+        go true b c d false = refl
+        go false true c d true = refl
+        go false true c d false = refl
+        go false false true d true = refl
+        go false false true d false = refl
+        go false false false true true = refl
+        go false false false true false = refl
+        go false false false false true = refl
+        go false false false false false = refl
 
-  -- a grant: 7, 8, and where nothing is listed 9, or 10 for one that may wait
-  pub layout-refused
-      : (y : Layout)
-      → numberIf (lowest (sheet standard s (layoutNamed y)))
-      ≡ cond (badLayout y) 7 (cond (noLevel standard y) 8 (cond (wants standard s y) (cond (y .flags .«wait_ok») 10 9) 0))
-  unfolding lowest sheet any
-  layout-refused y =
-      rw (
-        or-false (badLayout y),
-        or-false (noLevel standard y),
-        or-false (wants standard s y && not (y .flags .«wait_ok»)),
-        or-false (wants standard s y && y .flags .«wait_ok»),
-      )
-      (go (badLayout y) (noLevel standard y) (wants standard s y) (y .flags .«wait_ok»))
-    where
-      go : (a b c d : Bool)
-          → numberIf (orLater (BadLayout when a) (orLater (NoLevel when b) (orLater (NoFrame when (c && not d)) (orLater (MustWait when (c && d)) none))))
-          ≡ cond a 7 (cond b 8 (cond c (cond d 10 9) 0))
-      go true b c d = refl
-      go false true c d = refl
-      go false false true true = refl
-      go false false true false = refl
-      go false false false true = refl
-      go false false false false = refl
+    -- a grant: 7, 8, and where nothing is listed 9, or 10 for one that may wait
+    pub layout-refused
+        : (y : Layout)
+        → numberIf (lowest (sheet board s (layoutNamed y)))
+        ≡ cond (badLayout y) 7 (cond (noLevel board y) 8 (cond (wants board s y) (cond (y .flags .«wait_ok») 10 9) 0))
+    unfolding lowest sheet any
+    layout-refused y =
+        rw (
+          or-false (badLayout y),
+          or-false (noLevel board y),
+          or-false (wants board s y && not (y .flags .«wait_ok»)),
+          or-false (wants board s y && y .flags .«wait_ok»),
+        )
+        (go (badLayout y) (noLevel board y) (wants board s y) (y .flags .«wait_ok»))
+      where
+        go : (a b c d : Bool)
+            → numberIf (orLater (BadLayout when a) (orLater (NoLevel when b) (orLater (NoFrame when (c && not d)) (orLater (MustWait when (c && d)) none))))
+            ≡ cond a 7 (cond b 8 (cond c (cond d 10 9) 0))
+        go true b c d = refl
+        go false true c d = refl
+        go false false true true = refl
+        go false false true false = refl
+        go false false false true = refl
+        go false false false false = refl

@@ -7,7 +7,7 @@ use mathlib.Core.Path.{_≡_, refl, sym, ap, _∙_}
 use Rattle.definition.specs.declared.Record.{Record}
 use Rattle.definition.specs.declared.Row.{Row}
 use Rattle.definition.specs.Basics.{any, sum}
-use Rattle.definition.specs.Board.{standard}
+use Rattle.definition.specs.Board.{Board}
 use Rattle.definition.specs.Frame.{Frames}
 use Rattle.definition.specs.Allocator.{AllocationRegion, PhysicalFrameAllocator, contains, isManaged, managed, withFree}
 use Rattle.definition.specs.Boot.{managedPages, overlap, shares}
@@ -32,29 +32,30 @@ pub record OfSpans {A : Type 0} (F : List AllocationRegion → A) : Type 0 where
 
 -- ---- what is so
 
-pub memory-spans : (m : Memory) → OfSpans (memoryBytes standard m)
-unfolding memoryBytes
-memory-spans m = record { same = go }
-  where
-    go : (rs : List AllocationRegion) → memoryBytes standard m (bared rs) ≡ memoryBytes standard m rs
-    go [] = refl
-    go (r ∷ rs) = rw (go rs)
+module _ (board : Board) where
+  pub memory-spans : (m : Memory) → OfSpans (memoryBytes board m)
+  unfolding memoryBytes
+  memory-spans m = record { same = go }
+    where
+      go : (rs : List AllocationRegion) → memoryBytes board m (bared rs) ≡ memoryBytes board m rs
+      go [] = refl
+      go (r ∷ rs) = rw (go rs)
 
-pub managed-spans : OfSpans (managedPages standard)
-unfolding sum
-managed-spans = record { same = go }
-  where
-    go : (rs : List AllocationRegion) → managedPages standard (bared rs) ≡ managedPages standard rs
-    go [] = refl
-    go (r ∷ rs) = rw (go rs)
+  pub managed-spans : OfSpans (managedPages board)
+  unfolding sum
+  managed-spans = record { same = go }
+    where
+      go : (rs : List AllocationRegion) → managedPages board (bared rs) ≡ managedPages board rs
+      go [] = refl
+      go (r ∷ rs) = rw (go rs)
 
-pub number-spans : (base p : ℕ) → OfSpans (λ (rs : List AllocationRegion). numberIn standard base rs p)
-unfolding numberIn
-number-spans base p = record { same = λ rs. go rs base }
-  where
-    go : (rs : List AllocationRegion) (base : ℕ) → numberIn standard base (bared rs) p ≡ numberIn standard base rs p
-    go [] base = refl
-    go (r ∷ rs) base = rw (go rs (base + managed standard r))
+  pub number-spans : (base p : ℕ) → OfSpans (λ (rs : List AllocationRegion). numberIn board base rs p)
+  unfolding numberIn
+  number-spans base p = record { same = λ rs. go rs base }
+    where
+      go : (rs : List AllocationRegion) (base : ℕ) → numberIn board base (bared rs) p ≡ numberIn board base rs p
+      go [] base = refl
+      go (r ∷ rs) base = rw (go rs (base + managed board r))
 
 pub any-spans : (test : AllocationRegion → Bool) → ((r : AllocationRegion) → test (bare r) ≡ test r) → OfSpans (any test)
 unfolding any
@@ -64,59 +65,65 @@ any-spans test e = record { same = go }
     go [] = refl
     go (r ∷ rs) = rw (e r, go rs)
 
-pub manages-spans : (p : ℕ) → OfSpans (λ (rs : List AllocationRegion). isManaged standard rs p)
-unfolding isManaged
-manages-spans p = any-spans (λ r. contains standard r p) (λ r. refl)
+module _ (board : Board) where
+  pub manages-spans : (p : ℕ) → OfSpans (λ (rs : List AllocationRegion). isManaged board rs p)
+  unfolding isManaged
+  manages-spans p = any-spans (λ r. contains board r p) (λ r. refl)
 
-pub overlap-spans : OfSpans (overlap standard)
-unfolding overlap
-overlap-spans = record { same = go }
-  where
-    go : (rs : List AllocationRegion) → overlap standard (bared rs) ≡ overlap standard rs
-    go [] = refl
-    go (r ∷ rs) = rw (any-spans (shares standard r) (λ t. refl) .same rs, go rs)
+  pub overlap-spans : OfSpans (overlap board)
+  unfolding overlap
+  overlap-spans = record { same = go }
+    where
+      go : (rs : List AllocationRegion) → overlap board (bared rs) ≡ overlap board rs
+      go [] = refl
+      go (r ∷ rs) = rw (any-spans (shares board r) (λ t. refl) .same rs, go rs)
 
 -- ---- regions with the same starts and pages
 
-pub stand-bare
-    : {f : ℕ → Record} {n : ℕ} {fs : Frames} {base : ℕ} {rows : List Row} {rs : List AllocationRegion} → StandRows f n fs base rows rs
-    → bared rs ≡ bareRegions standard rows
-unfolding bareRegions
-stand-bare stand-none = refl
-stand-bare (stand-more S rest) = rw (S .start, S .pages, stand-bare rest)
+module _ {board : Board} where
+  pub stand-bare
+      : {f : ℕ → Record} {n : ℕ} {fs : Frames} {base : ℕ} {rows : List Row} {rs : List AllocationRegion} → StandRows board f n fs base rows rs
+      → bared rs ≡ bareRegions board rows
+  unfolding bareRegions
+  stand-bare stand-none = refl
+  stand-bare (stand-more S rest) = rw (S .start, S .pages, stand-bare rest)
 
-pub turned-bare
-    : {f g : ℕ → Record} {n : ℕ} {rows rows2 : List Row} {a a2 : PhysicalFrameAllocator} → Table f n rows a → Turned f rows g n rows2 a2
-    → bared (a2 .regions) ≡ bared (a .regions)
-turned-bare T U = stand-bare (U .table .stands) ∙ U .spans ∙ sym (stand-bare (T .stands))
+  pub turned-bare
+      : {f g : ℕ → Record} {n : ℕ} {rows rows2 : List Row} {a a2 : PhysicalFrameAllocator} → Table board f n rows a → Turned board f rows g n rows2 a2
+      → bared (a2 .regions) ≡ bared (a .regions)
+  turned-bare T U = stand-bare (U .table .stands) ∙ U .spans ∙ sym (stand-bare (T .stands))
 
 module _ {A : Type 0} {F : List AllocationRegion → A} (S : OfSpans F) where
   pub spans-same : (rs ts : List AllocationRegion) → bared ts ≡ bared rs → F ts ≡ F rs
   spans-same rs ts e = sym (S .same ts) ∙ ap F e ∙ S .same rs
 
-  pub spans-bare
-      : {f : ℕ → Record} {n : ℕ} {fs : Frames} {base : ℕ} {rows : List Row} {rs : List AllocationRegion} → StandRows f n fs base rows rs
-      → F rs ≡ F (bareRegions standard rows)
-  spans-bare {rs = rs} T = sym (S .same rs) ∙ ap F (stand-bare T)
+module _ {board : Board} where
+  module _ {A : Type 0} {F : List AllocationRegion → A} (S : OfSpans F) where
+    pub spans-bare
+        : {f : ℕ → Record} {n : ℕ} {fs : Frames} {base : ℕ} {rows : List Row} {rs : List AllocationRegion} → StandRows board f n fs base rows rs
+        → F rs ≡ F (bareRegions board rows)
+    spans-bare {rs = rs} T = sym (S .same rs) ∙ ap F (stand-bare T)
 
-  pub spans-turned
-      : {f g : ℕ → Record} {n : ℕ} {rows rows2 : List Row} {a a2 : PhysicalFrameAllocator} → Table f n rows a → Turned f rows g n rows2 a2
-      → F (a2 .regions) ≡ F (a .regions)
-  spans-turned {a = a} {a2 = a2} T U = spans-same (a .regions) (a2 .regions) (turned-bare T U)
+    pub spans-turned
+        : {f g : ℕ → Record} {n : ℕ} {rows rows2 : List Row} {a a2 : PhysicalFrameAllocator} → Table board f n rows a → Turned board f rows g n rows2 a2
+        → F (a2 .regions) ≡ F (a .regions)
+    spans-turned {a = a} {a2 = a2} T U = spans-same S (a .regions) (a2 .regions) (turned-bare T U)
 
 -- ---- the laws of pages and bytes
 
--- what is known of the rows holds of the regions that they stand for
-pub runs-bare
-    : {f : ℕ → Record} {n : ℕ} {fs : Frames} {base : ℕ} {rows : List Row} {rs : List AllocationRegion} → StandRows f n fs base rows rs
-    → {p q k : ℕ} → Runs (bareRegions standard rows) p q k → Runs rs p q k
-runs-bare T {p} R = record { some-page = R .some-page; each = λ i h. spans-bare (number-spans 0 (p + i)) T ∙ R .each i h }
+module _ {board : Board} where
+  -- what is known of the rows holds of the regions that they stand for
+  pub runs-bare
+      : {f : ℕ → Record} {n : ℕ} {fs : Frames} {base : ℕ} {rows : List Row} {rs : List AllocationRegion} → StandRows board f n fs base rows rs
+      → {p q k : ℕ} → Runs board (bareRegions board rows) p q k → Runs board rs p q k
+  runs-bare T {p} R = record { some-page = R .some-page; each = λ i h. spans-bare (number-spans board 0 (p + i)) T ∙ R .each i h }
 
--- the managed bytes are the front of the loan still
-module _ (rs ts : List AllocationRegion) (e : bared ts ≡ bared rs) where
-  pub memory-same : (m : Memory) (bs : List ℕ) → Fronts rs m bs → Fronts ts m bs
-  memory-same m bs h = rw (spans-same (memory-spans m) rs ts e, spans-same managed-spans rs ts e) h
+module _ (board : Board) where
+  -- the managed bytes are the front of the loan still
+  module _ (rs ts : List AllocationRegion) (e : bared ts ≡ bared rs) where
+    pub memory-same : (m : Memory) (bs : List ℕ) → Fronts board rs m bs → Fronts board ts m bs
+    memory-same m bs h = rw (spans-same (memory-spans board m) rs ts e, spans-same (managed-spans board) rs ts e) h
 
-  pub rewritten-same : {m : Memory} {bs cs : List ℕ} → Rewritten rs bs m cs → Rewritten ts bs m cs
-  rewritten-same {m} {cs = cs} W =
-      record { memory = memory-same m cs (W .memory); as-long = W .as-long; beyond = rw (spans-same managed-spans rs ts e) (W .beyond) }
+    pub rewritten-same : {m : Memory} {bs cs : List ℕ} → Rewritten board rs bs m cs → Rewritten board ts bs m cs
+    rewritten-same {m} {cs = cs} W =
+        record { memory = memory-same m cs (W .memory); as-long = W .as-long; beyond = rw (spans-same (managed-spans board) rs ts e) (W .beyond) }

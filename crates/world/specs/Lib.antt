@@ -1,3 +1,4 @@
+pub mod Fit
 pub mod Stands
 pub mod Tables
 pub mod Refusals

@@ -7,7 +7,7 @@ use mathlib.Core.Option.{Option, none, some}
 use lib.Dec.{eqb, ltb}
 use Rattle.definition.specs.declared.Refusal.{Refusal}
 use Rattle.definition.specs.declared.Refusal.the-variants.{Outside, NoFrameStart, NotHeld, PastTheEnd}
-use Rattle.definition.specs.Board.{standard}
+use Rattle.definition.specs.Board.{Board}
 use Rattle.definition.specs.Refusal.{Test, _when_, numberOf, lowest}
 use Rattle.definition.specs.Store.{Store}
 use Rattle.definition.specs.Tracker.{startsFrame, isHeld}
@@ -17,32 +17,33 @@ abbrev pub numberIf : Option Refusal → ℕ
 numberIf none = 0
 numberIf (some r) = numberOf r
 
--- the refusal that a call meets on a store
-abbrev pub refusalOf : Store → Call → ℕ
-refusalOf s c = numberIf (lowest (sheet standard s (names c)))
-
--- the lines of the sheet for a frame that must be held, with a range of it
-abbrev pub frameTests : Store → Range → List Test
-frameTests s r =
-    (Outside when outside standard s r)
-    ∷ (NoFrameStart when not (startsFrame standard s (r .address)))
-    ∷ (NotHeld when not (isHeld standard s (r .address)))
-    ∷ (PastTheEnd when leavesFrame standard s r)
-    ∷ []
-
-abbrev pub frameRefusal : Store → Range → ℕ
-frameRefusal s r = numberIf (lowest (frameTests s r))
-
--- the lines of the sheet for a place that need only be managed
-abbrev pub placeTests : Store → Range → List Test
-placeTests s r = (Outside when outside standard s r) ∷ (PastTheEnd when leavesRegion standard s r) ∷ []
-
-abbrev pub placeRefusal : Store → Range → ℕ
-placeRefusal s r = numberIf (lowest (placeTests s r))
-
 abbrev pub rangeOf : (address offset length : ℕ) → Range
 rangeOf a off len = record { address = a; offset = off; length = len }
 
 -- the lower of two numbers that are not 0, else the other
 abbrev pub lower : ℕ → ℕ → ℕ
 lower a b = cond (eqb a 0) b (cond (eqb b 0) a (cond (ltb a b) a b))
+
+module _ (board : Board) where
+  -- the refusal that a call meets on a store
+  abbrev pub refusalOf : Store → Call → ℕ
+  refusalOf s c = numberIf (lowest (sheet board s (names c)))
+
+  -- the lines of the sheet for a frame that must be held, with a range of it
+  abbrev pub frameTests : Store → Range → List Test
+  frameTests s r =
+      (Outside when outside board s r)
+      ∷ (NoFrameStart when not (startsFrame board s (r .address)))
+      ∷ (NotHeld when not (isHeld board s (r .address)))
+      ∷ (PastTheEnd when leavesFrame board s r)
+      ∷ []
+
+  abbrev pub frameRefusal : Store → Range → ℕ
+  frameRefusal s r = numberIf (lowest (frameTests s r))
+
+  -- the lines of the sheet for a place that need only be managed
+  abbrev pub placeTests : Store → Range → List Test
+  placeTests s r = (Outside when outside board s r) ∷ (PastTheEnd when leavesRegion board s r) ∷ []
+
+  abbrev pub placeRefusal : Store → Range → ℕ
+  placeRefusal s r = numberIf (lowest (placeTests s r))

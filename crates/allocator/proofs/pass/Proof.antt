@@ -6,6 +6,7 @@ use mathlib.Core.Path.{_≡_, refl}
 use native.Mathlib.Omega.{arith}
 use borrow.Author.Needs.{needs}
 use lib.ListN.{length}
+use Rattle.definition.specs.Board.{standard}
 use Rattle.definition.specs.World.{recordAt, usedRows}
 use Rattle.record.specs.Records.{pagesIn}
 use Rattle.region.specs.Rep.{managed}
@@ -22,7 +23,7 @@ record Inv (words₀ records₀ : List ℕ) (level : ℕ) (try-zero only-zero : 
   rest : RowsBeside words₀ words
   wide : length words ≡ length words₀
   long : length records ≡ length records₀
-  gone : Gone (recordAt records₀) (pagesIn records₀) (rowsIn words₀) level try-zero only-zero (recordAt records) (pagesIn records) base i
+  gone : Gone standard (recordAt records₀) (pagesIn records₀) (rowsIn words₀) level try-zero only-zero (recordAt records) (pagesIn records) base i
 
 abbrev Inv-loop : tie.InvT-loop
 Inv-loop words₀ records₀ level try-zero only-zero base₀ i₀ words records base i = Inv words₀ records₀ level try-zero only-zero words records base i
@@ -69,7 +70,7 @@ used c =
 good
     : (c : tie.Else1 Inv-loop μ-loop)
     → let k = c .before .before .before .before in
-    Good (recordAt (k .loop .records)) (pagesIn (k .loop .records)) (k .loop .base) (rowAt (rowsIn (k .before .before .before .args .words .now)) (k .loop .i))
+    Good standard (recordAt (k .loop .records)) (pagesIn (k .loop .records)) (k .loop .base) (rowAt (rowsIn (k .before .before .before .args .words .now)) (k .loop .i))
 good c = gone-good (c .before .before .before .before .loop .inv .gone) (used c)
 
 allocate-requires : tie.Need-allocate-requires Inv-loop μ-loop

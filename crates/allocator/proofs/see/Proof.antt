@@ -3,6 +3,7 @@
 use Prim.Native.Nat.{_-_, _/_, _<_}
 use native.Mathlib.Omega.{arith}
 use borrow.Author.Needs.{needs}
+use Rattle.definition.specs.Board.{standard}
 use Rattle.definition.specs.World.{recordAt}
 use Rattle.record.specs.Records.{pagesIn}
 use Rattle.region.specs.Rep.{managed}
@@ -13,7 +14,7 @@ use Rattle.allocator.proofs.see.Statement.{statement}
 use Rattle.allocator.proofs.see.Tie as tie
 
 abbrev Inv-loop : tie.InvT-loop
-Inv-loop words records pa base₀ i₀ base i = Looking (recordAt records) (pagesIn records) (rowsIn words) (pa .0 / 4096) base i
+Inv-loop words records pa base₀ i₀ base i = Looking standard (recordAt records) (pagesIn records) (rowsIn words) (pa .0 / 4096) base i
 
 abbrev μ-loop : tie.MeasureT-loop
 μ-loop words records pa base₀ i₀ base i = 8 - i
@@ -39,7 +40,7 @@ turn
     : (c : tie.Else1 Inv-loop μ-loop)
     → let k = c .before .before .before .before in
     let a = k .before .before .before .args in
-    Here (pagesIn (a .records .now)) (rowsIn (a .words .now)) (k .loop .base) (k .loop .i)
+    Here standard (pagesIn (a .records .now)) (rowsIn (a .words .now)) (k .loop .base) (k .loop .i)
 turn c =
     let k = c .before .before .before .before in
     let s = k .before .before .before in

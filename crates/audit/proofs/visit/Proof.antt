@@ -107,7 +107,7 @@ torn-rows-requires-3 c κs = search needs
 -- the region, whose first managed page is behind those that were seen
 region : (c : tie.After-region-whole) → let d = c .before .before .before .before .before .before .before .before .before in
     let a = d .before .before .before .args in
-    Audited (recordAt (a .records .now)) (placedAt (a .seen .managed) (d .row-at .result)) (c .region-whole .result)
+    Audited standard (recordAt (a .records .now)) (placedAt (a .seen .managed) (d .row-at .result)) (c .region-whole .result)
 region c = c .region-whole .ensures
 
 returns-3 : tie.Need-returns-3

@@ -4,6 +4,8 @@ use mathlib.Core.Path.{refl, sym, _∙_}
 use native.Mathlib.Omega.{arith}
 use borrow.Author.Needs.{needs}
 use borrow.Author.Tests.{not-true, not-false}
+use Rattle.definition.specs.Board.{standard}
+use Rattle.world.specs.Fit.{standard-fit}
 use Rattle.world.proofs.RoundTrip.{round-trip}
 use Rattle.allocator.specs.Spots.{numberAt}
 use Rattle.exam.specs.Promise.{stateWith, worldOf}
@@ -41,7 +43,7 @@ returns c n queue S =
     let P = s .pre .1 .0 in
     let Q = s .pre .1 .1 in
     rw (from-dirty w S P Q (sym (z .ensures) ∙ not-true (z .result) (c .before .before .before .before .before .before .before .before .before .if1 .taken)))
-    (c .before .before .before .before .move-into .ensures n queue S (4096 * numberAt (w .rows) (s .args .from .spot) + s .args .from-offset) (held-read S (Q .held) refl (s .args .from-offset) (s .args .len) (Q .range)))
+    (c .before .before .before .before .move-into .ensures n queue S (4096 * numberAt standard (w .rows) (s .args .from .spot) + s .args .from-offset) (held-read S (Q .held) refl (s .args .from-offset) (s .args .len) (Q .range)))
 
 is-zeroed-requires-2 : tie.Need-is-zeroed-requires-2
 is-zeroed-requires-2 c κs = search needs
@@ -54,7 +56,7 @@ returns-2 c n queue S =
     let z = c .before .before .before .is-zeroed in
     let y = c .before .is-zeroed2 in
     rw (both-zeroed w S (s .pre .1 .0) (s .pre .1 .1) (sym (z .ensures) ∙ not-false (z .result) (c .before .before .if1 .left)) (sym (y .ensures) ∙ c .if2 .taken))
-    (round-trip w S (λ i. k .slice-known .given i .fits))
+    (round-trip standard-fit w S (λ i. k .slice-known .given i .fits))
 
 zero-range-requires : tie.Need-zero-range-requires
 zero-range-requires c κs = search needs

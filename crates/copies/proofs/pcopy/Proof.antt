@@ -11,6 +11,7 @@ use Rattle.definition.specs.Calls.{Call, Pcopy}
 use Rattle.definition.specs.World.{World, decode, recordAt}
 use Rattle.definition.specs.Torn.{sound}
 use Rattle.audit.proofs.Sheets.{sound-is}
+use Rattle.world.specs.Fit.{standard-fit}
 use Rattle.world.proofs.Leaving.{sound-table}
 use Rattle.words.specs.Words.{rowsIn}
 use Rattle.allocator.specs.Spots.{Sees}
@@ -55,11 +56,11 @@ to : (c : tie.After-look) → let e = c .before .before in let a = start (e .bef
 to c = let e = c .before .before in looked (world (e .before)) (whole e) (c .look .ensures)
 
 sees : (c : tie.After-see) → let e = c .before .before .before .before in let w = world (e .before) in
-    Sees (recordAt (w .records)) (w .rows) (start (e .before) .args .source .0 / 4096) (decode standard w .allocator) (c .see .result)
+    Sees standard (recordAt (w .records)) (w .rows) (start (e .before) .args .source .0 / 4096) (decode standard w .allocator) (c .see .result)
 sees c =
     let e = c .before .before .before .before in
     let w = world (e .before) in
-    c .see .ensures (decode standard w .allocator) (sound-table w (sound-is standard w (whole e)))
+    c .see .ensures (decode standard w .allocator) (sound-table standard-fit w (sound-is standard w (whole e)))
 
 none : (c : tie.Else2) → let l = c .before .before .before in let a = start (l .before .before .before .before .before) .args in
     (l .before .before .look .result .number ≡ 0) × (placeSeen (rowsIn (a .words .now)) (l .see .result) (a .source .0) (a .len) ≡ 0)

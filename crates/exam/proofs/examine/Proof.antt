@@ -9,6 +9,7 @@ use lib.ListN.{replicate, length-replicate}
 use Rattle.definition.specs.Board.{standard}
 use Rattle.definition.specs.World.{decode}
 use Rattle.audit.proofs.Sheets.{sound-is}
+use Rattle.world.specs.Fit.{standard-fit}
 use Rattle.world.proofs.Leaving.{sound-sane, sound-table}
 use Rattle.exam.specs.Promise.{stateWith, worldOf}
 use Rattle.exam.proofs.Tests.{frame-seen}
@@ -41,7 +42,7 @@ look-requires c κs =
     let q : List ℕ = replicate (a .queue-len) 0 in
     let w = worldOf (stateWith (a .counters) (a .words .now)) (a .records .now) m q in
     let t = sym (r .ensures m q (length-replicate (a .memory-len) 0) (length-replicate (a .queue-len) 0)) ∙ not-false (r .result) (c .if1 .left) in
-    (s .pre, sound-sane w (sound-is standard w t))
+    (s .pre, sound-sane standard-fit w (sound-is standard w t))
 
 returns-2 : tie.Need-returns-2
 returns-2 c memory queue a b =
@@ -49,7 +50,7 @@ returns-2 c memory queue a b =
     let r = c .before .before .is-sound in
     let w = worldOf (stateWith (s .args .counters) (s .args .words .now)) (s .args .records .now) memory queue in
     let t = sym (r .ensures memory queue a b) ∙ not-false (r .result) (c .before .if1 .left) in
-    let T = sound-table w (sound-is standard w t) in
+    let T = sound-table standard-fit w (sound-is standard w t) in
     let l = c .look .ensures in
     record {
       torn = λ d. absurd (false≢true (sym d ∙ t));

@@ -1,5 +1,6 @@
 -- What is seen at an address, for every allocator that the table stands for.
 use borrow.Author.Needs.{needs}
+use Rattle.definition.specs.Board.{standard}
 use Rattle.definition.specs.World.{recordAt}
 use Rattle.words.specs.Words.{rowsIn}
 use Rattle.allocator.proofs.Standing.{sane-table, standing}
@@ -13,7 +14,7 @@ see-requires c κs = search needs
 refusal-requires : tie.Need-refusal-requires
 refusal-requires c κs =
     let s = c .before .before .before in
-    sees-leveled (s .pre .1) (c .see .ensures (standing (recordAt (s .args .records .now)) (rowsIn (s .args .words .now))) (sane-table (s .pre .1)))
+    sees-leveled (s .pre .1) (c .see .ensures (standing standard (recordAt (s .args .records .now)) (rowsIn (s .args .words .now))) (sane-table (s .pre .1)))
 
 returns : tie.Need-returns
 returns c =
@@ -21,7 +22,7 @@ returns c =
     let e = c .before .see .ensures in
     record {
       number = c .refusal .ensures;
-      leveled = sees-leveled (s .pre .1) (e (standing (recordAt (s .args .records .now)) (rowsIn (s .args .words .now))) (sane-table (s .pre .1)));
+      leveled = sees-leveled (s .pre .1) (e (standing standard (recordAt (s .args .records .now)) (rowsIn (s .args .words .now))) (sane-table (s .pre .1)));
       sees = e;
     }
 

@@ -10,6 +10,7 @@ use Rattle.definition.specs.Torn.{sound}
 use Rattle.definition.specs.World.{decode, recordAt}
 use Rattle.audit.proofs.Sheets.{sound-is}
 use Rattle.words.specs.Words.{rowsIn}
+use Rattle.world.specs.Fit.{standard-fit}
 use Rattle.world.proofs.Leaving.{sound-sane, sound-table}
 use Rattle.allocator.specs.Spots.{Sees}
 use Rattle.exam.specs.Promise.{stateWith, worldOf}
@@ -33,11 +34,11 @@ sound-here c =
 sees-here
     : (c : tie.After-see)
     → let a = c .before .before .before .before .before .before .before .args in
-    Sees (recordAt (a .records .now)) (rowsIn (a .words .now)) (a .pa .0 / 4096) (decode standard (worldOf (stateWith (a .counters) (a .words .now)) (a .records .now) (a .memory .now) (a .queue .now)) .allocator) (c .see .result)
+    Sees standard (recordAt (a .records .now)) (rowsIn (a .words .now)) (a .pa .0 / 4096) (decode standard (worldOf (stateWith (a .counters) (a .words .now)) (a .records .now) (a .memory .now) (a .queue .now)) .allocator) (c .see .result)
 sees-here c =
     let a = c .before .before .before .before .before .before .before .args in
     let w = worldOf (stateWith (a .counters) (a .words .now)) (a .records .now) (a .memory .now) (a .queue .now) in
-    c .see .ensures (decode standard w .allocator) (sound-table w (sound-is standard w (sound-here (c .before))))
+    c .see .ensures (decode standard w .allocator) (sound-table standard-fit w (sound-is standard w (sound-here (c .before))))
 
 is-sound-requires : tie.Need-is-sound-requires
 is-sound-requires c κs = search needs
@@ -58,7 +59,7 @@ see-requires c κs =
     let s = c .before .before .before .before .before .before in
     let a = s .args in
     let w = worldOf (stateWith (a .counters) (a .words .now)) (a .records .now) (a .memory .now) (a .queue .now) in
-    (s .pre, sound-sane w (sound-is standard w (sound-here c)))
+    (s .pre, sound-sane standard-fit w (sound-is standard w (sound-here c)))
 
 refused-requires-2 : tie.Need-refused-requires-2
 refused-requires-2 c κs = search needs
@@ -82,7 +83,7 @@ frame-bytes-requires c κs =
     let d = c .before .before .before in
     let a = d .before .before .before .before .before .before .before .args in
     let w = worldOf (stateWith (a .counters) (a .words .now)) (a .records .now) (a .memory .now) (a .queue .now) in
-    sees-leveled (sound-sane w (sound-is standard w (sound-here (d .before)))) (sees-here d) (not-false (d .see .result .managed) (c .before .if2 .left))
+    sees-leveled (sound-sane standard-fit w (sound-is standard w (sound-here (d .before)))) (sees-here d) (not-false (d .see .result .managed) (c .before .if2 .left))
 
 done-requires : tie.Need-done-requires
 done-requires c κs = search needs

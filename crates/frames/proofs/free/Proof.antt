@@ -6,6 +6,7 @@ use Rattle.definition.specs.Board.{standard}
 use Rattle.audit.proofs.Sheets.{sound-is}
 use Rattle.words.specs.Words.{rowsIn}
 use Rattle.words.proofs.Words.{beside-same}
+use Rattle.world.specs.Fit.{standard-fit}
 use Rattle.world.proofs.Leaving.{sound-sane}
 use Rattle.exam.specs.Promise.{Examined, stateWith, worldOf}
 use Rattle.exam.proofs.Bounds.{idle-small}
@@ -41,7 +42,7 @@ release-requires c κs =
     let E : Examined w (s .args .pa .0) 0 0 (x .result) = x .ensures (s .args .memory .now) (s .args .queue .now) refl refl in
     let z : x .result .number ≡ 0 = c .before .before .before .if1 .left in
     let S = sound-is standard w (examined-sound E z) in
-    ((s .pre, sound-sane w S), (examined-held E z, omega (arith, idle-small w S)))
+    ((s .pre, sound-sane standard-fit w S), (examined-held E z, omega (arith, idle-small w S)))
 
 raw-requires : tie.Need-raw-requires
 raw-requires c κs = search needs

@@ -3,6 +3,7 @@ use mathlib.Core.Path.{_≡_, refl}
 use borrow.Author.Needs.{needs}
 use Rattle.definition.specs.Board.{standard}
 use Rattle.audit.proofs.Sheets.{sound-is}
+use Rattle.world.specs.Fit.{standard-fit}
 use Rattle.world.proofs.Leaving.{sound-sane}
 use Rattle.exam.specs.Promise.{Examined, stateWith, worldOf}
 use Rattle.exam.proofs.Promises.{examined-held, examined-sound}
@@ -34,7 +35,7 @@ split-frame-requires c κs =
     let E : Examined w (s .args .pa .0) 0 0 (x .result) = x .ensures (s .args .memory .now) (s .args .queue .now) refl refl in
     let z : x .result .number ≡ 0 = c .before .before .if1 .left in
     let H = examined-held E z in
-    ((s .pre, sound-sane w (sound-is standard w (examined-sound E z))), (H .inside, H .held))
+    ((s .pre, sound-sane standard-fit w (sound-is standard w (examined-sound E z))), (H .inside, H .held))
 
 raw-requires : tie.Need-raw-requires
 raw-requires c κs = search needs

@@ -5,6 +5,7 @@ use native.Mathlib.Omega.{arith}
 use borrow.Author.Needs.{needs}
 use borrow.Author.Tests.{not-true, not-false}
 use lib.ListN.{length}
+use Rattle.definition.specs.Board.{standard}
 use Rattle.definition.specs.Allocator.{doAlloc}
 use Rattle.definition.specs.World.{recordAt}
 use Rattle.record.specs.Records.{pagesIn}
@@ -32,7 +33,7 @@ returns c =
     let s = c .before .before .before .before .before .before .before .before .before .before .before .before .before in
     let a = s .args in
     let k : pagesIn (d .last .1 .0) ≡ pagesIn (a .records .now) = omega (arith, d .kept .1 .0) in
-    let S = subst (λ (n : ℕ). Sane (recordAt (a .records .now)) n (rowsIn (a .words .now))) (sym k) (s .pre .1 .sane) in
+    let S = subst (λ (n : ℕ). Sane standard (recordAt (a .records .now)) n (rowsIn (a .words .now))) (sym k) (s .pre .1 .sane) in
     let e = not-true (d .result .found) (c .if1 .taken) in (
       (finds-none (a .counters) (a .words .now) (d .last .0) (a .level) (a .flags) (d .ensures .0) (d .ensures .1), holds-none (a .counters) (a .words .now) (d .last .0) (a .level) (a .flags) (d .ensures .0) S),
       (gives-none (a .counters) (a .words .now) (d .last .0) (a .level) (a .flags) (d .ensures .0) (a .memory .now) e, d .ensures .1 .beside),
@@ -44,7 +45,7 @@ address-of-requires c κs =
     let s = c .before .before .before .before .before .before .before .before .before .before .before .before .before .before in
     let a = s .args in
     let k : pagesIn (d .last .1 .0) ≡ pagesIn (a .records .now) = omega (arith, d .kept .1 .0) in
-    let S = subst (λ (n : ℕ). Sane (recordAt (a .records .now)) n (rowsIn (a .words .now))) (sym k) (s .pre .1 .sane) in
+    let S = subst (λ (n : ℕ). Sane standard (recordAt (a .records .now)) n (rowsIn (a .words .now))) (sym k) (s .pre .1 .sane) in
     let e = not-false (d .result .found) (c .before .if1 .left) in (
       omega (arith, d .kept .0, s .pre .0),
       near (picked-spot (a .counters) (a .words .now) (d .last .0) (a .level) (a .flags) (d .ensures .0) e S) (picked-sane (a .counters) (a .words .now) (d .last .0) (a .level) (a .flags) (d .ensures .0) S),
@@ -81,11 +82,11 @@ returns-2 c =
     let a = s .args in
     let k : pagesIn (d .last .1 .0) ≡ pagesIn (h .last .1 .1 .0) = omega (arith, h .kept .1 .1 .0) in
     let m : pagesIn (a .records .now) ≡ pagesIn (h .last .1 .1 .0) = omega (arith, h .kept .1 .1 .0, d .kept .1 .0) in
-    let S = subst (λ (n : ℕ). Sane (recordAt (a .records .now)) n (rowsIn (a .words .now))) m (s .pre .1 .sane) in
+    let S = subst (λ (n : ℕ). Sane standard (recordAt (a .records .now)) n (rowsIn (a .words .now))) m (s .pre .1 .sane) in
     let P
     = subst
     (λ (n : ℕ).
-    PicksBy (doAlloc (a .level) (a .flags .zeroed)) (recordAt (a .records .now)) (rowsIn (a .words .now)) (recordAt (d .last .1 .0)) n
+    PicksBy standard (doAlloc (a .level) (a .flags .zeroed)) (recordAt (a .records .now)) (rowsIn (a .words .now)) (recordAt (d .last .1 .0)) n
     (record { rows = rowsIn (d .last .0); found = d .result .found; spot = d .result .spot }))
     k (d .ensures .0)
     in

@@ -10,6 +10,7 @@ use Rattle.definition.specs.Board.{standard}
 use Rattle.definition.specs.World.{decode}
 use Rattle.audit.proofs.Sheets.{sound-is}
 use Rattle.level.proofs.Ranks.{rank-below}
+use Rattle.world.specs.Fit.{standard-fit}
 use Rattle.world.proofs.Leaving.{sound-sane, sound-table}
 use Rattle.exam.specs.Promise.{stateWith, worldOf}
 use Rattle.grants.proofs.Asking.{wants-found, wants-refused, wants-torn}
@@ -42,7 +43,7 @@ is-listed-requires c κs =
     let q : List ℕ = replicate (s .args .queue-len) 0 in
     let t = sym (r .ensures m q (length-replicate (s .args .memory-len) 0) (length-replicate (s .args .queue-len) 0)) ∙ not-false (r .result) (c .before .before .before .before .before .if1 .left) in
     let w = worldOf (stateWith (s .args .counters) (s .args .words .now)) (s .args .records .now) m q in
-    ((s .pre, sound-sane w (sound-is standard w t)), omega (arith, c .index .ensures, rank-below (c .before .before .level .given .0 .0)))
+    ((s .pre, sound-sane standard-fit w (sound-is standard w t)), omega (arith, c .index .ensures, rank-below (c .before .before .level .given .0 .0)))
 
 returns-2 : tie.Need-returns-2
 returns-2 c memory queue a b =
@@ -55,7 +56,7 @@ returns-2 c memory queue a b =
     let f = l .before .before .before .before .before .find-level in
     let v = l .before .before .before .level .given in
     wants-found t (v .0 .0) (sym (f .ensures (s .args .flags)) ∙ v .1) (l .before .index .ensures)
-    (l .is-listed .result) (l .is-listed .ensures (decode standard w .allocator) (sound-table w (sound-is standard w t)))
+    (l .is-listed .result) (l .is-listed .ensures (decode standard w .allocator) (sound-table standard-fit w (sound-is standard w t)))
     (rw (c .if2 .taken) refl)
 
 enum-known-refusal : tie.Need-enum-known-refusal
@@ -75,7 +76,7 @@ returns-3 c memory queue a b =
     let f = l .before .before .before .before .before .find-level in
     let v = l .before .before .before .level .given in
     wants-found t (v .0 .0) (sym (f .ensures (s .args .flags)) ∙ v .1) (l .before .index .ensures)
-    (l .is-listed .result) (l .is-listed .ensures (decode standard w .allocator) (sound-table w (sound-is standard w t)))
+    (l .is-listed .result) (l .is-listed .ensures (decode standard w .allocator) (sound-table standard-fit w (sound-is standard w t)))
     (rw (c .before .if2 .left, c .if3 .taken) refl)
 
 returns-4 : tie.Need-returns-4
@@ -89,7 +90,7 @@ returns-4 c memory queue a b =
     let f = l .before .before .before .before .before .find-level in
     let v = l .before .before .before .level .given in
     wants-found t (v .0 .0) (sym (f .ensures (s .args .flags)) ∙ v .1) (l .before .index .ensures)
-    (l .is-listed .result) (l .is-listed .ensures (decode standard w .allocator) (sound-table w (sound-is standard w t)))
+    (l .is-listed .result) (l .is-listed .ensures (decode standard w .allocator) (sound-table standard-fit w (sound-is standard w t)))
     (rw (c .before .if2 .left, c .if3 .left) refl)
 
 returns-5 : tie.Need-returns-5

@@ -4,6 +4,7 @@ use mathlib.Core.List.{List}
 use mathlib.Core.Path.{_≡_, refl}
 use native.Mathlib.Omega.{arith}
 use lib.ListN.{length}
+use Rattle.definition.specs.Board.{standard}
 use Rattle.definition.specs.World.{recordAt}
 use Rattle.record.specs.Records.{pagesIn}
 use Rattle.words.specs.Words.{InUse, rowOf, rowsIn}
@@ -18,8 +19,8 @@ record Inv (records₀ words₀ : List ℕ) (times : ℕ) (records words : List 
   records-same : length records ≡ length records₀
   words-same : length words ≡ length words₀
   used : InUse words 0
-  sound : SoundRow (recordAt records) (pagesIn records) 0 (rowOf (rowsIn words) 0)
-  whole : WholeRow (recordAt records) 0 (rowOf (rowsIn words) 0)
+  sound : SoundRow standard (recordAt records) (pagesIn records) 0 (rowOf (rowsIn words) 0)
+  whole : WholeRow standard (recordAt records) 0 (rowOf (rowsIn words) 0)
 
 abbrev Inv-loop : tie.InvT-loop
 Inv-loop records₀ words₀ level times i₀ records words i = Inv records₀ words₀ times records words i

@@ -40,7 +40,7 @@ returns c =
     let k = c .before .before in
     let a = start k .args in
     rw (c .refused .ensures)
-    (examined-refused (found k) (Dirty (a .pa .0)) (λ i. k .before .before .before .before .slice-known .given i .fits) (λ t. one-frame (decode standard (world k)) (a .pa .0) 0 0) (λ h. omega arith))
+    (examined-refused (found k) (Dirty (a .pa .0)) (λ i. k .before .before .before .before .slice-known .given i .fits) (λ t. one-frame standard (decode standard (world k)) (a .pa .0) 0 0) (λ h. omega arith))
 
 is-kernel-requires : tie.Need-is-kernel-requires
 is-kernel-requires c κs = search needs

@@ -41,7 +41,7 @@ returns c =
     let k = c .before .before in
     let a = start k .args in
     rw (c .refused .ensures)
-    (examined-refused (found k) (Write (a .pa .0) (a .offset) (a .bytes .now)) (λ i. k .before .before .before .before .before .slice-known .given i .fits) (λ t. one-frame (decode standard (world k)) (a .pa .0) (a .offset) (length (a .bytes .now))) (λ h. omega arith))
+    (examined-refused (found k) (Write (a .pa .0) (a .offset) (a .bytes .now)) (λ i. k .before .before .before .before .before .slice-known .given i .fits) (λ t. one-frame standard (decode standard (world k)) (a .pa .0) (a .offset) (length (a .bytes .now))) (λ h. omega arith))
 
 mul-write : tie.Need-mul-write
 mul-write c = let k = c .before .before .before .before in omega (arith, examined-ends (found (k .before)) (none k), start (k .before) .good .1 .1 .1 .0 .0)

@@ -40,7 +40,7 @@ returns c =
     let k = c .before .before in
     let a = start k .args in
     rw (c .refused .ensures)
-    (examined-refused (found k) (Zero (a .pa .0)) (λ i. k .before .before .before .before .slice-known .given i .fits) (λ t. one-frame (decode standard (world k)) (a .pa .0) 0 0) (λ h. omega arith))
+    (examined-refused (found k) (Zero (a .pa .0)) (λ i. k .before .before .before .before .slice-known .given i .fits) (λ t. one-frame standard (decode standard (world k)) (a .pa .0) 0 0) (λ h. omega arith))
 
 frame-bytes-requires : tie.Need-frame-bytes-requires
 frame-bytes-requires c κs = let k = c .before .before in examined-fit (found (k .before)) (none k)

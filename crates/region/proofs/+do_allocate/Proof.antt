@@ -6,6 +6,7 @@ use Prim.Native.Nat.{ℕ, _-_, _<_}
 use borrow.Fn.Kinds.{In}
 use borrow.Fn.PlainCycle.{Measures, is, falls, and}
 use mathlib.Core.List.{List}
+use Rattle.definition.specs.Board.{standard}
 use Rattle.definition.specs.Frame.{Found, Levels, split}
 use Rattle.definition.specs.World.{recordAt}
 use Rattle.record.specs.Records.{pagesIn}
@@ -77,12 +78,12 @@ module _ (t : ℕ) where
   -- the records and the words have come to stand for the levels x
   abbrev Stands : Start → List ℕ → List ℕ → Levels → Type 0
   Stands s bytes words x =
-      Reached (recordAt (s .args .records .now)) (s .args .first) (s .args .words .now) (s .args .index) (recordAt bytes) (pagesIn bytes) words x
+      Reached standard (recordAt (s .args .records .now)) (s .args .first) (s .args .words .now) (s .args .index) (recordAt bytes) (pagesIn bytes) words x
 
   -- the same after a search that came to the answer a
   abbrev Finds : Start → List ℕ → List ℕ → Got → Found → Type 0
   Finds s bytes words r a =
-      Sought (recordAt (s .args .records .now)) (s .args .first) (s .args .words .now) (s .args .index) (recordAt bytes) (pagesIn bytes) words r a
+      Sought standard (recordAt (s .args .records .now)) (s .args .first) (s .args .words .now) (s .args .index) (recordAt bytes) (pagesIn bytes) words r a
 
   abbrev start-of : lts.After-level-allocate calls at do-allocate.Post → Start
   start-of c = c .before .before .before .before .before .before

@@ -3,6 +3,7 @@ use mathlib.Core.Option.{none}
 use native.Mathlib.Omega.{arith}
 use borrow.Author.Needs.{needs}
 use borrow.Author.Tests.{not-true, not-false}
+use Rattle.definition.specs.Board.{standard}
 use Rattle.definition.specs.Frame.{Found, allocate}
 use Rattle.definition.specs.World.{recordAt}
 use Rattle.definition.specs.declared.Row.{Row}
@@ -21,14 +22,14 @@ row s = rowOf (rowsIn (s .args .words .now)) (s .args .index)
 abbrev answer : tie.Start → Found
 answer s = allocate (s .args .level) (stateOf (recordAt (s .args .records .now)) (row s)) (s .args .try-zero) (s .args .only-zero)
 
-whole : (s : tie.Start) → Whole (answer s .levels) none (fromOf (row s)) (s .args .first) (row s .pages)
+whole : (s : tie.Start) → Whole standard (answer s .levels) none (fromOf standard (row s)) (s .args .first) (row s .pages)
 whole s = whole-allocate (s .args .level) (s .args .try-zero) (s .args .only-zero) (rep-kept (s .pre .0 .1)) (s .pre .1 .0) (s .pre .1 .1)
 
 granted
     : (c : tie.Else1) → let d = c .before .before .before .before .before .before in
     let s = d .before .before .before .before .before in
     let e = d .do-allocate .last in
-    Grants (recordAt (s .args .records .now)) (s .args .first) (row s) (recordAt (e .0)) (pagesIn (e .0)) (searched (e .1 .1 .0) (s .args .index) (d .do-allocate .result)) (answer s)
+    Grants standard (recordAt (s .args .records .now)) (s .args .first) (row s) (recordAt (e .0)) (pagesIn (e .0)) (searched (e .1 .1 .0) (s .args .index) (d .do-allocate .result)) (answer s)
 granted c =
     let d = c .before .before .before .before .before .before in
     let s = d .before .before .before .before .before in

@@ -5,6 +5,7 @@ use mathlib.Core.Path.{_≡_, refl}
 use native.Mathlib.Omega.{arith}
 use borrow.Author.Needs.{needs}
 use lib.ListN.{length}
+use Rattle.definition.specs.Board.{standard}
 use Rattle.definition.specs.World.{recordAt}
 use Rattle.definition.specs.declared.Row.{Row}
 use Rattle.record.specs.Records.{pagesIn}
@@ -16,7 +17,7 @@ use Rattle.region.proofs.organize.Tie as tie
 record Inv (records₀ : List ℕ) (first from count : ℕ) (r₀ : Row) (records : List ℕ) (r : Row) (at : ℕ) : Type 0 where
   some : at ≤ count
   same : length records ≡ length records₀
-  laid : Laid (recordAt records₀) first r₀ from count (recordAt records) (pagesIn records) r at
+  laid : Laid standard (recordAt records₀) first r₀ from count (recordAt records) (pagesIn records) r at
 
 abbrev Inv-loop : tie.InvT-loop
 Inv-loop records₀ first from count r₀ at₀ records r at = Inv records₀ first from count r₀ records r at

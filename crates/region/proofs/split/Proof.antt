@@ -7,6 +7,7 @@ use mathlib.Core.Path.{_≡_, refl, sym, subst, _∙_}
 use native.Mathlib.Numerals.{add-one}
 use native.Mathlib.Omega.{arith}
 use lib.ListN.{length}
+use Rattle.definition.specs.Board.{standard}
 use Rattle.definition.specs.Frame.{children, slot}
 use Rattle.definition.specs.World.{recordAt}
 use Rattle.definition.specs.declared.Links.{Links}
@@ -23,7 +24,7 @@ record Inv (records₀ : List ℕ) (first page level : ℕ) (row : Row) (zeroed 
   some : i ≤ 511
   same : length records ≡ length records₀
   became
-      : Becomes (recordAt records₀) first row (recordAt records) (pagesIn records) (withList row (slot level zeroed) l)
+      : Becomes standard (recordAt records₀) first row (recordAt records) (pagesIn records) (withList row (slot level zeroed) l)
       (children i (stateOf (recordAt records₀) row) page level zeroed)
 
 abbrev Inv-loop : tie.InvT-loop

@@ -21,7 +21,7 @@ tally : (c : tie.After-scan) → let a = c .before .before .before .args in
 tally c =
     let a = c .before .before .before .args in
     let p = c .before .before .before .pre .1 .0 in
-    placed-tally (recordAt (a .records .now)) (placedAt (a .base) (a .row)) (a .from) (a .past) (c .scan .result) (p .0) (p .1) (c .scan .ensures)
+    placed-tally standard (recordAt (a .records .now)) (placedAt (a .base) (a .row)) (a .from) (a .past) (c .scan .result) (p .0) (p .1) (c .scan .ensures)
 
 -- the pages that nobody holds
 unheld : (c : tie.After-scan) → let a = c .before .before .before .args in
@@ -58,21 +58,21 @@ returns c =
     let a = s .before .before .before .args in
     let x = placedAt (a .base) (a .row) in
     let p = s .before .before .before .pre in
-    let w = placed-walks (recordAt (a .records .now)) x (a .past) (c .all-walk .result) (p .1 .0 .1) (rw (← p .0 .1) at (c .all-walk .ensures)) in
-    by-lists (recordAt (a .records .now)) x (s .scan .result) (tally s) (c .before .before .before .before .before .if1 .taken)
+    let w = placed-walks standard (recordAt (a .records .now)) x (a .past) (c .all-walk .result) (p .1 .0 .1) (rw (← p .0 .1) at (c .all-walk .ensures)) in
+    by-lists standard (recordAt (a .records .now)) x (s .scan .result) (tally s) (c .before .before .before .before .before .if1 .taken)
     (sym (c .before .before .before .before .listed-pages .ensures) ∙ c .before .if2 .taken ∙ unheld s) (c .all-walk .result) w
 
 returns-2 : tie.Need-returns-2
 returns-2 c =
     let s = c .before .before .before .before .before in
     let a = s .before .before .before .args in
-    torn-pages (recordAt (a .records .now)) (placedAt (a .base) (a .row)) (s .scan .result) (tally s) (c .before .before .before .before .if1 .taken)
+    torn-pages standard (recordAt (a .records .now)) (placedAt (a .base) (a .row)) (s .scan .result) (tally s) (c .before .before .before .before .if1 .taken)
     (λ e. c .if2 .left (c .before .before .before .listed-pages .ensures ∙ e ∙ sym (unheld s)))
 
 returns-3 : tie.Need-returns-3
 returns-3 c =
     let a = c .before .before .before .before .args in
-    torn-heads (recordAt (a .records .now)) (placedAt (a .base) (a .row)) (c .before .scan .result) (tally (c .before)) (c .if1 .left)
+    torn-heads standard (recordAt (a .records .now)) (placedAt (a .base) (a .row)) (c .before .scan .result) (tally (c .before)) (c .if1 .left)
 
 pub region-whole-spec : {M : Type 1} → statement M
 region-whole-spec =
