@@ -5,9 +5,6 @@ ghost use mathlib.Core.Path.{_≡_};
 ghost use Prim.Native.Nat.{_+_, _-_, _*_, _/_, _%_, _^_, _≤_, _<_};
 ghost use lib.Dec.{eqb};
 
-// arch/aarch64/memory/frame.rs 5: the bytes of a page.
-pub const FRAME_SIZE: u64 = 4096;
-
 // address.rs 25
 pub struct PhysAddr(pub u64);
 
@@ -51,18 +48,19 @@ impl PhysAddr {
         PhysAddr(n / align * align)
     }
 
-    // The page frame number of the page that holds the address.
-    pub fn page_number(self) -> usize
-        ensures { λ r. ⌜ r ≡ self .0 / 4096 ⌝ }
+    // The page frame number of the page that holds the address, where a page has so many bytes.
+    pub fn page_number(self, page: usize) -> usize
+        requires { ⌜ 0 < page ⌝ }
+        ensures { λ r. ⌜ r ≡ self .0 / page ⌝ }
     {
-        (self.0 / FRAME_SIZE) as usize
+        (self.0 / (page as u64)) as usize
     }
 
     // The first address of a page.
-    pub fn from_page_number(number: usize) -> Self
-        requires { ⌜ 4096 * number < 2 ^ 64 ⌝ }
-        ensures { λ r. ⌜ r .0 ≡ 4096 * number ⌝ }
+    pub fn from_page_number(number: usize, page: usize) -> Self
+        requires { ⌜ page * number < 2 ^ 64 ⌝ }
+        ensures { λ r. ⌜ r .0 ≡ page * number ⌝ }
     {
-        PhysAddr(FRAME_SIZE * (number as u64))
+        PhysAddr((page * number) as u64)
     }
 }

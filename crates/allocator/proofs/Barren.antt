@@ -11,7 +11,7 @@ use Rattle.definition.specs.declared.Links.{Links}
 use Rattle.definition.specs.declared.Record.{Record}
 use Rattle.definition.specs.declared.Row.{Row}
 use Rattle.address.specs.declared.PhysAddr.{PhysAddr}
-use Rattle.definition.specs.Basics.{Popped, popBack}
+use Rattle.definition.specs.Basics.{everywhere, Popped, popBack, popLast}
 use Rattle.definition.specs.Frame.{
   Found,
   Frame,
@@ -56,12 +56,12 @@ abbrev Sorted : (t o : Bool) → Found → Type 0
 Sorted t o a = (p : ℕ) → a .page ≡ some p → wanted t o (isZeroed (a .levels .frames p)) ≡ true
 
 last-of : {P : ℕ → Type 0} {xs : List ℕ} → All P xs → (e : Popped) → popBack xs ≡ some e → P (e .last)
-unfolding popBack
+unfolding popLast
 last-of all-none e d = let z : _≡_ {A = ℕ} 0 1 = cc in absurd (omega arith)
 last-of {P} (all-more {x = x} {xs = xs} a rest) e d = go (popBack xs) refl (last-of rest)
   where
     go : (o : Option Popped) → popBack xs ≡ o → ((u : Popped) → popBack xs ≡ some u → P (u .last)) → P (e .last)
-    go none h ih = let k : e ≡ record { rest = []; last = x } = cc in rw k a
+    go none h ih = let k : e ≡ record { rest = xs; last = x } = cc in rw k a
     go (some u) h ih = let k : e ≡ record { rest = x ∷ u .rest; last = u .last } = cc in rw k (ih u h)
 
 slot-kind : (x : Option Frame) (l : ℕ) (z : Bool) → l < 3 → slotOf x ≡ slot l z → isZeroed x ≡ z
@@ -81,7 +81,7 @@ sorted-nothing : (t o : Bool) (s : Levels) → Sorted t o (nothing s)
 sorted-nothing t o s p e = absurd (no-page refl e)
 
 module _ {board : Board} where
-  sorted-pop : {s : Levels} {from first pages : ℕ} → Good board s none from first pages → (l : ℕ) (z : Bool) → l < 3 → (t o : Bool) → wanted t o z ≡ true → Sorted t o (popFrom s (slot l z))
+  sorted-pop : {s : Levels} {from first pages : ℕ} → Good board s none from first pages → (l : ℕ) (z : Bool) → l < 3 → (t o : Bool) → wanted t o z ≡ true → Sorted t o (popFrom everywhere s (slot l z))
   unfolding popFrom
   sorted-pop {s} G l z h t o w p e = go (popBack (s .free (slot l z))) refl e
     where
@@ -101,33 +101,33 @@ sorted-or t o a b A B = go (a .page) refl
     go (some p) e = rw (or-page a b p e) A
 
 module _ {board : Board} where
-  sorted-level : {s : Levels} {from first pages : ℕ} → Good board s none from first pages → (l : ℕ) → l < 3 → (t o : Bool) → Sorted t o (levelAllocate s l t o)
+  sorted-level : {s : Levels} {from first pages : ℕ} → Good board s none from first pages → (l : ℕ) → l < 3 → (t o : Bool) → Sorted t o (levelAllocate everywhere s l t o)
   unfolding levelAllocate
   sorted-level G l h t true = sorted-pop G l true h t true refl
   sorted-level {s} G l h true false =
-      sorted-or true false (popFrom s (slot l false)) (popFrom s (slot l true)) (sorted-pop G l false h true false refl) (sorted-pop G l true h true false refl)
+      sorted-or true false (popFrom everywhere s (slot l false)) (popFrom everywhere s (slot l true)) (sorted-pop G l false h true false refl) (sorted-pop G l true h true false refl)
   sorted-level {s} G l h false false =
-      sorted-or false false (popFrom s (slot l false)) (nothing s) (sorted-pop G l false h false false refl) (sorted-nothing false false s)
+      sorted-or false false (popFrom everywhere s (slot l false)) (nothing s) (sorted-pop G l false h false false refl) (sorted-nothing false false s)
 
   -- what was split is good again
   parts-good
       : {s : Levels} {from first pages : ℕ} → Good board s none from first pages → (left l : ℕ) → l + suc left ≡ 3 → (t o : Bool) (p : ℕ)
-      → doAllocate left (l + 1) s t o .page ≡ some p → Good board (split (doAllocate left (l + 1) s t o .levels) p l) none from first pages
+      → doAllocate everywhere left (l + 1) s t o .page ≡ some p → Good board (split (doAllocate everywhere left (l + 1) s t o .levels) p l) none from first pages
   parts-good {s} {from} {first} {pages} G left l h t o p e =
       let F = fine-do left (l + 1) t o G (omega arith) in
-      good-split l (subst (λ (x : Option ℕ). Good board (doAllocate left (l + 1) s t o .levels) x from first pages) e (F .good)) (F .ready p e)
+      good-split l (subst (λ (x : Option ℕ). Good board (doAllocate everywhere left (l + 1) s t o .levels) x from first pages) e (F .good)) (F .ready p e)
 
   sorted-do
-      : {s : Levels} {from first pages : ℕ} → Good board s none from first pages → (left l : ℕ) → l + left ≡ 3 → (t o : Bool) → Sorted t o (doAllocate left l s t o)
+      : {s : Levels} {from first pages : ℕ} → Good board s none from first pages → (left l : ℕ) → l + left ≡ 3 → (t o : Bool) → Sorted t o (doAllocate everywhere left l s t o)
   unfolding doAllocate
   sorted-do {s} G zero l h t o = sorted-nothing t o s
   sorted-do {s} G (suc left) l h t o =
-      sorted-or t o (levelAllocate s l t o) (thenSplit l t o up) (sorted-level G l (omega arith) t o) (go (up .page) refl (sorted-do G left (l + 1) (omega arith) t o))
+      sorted-or t o (levelAllocate everywhere s l t o) (thenSplit everywhere l t o up) (sorted-level G l (omega arith) t o) (go (up .page) refl (sorted-do G left (l + 1) (omega arith) t o))
     where
       up : Found
-      up = doAllocate left (l + 1) s t o
+      up = doAllocate everywhere left (l + 1) s t o
 
-      go : (x : Option ℕ) → up .page ≡ x → Sorted t o up → Sorted t o (thenSplit l t o up)
+      go : (x : Option ℕ) → up .page ≡ x → Sorted t o up → Sorted t o (thenSplit everywhere l t o up)
       go none e ih = rw (parted-none l t o up e) ih
       go (some p) e ih = rw (parted-page l t o up p e) (sorted-level (parts-good G left l h t o p e) l (omega arith) t o)
 
@@ -145,16 +145,16 @@ or-right a b p d e = go (a .page) refl
 
 level-gives
     : (s : Levels) (l : ℕ) (t o z : Bool) (xs : List ℕ) (p : ℕ) → wanted t o z ≡ true → s .free (slot l z) ≡ xs ++ (p ∷ [])
-    → levelAllocate s l t o .page ≡ none → ⊥
+    → levelAllocate everywhere s l t o .page ≡ none → ⊥
 unfolding levelAllocate
 level-gives s l t o z xs p w e n = go t o z w (ap (λ (x : Found). x .page) (popFrom-some s (slot l z) xs p e)) n
   where
-    go : (t o z : Bool) → wanted t o z ≡ true → popFrom s (slot l z) .page ≡ some p → levelAllocate s l t o .page ≡ none → ⊥
+    go : (t o z : Bool) → wanted t o z ≡ true → popFrom everywhere s (slot l z) .page ≡ some p → levelAllocate everywhere s l t o .page ≡ none → ⊥
     go t true true w d n = no-page n d
     go t true false w d n = let k : _≡_ {A = ℕ} 0 1 = cc in omega arith
-    go true false false w d n = or-left (popFrom s (slot l false)) (popFrom s (slot l true)) p d n
-    go true false true w d n = or-right (popFrom s (slot l false)) (popFrom s (slot l true)) p d n
-    go false false false w d n = or-left (popFrom s (slot l false)) (nothing s) p d n
+    go true false false w d n = or-left (popFrom everywhere s (slot l false)) (popFrom everywhere s (slot l true)) p d n
+    go true false true w d n = or-right (popFrom everywhere s (slot l false)) (popFrom everywhere s (slot l true)) p d n
+    go false false false w d n = or-left (popFrom everywhere s (slot l false)) (nothing s) p d n
     go false false true w d n = let k : _≡_ {A = ℕ} 0 1 = cc in omega arith
 
 -- child 0 is pushed last
@@ -179,16 +179,16 @@ or-nothing s a b h e = go (a .page) refl
 module _ {board : Board} where
   pub nothing-done
       : {s : Levels} {from first pages : ℕ} → Good board s none from first pages → (left l : ℕ) → l + left ≡ 3 → (t o : Bool)
-      → doAllocate left l s t o .page ≡ none → doAllocate left l s t o ≡ nothing s
+      → doAllocate everywhere left l s t o .page ≡ none → doAllocate everywhere left l s t o ≡ nothing s
   unfolding doAllocate
   nothing-done G zero l h t o e = refl
   nothing-done {s} G (suc left) l h t o e =
-      or-nothing s (levelAllocate s l t o) (thenSplit l t o up) (go (up .page) refl (nothing-done G left (l + 1) (omega arith) t o)) e
+      or-nothing s (levelAllocate everywhere s l t o) (thenSplit everywhere l t o up) (go (up .page) refl (nothing-done G left (l + 1) (omega arith) t o)) e
     where
       up : Found
-      up = doAllocate left (l + 1) s t o
+      up = doAllocate everywhere left (l + 1) s t o
 
-      go : (x : Option ℕ) → up .page ≡ x → (up .page ≡ none → up ≡ nothing s) → thenSplit l t o up .page ≡ none → thenSplit l t o up ≡ nothing s
+      go : (x : Option ℕ) → up .page ≡ x → (up .page ≡ none → up ≡ nothing s) → thenSplit everywhere l t o up .page ≡ none → thenSplit everywhere l t o up ≡ nothing s
       go none d ih n = parted-none l t o up d ∙ ih d
       go (some p) d ih n =
           absurd
@@ -199,9 +199,9 @@ module _ {board : Board} where
 
   module _ {s : Levels} {from first pages : ℕ} (G : Good board s none from first pages) (l : ℕ) (h : l < 3) (t o : Bool) where
     found : Found
-    found = doAllocate (3 - l) l s t o
+    found = doAllocate everywhere (3 - l) l s t o
 
-    pub nothing-granted : allocate l s t o .page ≡ none → allocate l s t o .levels ≡ s
+    pub nothing-granted : allocate everywhere l s t o .page ≡ none → allocate everywhere l s t o .levels ≡ s
     unfolding allocate found
     nothing-granted n = go (found .page) refl
       where
@@ -210,7 +210,7 @@ module _ {board : Board} where
         go (some p) e = absurd (no-page n (ap (λ (x : Found). x .page) (granted-page found p e)))
 
     -- the frame that is found is of the region, and held
-    pub granted-held : (p : ℕ) → allocate l s t o .page ≡ some p → Inside board first pages p × (isAllocated (allocate l s t o .levels .frames p) ≡ true)
+    pub granted-held : (p : ℕ) → allocate everywhere l s t o .page ≡ some p → Inside board first pages p × (isAllocated (allocate everywhere l s t o .levels .frames p) ≡ true)
     unfolding allocate found
     granted-held p n = go (found .page) refl
       where

@@ -12,9 +12,9 @@ use Rattle.definition.specs.Board.{Board}
 use Rattle.definition.specs.declared.Record.{Record}
 use Rattle.definition.specs.declared.Links.{Links}
 use Rattle.definition.specs.declared.Row.{Row}
-use Rattle.definition.specs.Basics.{any, range}
+use Rattle.definition.specs.Basics.{any, range, everywhere}
 use Rattle.definition.specs.Frame.{Frames, levels, slot}
-use Rattle.definition.specs.Allocator.{AllocationRegion, isEmpty}
+use Rattle.definition.specs.Allocator.{AllocationRegion}
 use Rattle.definition.specs.World.{noLinks}
 use Rattle.region.specs.Rep.{fromOf, stateOf}
 use Rattle.world.specs.Stands.{StandsRow, shift}
@@ -25,7 +25,7 @@ abbrev pub countedAt : List Links → ℕ → Bool
 countedAt lists k = not (eqb (getD lists k noLinks .count) 0)
 
 abbrev filledAt : AllocationRegion → ℕ → Bool
-filledAt r k = not (isEmpty (r .free k))
+filledAt r k = any everywhere (r .free k)
 
 -- the region lists a frame of the level or above
 abbrev pub listsIn : ℕ → AllocationRegion → Bool
@@ -38,18 +38,19 @@ any-same {s} {t} a (suc n) h =
     ap (λ (b : Bool). b || any s (range (a + 1) n)) (h a (omega arith))
     ∙ ap (λ (b : Bool). t a || b) (any-same (a + 1) n (λ k m. h k (omega arith)))
 
-empty-map : (g : ℕ → ℕ) (xs : List ℕ) → isEmpty (map g xs) ≡ eqb (length xs) 0
-empty-map g [] = sym (eq-eqb 0 0 refl)
-empty-map g (x ∷ xs) = sym (ne-eqb (length (x ∷ xs)) 0 (λ e. omega arith))
+empty-map : (g : ℕ → ℕ) (xs : List ℕ) → any everywhere (map g xs) ≡ not (eqb (length xs) 0)
+unfolding any
+empty-map g [] = sym (ap not (eq-eqb 0 0 refl))
+empty-map g (x ∷ xs) = sym (ap not (ne-eqb (length (x ∷ xs)) 0 (λ e. omega arith)))
 
 module _ {board : Board} where
   module _ {f : ℕ → Record} {n base : ℕ} {row : Row} {fs : Frames} {r : AllocationRegion} (S : StandsRow board f n base row fs r) where
     filled-counted : (k : ℕ) → k < 6 → filledAt r k ≡ countedAt (row .lists) k
     filled-counted k h =
-        ap not
-        (ap isEmpty (S .same .free k)
+        ap
+        (any everywhere) (S .same .free k)
         ∙ empty-map (shift (fromOf board row) base) (stateOf f row .free k)
-        ∙ ap (λ (m : ℕ). eqb m 0) (sym (S .sound .lists k h .counted)))
+        ∙ ap (λ (m : ℕ). not (eqb m 0)) (sym (S .sound .lists k h .counted))
 
     pub lists-same : (level : ℕ) → level < 3 → listsIn level r ≡ listsSome row level
     lists-same level h = any-same (level * 2) (6 - level * 2) (λ k m. filled-counted k (omega arith))

@@ -1,5 +1,6 @@
 -- A pass over the regions, row by row. `Gone` is what it keeps: the regions before the row i had nothing, so that all is as it was. Where they all had nothing, so has the
 -- definition's pass, and where the row i has a frame, the definition's pass finds the same.
+use Rattle.definition.specs.Basics.{everywhere}
 use Prim.Native.Nat.{ℕ, _+_, _≤_, _<_}
 use mathlib.Core.Bool.{Bool, true, false, false≢true}
 use mathlib.Core.List.{List}
@@ -31,7 +32,7 @@ use Rattle.allocator.proofs.Turning.{used-most}
 
 -- the region of the row j has nothing
 abbrev pub HasNone : (ℕ → Record) → List Row → (l : ℕ) (tryZero onlyZero : Bool) → ℕ → Type 0
-HasNone f rows l t o j = allocate l (stateOf f (rowAt rows j)) t o .page ≡ none
+HasNone f rows l t o j = allocate everywhere l (stateOf f (rowAt rows j)) t o .page ≡ none
 
 -- ---- one row
 
@@ -45,7 +46,7 @@ module _ {board : Board} where
 
     -- what the region has, by page numbers
     abbrev has : Found
-    has = allocate l (stateOf f row) t o
+    has = allocate everywhere l (stateOf f row) t o
 
     -- the allocator's region has the same
     region-alike
@@ -73,7 +74,7 @@ module _ {board : Board} where
     none-before T i u b j k = region-none S l few t o j (omega arith) T (b j k)
 
     module _ (i : ℕ) (h : i < length (usedRows rows)) (before : (j : ℕ) → j < i → HasNone f rows l t o j) {g : ℕ → Record} {r : Search}
-        (A : Answers board f (baseAt board 0 (usedRows rows) i) (rowAt rows i) g n r (allocate l (stateOf f (rowAt rows i)) t o))
+        (A : Answers board f (baseAt board 0 (usedRows rows) i) (rowAt rows i) g n r (allocate everywhere l (stateOf f (rowAt rows i)) t o))
         (W : WholeRow board g (baseAt board 0 (usedRows rows) i) (r .row)) (e : r .found ≡ true)
       where
         abbrev first : ℕ
@@ -85,7 +86,7 @@ module _ {board : Board} where
         abbrev picked : Picked
         picked = record { rows = set rows i (r .row); found = true; spot = record { index = i; base = first; page = p } }
 
-        paged : allocate l (stateOf f (rowAt rows i)) t o .page ≡ some p
+        paged : allocate everywhere l (stateOf f (rowAt rows i)) t o .page ≡ some p
         paged = sym (A .found) ∙ page-in r e
 
         row-is : rowAt (set rows i (r .row)) i ≡ r .row
@@ -189,8 +190,8 @@ module _ {board : Board} where
         pub gone-good : Good board g m base (rowAt rows i)
         gone-good = rw (G .same, G .size, G .based) (row-good (G .sane) i h)
 
-        module _ {g2 : ℕ → Record} {m2 : ℕ} {r : Search} (A : Answers board g base (rowAt rows i) g2 m2 r (allocate l (stateOf g (rowAt rows i)) t o)) (k : m2 ≡ m) where
-          answered : Answers board f (baseAt board 0 (usedRows rows) i) (rowAt rows i) g2 n r (allocate l (stateOf f (rowAt rows i)) t o)
+        module _ {g2 : ℕ → Record} {m2 : ℕ} {r : Search} (A : Answers board g base (rowAt rows i) g2 m2 r (allocate everywhere l (stateOf g (rowAt rows i)) t o)) (k : m2 ≡ m) where
+          answered : Answers board f (baseAt board 0 (usedRows rows) i) (rowAt rows i) g2 n r (allocate everywhere l (stateOf f (rowAt rows i)) t o)
           answered = rw (k, G .same, G .size, G .based) at A
 
           -- the region had nothing, so its row is as it was

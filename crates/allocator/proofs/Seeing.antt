@@ -11,7 +11,7 @@ use lib.Dec.{leb}
 use lib.ListN.{length}
 use Rattle.definition.specs.declared.Record.{Record}
 use Rattle.definition.specs.declared.Row.{Row}
-use Rattle.definition.specs.Board.{Board}
+use Rattle.definition.specs.Board.{Board, Fit}
 use Rattle.definition.specs.Frame.{Frames}
 use Rattle.definition.specs.Allocator.{AllocationRegion, contains, end, first, isManaged, tablePages}
 use Rattle.definition.specs.World.{bareRegion, frameOf, pageNumber, usedRows}
@@ -21,6 +21,7 @@ use Rattle.region.specs.declared.FoundPage.the-variants.{Nothing, At}
 use Rattle.region.specs.Rep.{Inside, fromOf, lookup, managed, pageOf, stateOf}
 use Rattle.world.specs.Stands.{StandsRow, baseAt, regionAt, rowAt, shift}
 use Rattle.world.specs.Tables.{Sane}
+use Rattle.world.proofs.Sheets.{good-few}
 use Rattle.allocator.specs.declared.Seen.{Seen}
 use Rattle.allocator.specs.Spots.{SeesAll}
 use Rattle.allocator.proofs.Arrays.{Onward, onward-none, onward-row, onward-found, onward-end, row-good, row-used, base-first, base-row, region-stands}
@@ -95,13 +96,13 @@ module _ {board : Board} where
   looking-none {rows = rows} = record { onward = onward-none; based = sym (base-first board 0 (usedRows rows)) }
 
   module _ {f : ℕ → Record} {n : ℕ} {rows : List Row} {p base i : ℕ} (K : Looking board f n rows p base i) where
-    pub here : Sane board f n rows → i < 8 → (rowAt rows i .pages ≡ 0 → ⊥) → Here board n rows base i
-    here S h k =
+    pub here : Fit board → Sane board f n rows → i < 8 → (rowAt rows i .pages ≡ 0 → ⊥) → Here board n rows base i
+    here fit S h k =
         let u = row-used S i (K .onward .used) h k in
         let g = row-good S i u in
         record {
           used = u;
-          pages = omega (arith, g .bounded);
+          pages = omega (arith, good-few fit g);
           tables = g .tables;
           small = rw (K .based) (g .sound .small);
           fits = rw (K .based) (g .sound .fits);

@@ -1,5 +1,6 @@
 -- A grant is two passes. Where the first finds a frame, that is the grant. Where it finds nothing it leaves the table as it was, for the same allocator, and the
 -- second pass is the grant.
+use Rattle.definition.specs.Basics.{everywhere}
 use Prim.Native.Nat.{ℕ}
 use mathlib.Core.Bool.{Bool, true, false}
 use mathlib.Core.List.{List, [], _∷_}
@@ -25,13 +26,13 @@ next-none r rs a next e = rw e refl
 
 -- it leaves the allocator as it was
 pass-nothing
-    : (l : ℕ) (t o : Bool) (fs : Frames) (rs : List AllocationRegion) → pass l t o fs rs .page ≡ none → pass l t o fs rs .allocator ≡ record { frames = fs; regions = rs }
+    : (l : ℕ) (t o : Bool) (fs : Frames) (rs : List AllocationRegion) → pass everywhere l t o fs rs .page ≡ none → pass everywhere l t o fs rs .allocator ≡ record { frames = fs; regions = rs }
 unfolding pass
 pass-nothing l t o fs [] e = refl
-pass-nothing l t o fs (r ∷ rs) e = go (allocate l (levelsOf fs r) t o) (allocate l (levelsOf fs r) t o .page) refl e (pass-nothing l t o fs rs)
+pass-nothing l t o fs (r ∷ rs) e = go (allocate everywhere l (levelsOf fs r) t o) (allocate everywhere l (levelsOf fs r) t o .page) refl e (pass-nothing l t o fs rs)
   where
     next : Allocated
-    next = pass l t o fs rs
+    next = pass everywhere l t o fs rs
 
     go : (a : Found) (x : Option ℕ) → a .page ≡ x → orNextRegion r rs a next .page ≡ none → (next .page ≡ none → next .allocator ≡ record { frames = fs; regions = rs })
         → orNextRegion r rs a next .allocator ≡ record { frames = fs; regions = r ∷ rs }
@@ -57,7 +58,7 @@ second-is a b e = rw e refl
 
 module _ {board : Board} where
   module _ {f g : ℕ → Record} {n : ℕ} {rows : List Row} {r : Picked} (l : ℕ) (z : Bool) (P : PicksBy board (passBy l false z) f rows g n r) where
-    pub picks-first : r .found ≡ true → PicksBy board (doAlloc l z) f rows g n r
+    pub picks-first : r .found ≡ true → PicksBy board (doAlloc everywhere l z) f rows g n r
     unfolding doAlloc
     picks-first e a T = rw (first-is (passBy l false z a) (passBy l true false a) (numberAt board (r .rows) (r .spot)) (P a T .page e)) (P a T)
 
@@ -65,7 +66,7 @@ module _ {board : Board} where
     pub second-asks : Sane board f n rows → Sane board g n (r .rows)
     second-asks S = P (standing board f rows) (sane-table S) .turned .table .sane
 
-    pub picks-second : {h : ℕ → Record} {r2 : Picked} → r .found ≡ false → PicksBy board (passBy l true false) g (r .rows) h n r2 → PicksBy board (doAlloc l z) f rows h n r2
+    pub picks-second : {h : ℕ → Record} {r2 : Picked} → r .found ≡ false → PicksBy board (passBy l true false) g (r .rows) h n r2 → PicksBy board (doAlloc everywhere l z) f rows h n r2
     unfolding doAlloc
     picks-second e Q a T =
         let k = P a T .none-found e in

@@ -9,12 +9,14 @@ use Rattle.definition.specs.declared.Record.{Record}
 use Rattle.definition.specs.declared.Row.{Row}
 use lib.Dec.{eqb}
 use lib.ListN.{getD}
-use Rattle.definition.specs.Basics.{upd, any, range}
+use Rattle.definition.specs.Basics.{upd, any, range, everywhere}
 use Rattle.definition.specs.Board.{Board}
 use Rattle.definition.specs.Frame.{Frames, splitAndKeep}
 use Rattle.definition.specs.Allocator.{PhysicalFrameAllocator, Allocated, freeIn, isManaged, isListed, doAlloc, pass}
-use Rattle.definition.specs.World.{frameOf, noLinks}
+use Rattle.definition.specs.World.{frameOf, noLinks, recordAt}
+use Rattle.record.specs.Records.{pagesIn}
 use Rattle.region.specs.Rep.{Held, fromOf, marked, stateOf}
+use Rattle.words.specs.Words.{boardIn, rowsIn}
 use Rattle.world.specs.Stands.{shift, rowAt}
 use Rattle.world.specs.Tables.{Sane, Table, Turned, Spotted}
 use Rattle.allocator.specs.declared.Spot.{Spot}
@@ -38,7 +40,7 @@ pub record Picked : Type 0 where
   pub spot : Spot
 
 abbrev pub passBy : (level : ℕ) (tryZero onlyZero : Bool) → PhysicalFrameAllocator → Allocated
-passBy level tryZero onlyZero a = pass level tryZero onlyZero (a .frames) (a .regions)
+passBy level tryZero onlyZero a = pass everywhere level tryZero onlyZero (a .frames) (a .regions)
 
 -- whether a row, or some region, lists a frame of the level or above
 abbrev pub listsSome : Row → ℕ → Bool
@@ -88,4 +90,32 @@ module _ (board : Board) where
   PicksBy op f rows g n r = (a : PhysicalFrameAllocator) → Table board f n rows a → Picks f rows g n r (op a)
 
   abbrev pub ListedAll : (ℕ → Record) → ℕ → List Row → ℕ → Bool → Type 0
-  ListedAll f n rows level r = (a : PhysicalFrameAllocator) → Table board f n rows a → r ≡ isListed level (a .regions)
+  ListedAll f n rows level r = (a : PhysicalFrameAllocator) → Table board f n rows a → r ≡ isListed everywhere level (a .regions)
+
+-- ---- the same of the lent records and words, which say of which board they are
+
+abbrev pub SaneIn : (records words : List ℕ) → Type 0
+SaneIn records words = Sane (boardIn words) (recordAt records) (pagesIn records) (rowsIn words)
+
+abbrev pub numberIn : (words : List ℕ) → Spot → ℕ
+numberIn words s = numberAt (boardIn words) (rowsIn words) s
+
+-- a held frame starts at the spot, which is a page of one of the rows in use
+abbrev pub HeldIn : (records words : List ℕ) → Spot → Type 0
+HeldIn records words s = InRows (boardIn words) (rowsIn words) s × HeldAt (boardIn words) (recordAt records) (rowsIn words) s
+
+abbrev pub SeesIn : (records words : List ℕ) → ℕ → Seen → Type 0
+SeesIn records words p r = SeesAll (boardIn words) (recordAt records) (pagesIn records) (rowsIn words) p r
+
+abbrev pub ListedIn : (records words : List ℕ) → ℕ → Bool → Type 0
+ListedIn records words level r = ListedAll (boardIn words) (recordAt records) (pagesIn records) (rowsIn words) level r
+
+-- from the first records and words to the second, over the board of the first
+abbrev pub TurnsIn : (PhysicalFrameAllocator → PhysicalFrameAllocator) → (records words records2 words2 : List ℕ) → Type 0
+TurnsIn op records words records2 words2 =
+    TurnsBy (boardIn words) op (recordAt records) (rowsIn words) (recordAt records2) (pagesIn records2) (rowsIn words2)
+
+abbrev pub PicksIn : (PhysicalFrameAllocator → Allocated) → (records words records2 words2 : List ℕ) → Bool → Spot → Type 0
+PicksIn op records words records2 words2 found spot =
+    PicksBy (boardIn words) op (recordAt records) (rowsIn words) (recordAt records2) (pagesIn records2)
+    (record { rows = rowsIn words2; found = found; spot = spot })

@@ -1,5 +1,7 @@
 // The allocator over all regions, after frame.rs's PhysicalFrameAllocator: which region manages an address, and the free, the split and the grant that change one
-// of them. The regions' rows stand in the lent words; a function reads the one that it wants there. Where a function has a `requires`, that is what the audit establishes (`Sane`), or what an earlier look at an address did.
+// of them. The regions' rows stand in the lent words; a function reads the one that it wants there. The board is the one that the words
+// are of. Where a function has a `requires`, that is what the audit establishes (`SaneIn`), or what an earlier look at an address did.
+ghost use Rattle.definition.specs.Basics.{everywhere};
 use address::PhysAddr;
 use definition::Row;
 use region::FoundPage;
@@ -7,24 +9,20 @@ ghost use mathlib.Core.Path.{_≡_};
 ghost use mathlib.Core.Bool.{false};
 ghost use Prim.Native.Nat.{_/_, _≤_, _<_};
 ghost use lib.ListN.{length};
-ghost use Rattle.definition.specs.Board.{standard};
-ghost use Rattle.definition.specs.World.{recordAt};
 ghost use Rattle.definition.specs.Allocator.{doAlloc};
-ghost use Rattle.record.specs.Records.{pagesIn};
-ghost use Rattle.words.specs.Words.{rowsIn, RowsBeside};
-ghost use Rattle.world.specs.Tables.{Sane};
+ghost use Rattle.words.specs.Words.{boardIn, RowsBeside};
 ghost use Rattle.allocator.specs.Spots.{
-  numberAt,
-  InRows,
-  HeldAt,
-  SeesAll,
+  SaneIn,
+  numberIn,
+  HeldIn,
+  SeesIn,
   listsSome,
-  ListedAll,
-  TurnsBy,
+  ListedIn,
+  TurnsIn,
   freeAt,
   splitAt,
   markAt,
-  PicksBy,
+  PicksIn,
   passBy,
 };
 
@@ -45,9 +43,10 @@ pub struct Seen {
 
 // get_frame, frame.rs 742.
 pub fn see(words: &[u64], records: &[u8], pa: PhysAddr) -> Seen
-    requires { ⌜ (92 ≤ length (now words)) × Sane standard (recordAt (now records)) (pagesIn (now records)) (rowsIn (now words)) ⌝ }
-    ensures { λ r. ⌜ SeesAll standard (recordAt (now (records .entry))) (pagesIn (now (records .entry))) (rowsIn (now (words .entry))) (pa .0 / 4096) r ⌝ }
+    requires { ⌜ (92 ≤ length (now words)) × SaneIn (now records) (now words) ⌝ }
+    ensures { λ r. ⌜ SeesIn (now (records .entry)) (now (words .entry)) (pa .0 / boardIn (now (words .entry)) .page) r ⌝ }
 {
+    let board = words::board_in(words);
     let mut base: usize = 0;
     let mut i: usize = 0;
     while i < 8 {
@@ -55,7 +54,7 @@ pub fn see(words: &[u64], records: &[u8], pa: PhysAddr) -> Seen
         if row.pages == 0 {
             return nothing_seen();
         }
-        match region::get_frame(row, base, pa) {
+        match region::get_frame(board, row, base, pa) {
             FoundPage::At(page) => {
                 return Seen {
                     managed: true,
@@ -70,7 +69,7 @@ pub fn see(words: &[u64], records: &[u8], pa: PhysAddr) -> Seen
             }
             FoundPage::Nothing => {}
         }
-        base += row.pages - region::table_pages(row.pages);
+        base += row.pages - region::table_pages(board, row.pages);
         i += 1;
     }
     nothing_seen()
@@ -94,9 +93,9 @@ pub fn nothing_seen() -> Seen
 
 // Whether some list holds a frame of the level or above.
 pub fn is_listed(words: &[u64], records: &[u8], level: usize) -> bool
-    requires { ⌜ (92 ≤ length (now words)) × Sane standard (recordAt (now records)) (pagesIn (now records)) (rowsIn (now words)) ⌝ }
+    requires { ⌜ (92 ≤ length (now words)) × SaneIn (now records) (now words) ⌝ }
     requires { ⌜ level < 3 ⌝ }
-    ensures { λ r. ⌜ ListedAll standard (recordAt (now (records .entry))) (pagesIn (now (records .entry))) (rowsIn (now (words .entry))) level r ⌝ }
+    ensures { λ r. ⌜ ListedIn (now (records .entry)) (now (words .entry)) level r ⌝ }
 {
     let mut i: usize = 0;
     while i < 8 {
@@ -131,32 +130,35 @@ fn lists_some(row: Row, level: usize) -> bool
 
 // free, frame.rs 611, of a held frame.
 pub fn free(words: &mut [u64], records: &mut [u8], spot: Spot)
-    requires { ⌜ (92 ≤ length (now words)) × Sane standard (recordAt (now records)) (pagesIn (now records)) (rowsIn (now words)) ⌝ }
-    requires { ⌜ InRows standard (rowsIn (now words)) spot × HeldAt standard (recordAt (now records)) (rowsIn (now words)) spot ⌝ }
-    ensures { λ _. ⌜ TurnsBy standard (freeAt standard (numberAt standard (rowsIn (now (words .entry))) spot)) (recordAt (now (records .entry))) (rowsIn (now (words .entry))) (recordAt (now (records .exit))) (pagesIn (now (records .exit))) (rowsIn (now (words .exit))) ⌝ }
+    requires { ⌜ (92 ≤ length (now words)) × SaneIn (now records) (now words) ⌝ }
+    requires { ⌜ HeldIn (now records) (now words) spot ⌝ }
+    ensures { λ _. ⌜ TurnsIn (freeAt (boardIn (now (words .entry))) (numberIn (now (words .entry)) spot)) (now (records .entry)) (now (words .entry)) (now (records .exit)) (now (words .exit)) ⌝ }
     ensures { λ _. ⌜ RowsBeside (now (words .entry)) (now (words .exit)) ⌝ }
 {
-    region::free(records, spot.base, words, spot.index, spot.page);
+    let board = words::board_in(words);
+    region::free(board, records, spot.base, words, spot.index, spot.page);
 }
 
 // split_frame, frame.rs 753, of a held frame.
 pub fn split_frame(words: &[u64], records: &mut [u8], spot: Spot)
-    requires { ⌜ (92 ≤ length (now words)) × Sane standard (recordAt (now records)) (pagesIn (now records)) (rowsIn (now words)) ⌝ }
-    requires { ⌜ InRows standard (rowsIn (now words)) spot × HeldAt standard (recordAt (now records)) (rowsIn (now words)) spot ⌝ }
-    ensures { λ _. ⌜ TurnsBy standard (splitAt (numberAt standard (rowsIn (now (words .entry))) spot)) (recordAt (now (records .entry))) (rowsIn (now (words .entry))) (recordAt (now (records .exit))) (pagesIn (now (records .exit))) (rowsIn (now (words .entry))) ⌝ }
+    requires { ⌜ (92 ≤ length (now words)) × SaneIn (now records) (now words) ⌝ }
+    requires { ⌜ HeldIn (now records) (now words) spot ⌝ }
+    ensures { λ _. ⌜ TurnsIn (splitAt (numberIn (now (words .entry)) spot)) (now (records .entry)) (now (words .entry)) (now (records .exit)) (now (words .entry)) ⌝ }
 {
+    let board = words::board_in(words);
     let row = words::row_at(words, spot.index);
-    region::split_and_keep(records, spot.base, row, spot.page);
+    region::split_and_keep(board, records, spot.base, row, spot.page);
 }
 
 // set_not_zero, zero but for the bytes, and set_kernel (frame.rs 443, 430, 470): the marks of a held frame.
 pub fn set_marks(words: &[u64], records: &mut [u8], spot: Spot, zeroed: bool, kernel: bool)
-    requires { ⌜ (92 ≤ length (now words)) × Sane standard (recordAt (now records)) (pagesIn (now records)) (rowsIn (now words)) ⌝ }
-    requires { ⌜ InRows standard (rowsIn (now words)) spot × HeldAt standard (recordAt (now records)) (rowsIn (now words)) spot ⌝ }
-    ensures { λ _. ⌜ TurnsBy standard (markAt zeroed kernel (numberAt standard (rowsIn (now (words .entry))) spot)) (recordAt (now (records .entry))) (rowsIn (now (words .entry))) (recordAt (now (records .exit))) (pagesIn (now (records .exit))) (rowsIn (now (words .entry))) ⌝ }
+    requires { ⌜ (92 ≤ length (now words)) × SaneIn (now records) (now words) ⌝ }
+    requires { ⌜ HeldIn (now records) (now words) spot ⌝ }
+    ensures { λ _. ⌜ TurnsIn (markAt zeroed kernel (numberIn (now (words .entry)) spot)) (now (records .entry)) (now (words .entry)) (now (records .exit)) (now (words .entry)) ⌝ }
 {
+    let board = words::board_in(words);
     let row = words::row_at(words, spot.index);
-    region::set_marks(records, spot.base, row, spot.page, zeroed, kernel);
+    region::set_marks(board, records, spot.base, row, spot.page, zeroed, kernel);
 }
 
 // The frame that a search over the regions found.
@@ -173,11 +175,12 @@ fn pass(
     try_zero: bool,
     only_zero: bool,
 ) -> Picked
-    requires { ⌜ (92 ≤ length (now words)) × Sane standard (recordAt (now records)) (pagesIn (now records)) (rowsIn (now words)) ⌝ }
+    requires { ⌜ (92 ≤ length (now words)) × SaneIn (now records) (now words) ⌝ }
     requires { ⌜ level < 3 ⌝ }
-    ensures { λ r. ⌜ PicksBy standard (passBy level «try_zero» «only_zero») (recordAt (now (records .entry))) (rowsIn (now (words .entry))) (recordAt (now (records .exit))) (pagesIn (now (records .exit))) (record { rows = rowsIn (now (words .exit)); found = r .found; spot = r .spot }) ⌝ }
+    ensures { λ r. ⌜ PicksIn (passBy level «try_zero» «only_zero») (now (records .entry)) (now (words .entry)) (now (records .exit)) (now (words .exit)) (r .found) (r .spot) ⌝ }
     ensures { λ _. ⌜ RowsBeside (now (words .entry)) (now (words .exit)) ⌝ }
 {
+    let board = words::board_in(words);
     let mut base: usize = 0;
     let mut i: usize = 0;
     while i < 8 {
@@ -185,7 +188,7 @@ fn pass(
         if pages == 0 {
             return nothing_picked();
         }
-        let got = region::allocate(records, base, words, i, level, try_zero, only_zero);
+        let got = region::allocate(board, records, base, words, i, level, try_zero, only_zero);
         if got.found {
             return Picked {
                 found: true,
@@ -196,7 +199,7 @@ fn pass(
                 },
             };
         }
-        base += pages - region::table_pages(pages);
+        base += pages - region::table_pages(board, pages);
         i += 1;
     }
     nothing_picked()
@@ -217,9 +220,9 @@ fn nothing_picked() -> Picked
 
 // __do_alloc, frame.rs 594: zeroed only where that was asked, else dirty only; then either kind.
 pub fn do_alloc(words: &mut [u64], records: &mut [u8], level: usize, needs_zero: bool) -> Picked
-    requires { ⌜ (92 ≤ length (now words)) × Sane standard (recordAt (now records)) (pagesIn (now records)) (rowsIn (now words)) ⌝ }
+    requires { ⌜ (92 ≤ length (now words)) × SaneIn (now records) (now words) ⌝ }
     requires { ⌜ level < 3 ⌝ }
-    ensures { λ r. ⌜ PicksBy standard (doAlloc level «needs_zero») (recordAt (now (records .entry))) (rowsIn (now (words .entry))) (recordAt (now (records .exit))) (pagesIn (now (records .exit))) (record { rows = rowsIn (now (words .exit)); found = r .found; spot = r .spot }) ⌝ }
+    ensures { λ r. ⌜ PicksIn (doAlloc everywhere level «needs_zero») (now (records .entry)) (now (words .entry)) (now (records .exit)) (now (words .exit)) (r .found) (r .spot) ⌝ }
     ensures { λ _. ⌜ RowsBeside (now (words .entry)) (now (words .exit)) ⌝ }
 {
     let picked = pass(words, records, level, false, needs_zero);

@@ -11,7 +11,7 @@ use denote.Laws.{Is}
 use denote.Shadow.{shadow}
 use denote.Array.{Array, each}
 use Rattle.definition.specs.declared.Row.{Row}
-use Rattle.definition.specs.Board.{standard}
+use Rattle.definition.specs.Board.{Board}
 use Rattle.definition.specs.Basics.{all}
 use Rattle.definition.specs.Allocator.{total}
 use Rattle.definition.specs.Boot.{overlap}
@@ -23,17 +23,18 @@ use Rattle.words.specs.Words.{usedIn, rowIn, rowsFrom, rowsIn}
 use Rattle.words.proofs.Owned.{rows-eight, row-narrow}
 use Rattle.audit.proofs.Onward.{and-on}
 
--- what is left of the sheet's test of the rows, of which so many are in use
-abbrev pub Shaped : List Row → ℕ → Type 0
-Shaped rows used =
-    rowsAsBoot standard rows
-    ≡ (all isNoRow (drop used rows)
-    && (all (rowAsBoot standard) (usedRows rows)
-    && (not (overlap standard (regionsOf standard rows)) && leb (total (regionsOf standard rows)) 1048576)))
+module _ (board : Board) where
+  -- what is left of the sheet's test of the rows, of which so many are in use
+  abbrev pub Shaped : List Row → ℕ → Type 0
+  Shaped rows used =
+      rowsAsBoot board rows
+      ≡ (all isNoRow (drop used rows)
+      && (all (rowAsBoot board) (usedRows rows)
+      && (not (overlap board (regionsOf board rows)) && leb (total (regionsOf board rows)) 1048576)))
 
-shaped : (rows : List Row) (used : ℕ) → used ≡ length (usedRows rows) → length rows ≡ 8 → all sixLists rows ≡ true → Shaped rows used
-unfolding rowsAsBoot
-shaped rows used e eight six = rw e (and-on _ (eq-eqb (length rows) 8 eight) ∙ and-on _ six)
+  shaped : (rows : List Row) (used : ℕ) → used ≡ length (usedRows rows) → length rows ≡ 8 → all sixLists rows ≡ true → Shaped rows used
+  unfolding rowsAsBoot
+  shaped rows used e eight six = rw e (and-on _ (eq-eqb (length rows) 8 eight) ∙ and-on _ six)
 
 -- ---- by value
 
@@ -43,8 +44,9 @@ each-six [] vs e = refl
 each-six (row ∷ rows) [] e = absurd e
 each-six (row ∷ rows) (v ∷ vs) e = and-true (eq-eqb _ _ (row-narrow row (v ∷ []) (e .0) .six)) (each-six rows vs (e .1))
 
-pub rows-shaped : (rows : List Row) (used : ℕ) (vs : List Val) → used ≡ length (usedRows rows) → Is (Array R.the-row 8) rows vs → Shaped rows used
-rows-shaped rows used vs e p = shaped rows used e (rows-eight rows vs p) (each-six rows (p .0) (p .1 .1))
+module _ (board : Board) where
+  pub rows-shaped : (rows : List Row) (used : ℕ) (vs : List Val) → used ≡ length (usedRows rows) → Is (Array R.the-row 8) rows vs → Shaped board rows used
+  rows-shaped rows used vs e p = shaped board rows used e (rows-eight rows vs p) (each-six rows (p .0) (p .1 .1))
 
 -- ---- in words
 
@@ -61,5 +63,6 @@ words-six ws i (suc n) = and-true (go (ltb i (usedIn ws))) (words-six ws (i + 1)
     go true = refl
     go false = refl
 
-pub words-shaped : (ws : List ℕ) → Shaped (rowsIn ws) (length (usedRows (rowsIn ws)))
-words-shaped ws = shaped (rowsIn ws) (length (usedRows (rowsIn ws))) refl (words-eight ws) (words-six ws 0 8)
+module _ (board : Board) where
+  pub words-shaped : (ws : List ℕ) → Shaped board (rowsIn ws) (length (usedRows (rowsIn ws)))
+  words-shaped ws = shaped board (rowsIn ws) (length (usedRows (rowsIn ws))) refl (words-eight ws) (words-six ws 0 8)

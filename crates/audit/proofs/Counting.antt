@@ -10,7 +10,7 @@ use lib.Dec.{leb, ltb, eqb}
 use lib.ListN.{length, drop}
 use Rattle.definition.specs.declared.Record.{Record}
 use Rattle.definition.specs.declared.Row.{Row}
-use Rattle.definition.specs.Board.{standard}
+use Rattle.definition.specs.Board.{Board}
 use Rattle.definition.specs.Basics.{sum, bit}
 use Rattle.definition.specs.Frame.{size, levels}
 use Rattle.definition.specs.Allocator.{tablePages, managed}
@@ -50,30 +50,31 @@ module _ (w : Row → ℕ) (rows : List Row) where
   unfolding leftOf sum
   left-none i h = ap (sum w) (drop-past (usedRows rows) i h)
 
-abbrev pub managedRow : Row → ℕ
-managedRow row = managed standard (bareRegion standard row)
+module _ (board : Board) where
+  abbrev pub managedRow : Row → ℕ
+  managedRow row = managed board (bareRegion board row)
 
-managed-rows : (rows : List Row) → managedPages standard (bareRegions standard rows) ≡ sum managedRow rows
-unfolding sum bareRegions
-managed-rows [] = refl
-managed-rows (row ∷ rows) = ap (λ (n : ℕ). managedRow row + n) (managed-rows rows)
+  managed-rows : (rows : List Row) → managedPages board (bareRegions board rows) ≡ sum managedRow rows
+  unfolding sum bareRegions
+  managed-rows [] = refl
+  managed-rows (row ∷ rows) = ap (λ (n : ℕ). managedRow row + n) (managed-rows rows)
 
-pub managed-all : (rows : List Row) → managedPages standard (regionsOf standard rows) ≡ leftOf managedRow rows 0
-unfolding leftOf
-managed-all rows = managed-rows (usedRows rows)
+  pub managed-all : (rows : List Row) → managedPages board (regionsOf board rows) ≡ leftOf managedRow rows 0
+  unfolding leftOf
+  managed-all rows = managed-rows (usedRows rows)
 
--- a row's lists and tables, wherever its pages are numbered from
-abbrev pub idleRow : Row → ℕ
-idleRow row = listedPages (placedAt 0 row) + tablePages standard (row .pages)
+  -- a row's lists and tables, wherever its pages are numbered from
+  abbrev pub idleRow : Row → ℕ
+  idleRow row = listedPages (placedAt 0 row) + tablePages board (row .pages)
 
-idle-rows : (base : ℕ) (rows : List Row) → idlePages standard (placedFrom standard base rows) ≡ sum idleRow rows
-unfolding sum idlePages placedFrom
-idle-rows base [] = refl
-idle-rows base (row ∷ rows) = ap (λ (n : ℕ). idleRow row + n) (idle-rows (base + managedRow row) rows)
+  idle-rows : (base : ℕ) (rows : List Row) → idlePages board (placedFrom board base rows) ≡ sum idleRow rows
+  unfolding sum idlePages placedFrom
+  idle-rows base [] = refl
+  idle-rows base (row ∷ rows) = ap (λ (n : ℕ). idleRow row + n) (idle-rows (base + managedRow row) rows)
 
-pub idle-all : (rows : List Row) → idlePages standard (placed standard rows) ≡ leftOf idleRow rows 0
-unfolding leftOf
-idle-all rows = idle-rows 0 (usedRows rows)
+  pub idle-all : (rows : List Row) → idlePages board (placed board rows) ≡ leftOf idleRow rows 0
+  unfolding leftOf
+  idle-all rows = idle-rows 0 (usedRows rows)
 
 -- ---- the pages that a region holds
 
@@ -102,7 +103,8 @@ module _ (w : ℕ → ℕ) (most : (h : ℕ) → w h ≤ 262144) (f : Records) w
       go true h = omega arith
       go false h = omega (arith, most at)
 
-pub held-most : (kernel : Bool) (f : Records) (base : ℕ) (row : Row) → heldRow standard kernel f (placedAt base row) ≤ 262144 * managedRow row
-held-most kernel f base row =
-    let e : base + managedRow row - base ≡ managedRow row = omega arith in
-    rw e (heads-sum (λ h. heldAs kernel (f h)) (λ h. held-record kernel (f h)) f (managedRow row) base (base + managedRow row))
+module _ (board : Board) where
+  pub held-most : (kernel : Bool) (f : Records) (base : ℕ) (row : Row) → heldRow board kernel f (placedAt base row) ≤ 262144 * managedRow board row
+  held-most kernel f base row =
+      let e : base + managedRow board row - base ≡ managedRow board row = omega arith in
+      rw e (heads-sum (λ h. heldAs kernel (f h)) (λ h. held-record kernel (f h)) f (managedRow board row) base (base + managedRow board row))

@@ -11,7 +11,7 @@ use mir.Val.{Val}
 use denote.Laws.{Is}
 use denote.Array.{Array}
 use Rattle.definition.specs.declared.Row.{Row}
-use Rattle.definition.specs.Board.{standard}
+use Rattle.definition.specs.Board.{Board}
 use Rattle.definition.specs.Basics.{all, sum}
 use Rattle.definition.specs.Allocator.{AllocationRegion, total}
 use Rattle.definition.specs.Boot.{managedPages, overlap}
@@ -25,43 +25,44 @@ use Rattle.audit.proofs.Booted.{Booted, booted-at}
 
 -- ---- rows such as boot makes
 
-managed-total : (rs : List AllocationRegion) → managedPages standard rs ≤ total rs
-unfolding sum
-managed-total [] = omega arith
-managed-total (r ∷ rs) = omega (arith, managed-total rs)
+module _ (board : Board) where
+  managed-total : (rs : List AllocationRegion) → managedPages board rs ≤ total rs
+  unfolding sum
+  managed-total [] = omega arith
+  managed-total (r ∷ rs) = omega (arith, managed-total rs)
 
-module _ (rows : List Row) (t : rowsAsBoot standard rows ≡ true) where
-  last-three : all (rowAsBoot standard) (usedRows rows)
-      && (not (overlap standard (regionsOf standard rows)) && leb (total (regionsOf standard rows)) 1048576) ≡ true
-  unfolding rowsAsBoot
-  last-three =
-      let a = and-right (eqb (length rows) 8) _ t in
-      and-right (all isNoRow (drop (length (usedRows rows)) rows)) _ (and-right (all sixLists rows) _ a)
+  module _ (rows : List Row) (t : rowsAsBoot board rows ≡ true) where
+    last-three : all (rowAsBoot board) (usedRows rows)
+        && (not (overlap board (regionsOf board rows)) && leb (total (regionsOf board rows)) 1048576) ≡ true
+    unfolding rowsAsBoot
+    last-three =
+        let a = and-right (eqb (length rows) 8) _ t in
+        and-right (all isNoRow (drop (length (usedRows rows)) rows)) _ (and-right (all sixLists rows) _ a)
 
-  pub each-booted : all (rowAsBoot standard) (usedRows rows) ≡ true
-  each-booted = and-left _ _ last-three
+    pub each-booted : all (rowAsBoot board) (usedRows rows) ≡ true
+    each-booted = and-left _ _ last-three
 
-  pub managed-most : managedPages standard (regionsOf standard rows) ≤ 1048576
-  managed-most =
-      let m = and-right (all (rowAsBoot standard) (usedRows rows)) _ last-three in
-      let l = leb-true (total (regionsOf standard rows)) 1048576 (and-right (not (overlap standard (regionsOf standard rows))) _ m) in
-      omega (arith, managed-total (regionsOf standard rows))
+    pub managed-most : managedPages board (regionsOf board rows) ≤ 1048576
+    managed-most =
+        let m = and-right (all (rowAsBoot board) (usedRows rows)) _ last-three in
+        let l = leb-true (total (regionsOf board rows)) 1048576 (and-right (not (overlap board (regionsOf board rows))) _ m) in
+        omega (arith, managed-total (regionsOf board rows))
 
-  -- what a loop over the rows knows of its row i
-  pub record Turn (i : ℕ) : Type 0 where
-    pub here : i < length (usedRows rows)
-    pub few : i < 8
-    pub booted : Booted (rowAt rows i)
+    -- what a loop over the rows knows of its row i
+    pub record Turn (i : ℕ) : Type 0 where
+      pub here : i < length (usedRows rows)
+      pub few : i < 8
+      pub booted : Booted board (rowAt rows i)
 
-  pub turn : (used i : ℕ) (vs : List Val) → Is (Array R.the-row 8) rows vs → used ≡ length (usedRows rows) → i < used → Turn i
-  turn used i vs p e h =
-      let l : i < length (usedRows rows) = omega arith in
-      record { here = l; few = omega (arith, used-eight rows vs p); booted = booted-at rows i each-booted l }
+    pub turn : (used i : ℕ) (vs : List Val) → Is (Array R.the-row 8) rows vs → used ≡ length (usedRows rows) → i < used → Turn i
+    turn used i vs p e h =
+        let l : i < length (usedRows rows) = omega arith in
+        record { here = l; few = omega (arith, used-eight rows vs p); booted = booted-at board rows i each-booted l }
 
--- the records' loan has a record for each managed page
-pub loans-fit : (rows : List Row) (records memory : ℕ) → loansLong standard rows records memory ≡ true
-    → managedPages standard (regionsOf standard rows) ≤ records / 16
-unfolding loansLong
-loans-fit rows records memory t =
-    let l = leb-true (16 * managedPages standard (regionsOf standard rows)) records (and-left _ _ t) in
-    omega arith
+  -- the records' loan has a record for each managed page
+  pub loans-fit : (rows : List Row) (records memory : ℕ) → loansLong board rows records memory ≡ true
+      → managedPages board (regionsOf board rows) ≤ records / 16
+  unfolding loansLong
+  loans-fit rows records memory t =
+      let l = leb-true (16 * managedPages board (regionsOf board rows)) records (and-left _ _ t) in
+      omega arith

@@ -11,7 +11,7 @@ use lib.ListN.{length, drop}
 use Rattle.definition.specs.declared.Row.{Row}
 use Rattle.definition.specs.declared.Counters.{Counters}
 use Rattle.definition.specs.declared.Pass.{Pass}
-use Rattle.definition.specs.Board.{Board, standard}
+use Rattle.definition.specs.Board.{Board}
 use Rattle.definition.specs.Basics.{all}
 use Rattle.definition.specs.Allocator.{AllocationRegion, total}
 use Rattle.definition.specs.Boot.{managedPages, overlap}
@@ -135,143 +135,144 @@ pub record Given : Type 0 where
   pub memoryLen : ℕ
   pub queueLen : ℕ
 
-module _ (g : Given) where
-  abbrev records : Records
-  records = recordAt (g .records)
+module _ (board : Board) where
+  module _ (g : Given) where
+    abbrev records : Records
+    records = recordAt (g .records)
 
-  abbrev regions : List Placed
-  regions = placed standard (g .rows)
+    abbrev regions : List Placed
+    regions = placed board (g .rows)
 
-  abbrev pub rowsTest : Bool
-  rowsTest = rowsAsBoot standard (g .rows)
+    abbrev pub rowsTest : Bool
+    rowsTest = rowsAsBoot board (g .rows)
 
-  abbrev pub loansTest : Bool
-  loansTest = loansLong standard (g .rows) (length (g .records)) (g .memoryLen)
+    abbrev pub loansTest : Bool
+    loansTest = loansLong board (g .rows) (length (g .records)) (g .memoryLen)
 
-  abbrev regionsTest : Bool
-  regionsTest = wholeRegions records regions
+    abbrev regionsTest : Bool
+    regionsTest = wholeRegions board records regions
 
-  abbrev countsTest : Bool
-  countsTest =
-      idleCounts standard (g .rows) (g .counters)
-      && (totalCounts standard (g .rows) (g .counters)
-      && (kernelCounts standard records (g .rows) (g .counters) && pageCounts standard records (g .rows) (g .counters)))
+    abbrev countsTest : Bool
+    countsTest =
+        idleCounts board (g .rows) (g .counters)
+        && (totalCounts board (g .rows) (g .counters)
+        && (kernelCounts board records (g .rows) (g .counters) && pageCounts board records (g .rows) (g .counters)))
 
-  abbrev pub restTest : Bool
-  restTest = noneWaiting (g .counters) && (queueWithin (g .queued) (g .queueLen) && passWithin standard (g .pass))
+    abbrev pub restTest : Bool
+    restTest = noneWaiting (g .counters) && (queueWithin (g .queued) (g .queueLen) && passWithin board (g .pass))
 
-  abbrev five : Bool
-  five = rowsTest && (loansTest && (regionsTest && (countsTest && restTest)))
+    abbrev five : Bool
+    five = rowsTest && (loansTest && (regionsTest && (countsTest && restTest)))
 
-  abbrev pub Answers : Bool → Type 0
-  Answers r = Exact (g .rows) (g .counters) (g .queued) (g .pass) (g .records) (g .memoryLen) (g .queueLen) r
+    abbrev pub Answers : Bool → Type 0
+    Answers r = Exact board (g .rows) (g .counters) (g .queued) (g .pass) (g .records) (g .memoryLen) (g .queueLen) r
 
-  exact : (r : Bool) → r ≡ five → Answers r
-  unfolding sound wholeRegions
-  exact r e memory queue m q =
-      e
-      ∙ sym
-      (rw (m, q)
-      (ap
-      (λ (t : Bool). rowsTest && (loansTest && t))
-      (and-eight
-      (tiled standard records regions)
-      (heldAlone standard records regions)
-      (listsWalk standard records regions)
-      (unheldListed standard records regions)
-      (idleCounts standard (g .rows) (g .counters))
-      (totalCounts standard (g .rows) (g .counters))
-      (kernelCounts standard records (g .rows) (g .counters))
-      (pageCounts standard records (g .rows) (g .counters))
-      restTest)))
+    exact : (r : Bool) → r ≡ five → Answers r
+    unfolding sound wholeRegions
+    exact r e memory queue m q =
+        e
+        ∙ sym
+        (rw (m, q)
+        (ap
+        (λ (t : Bool). rowsTest && (loansTest && t))
+        (and-eight
+        (tiled board records regions)
+        (heldAlone board records regions)
+        (listsWalk board records regions)
+        (unheldListed board records regions)
+        (idleCounts board (g .rows) (g .counters))
+        (totalCounts board (g .rows) (g .counters))
+        (kernelCounts board records (g .rows) (g .counters))
+        (pageCounts board records (g .rows) (g .counters))
+        restTest)))
 
-  torn : (five ≡ true → ⊥) → Answers false
-  torn n = exact false (refuse n)
+    torn : (five ≡ true → ⊥) → Answers false
+    torn n = exact false (refuse n)
 
-  abbrev regionsIn : List AllocationRegion
-  regionsIn = regionsOf standard (g .rows)
+    abbrev regionsIn : List AllocationRegion
+    regionsIn = regionsOf board (g .rows)
 
-  abbrev surveyed : Bool
-  surveyed = surveyTest records (length (g .records) / 16) (g .rows)
+    abbrev surveyed : Bool
+    surveyed = surveyTest board records (length (g .records) / 16) (g .rows)
 
-  abbrev unusedTest : Bool
-  unusedTest = all isNoRow (drop (length (usedRows (g .rows))) (g .rows))
+    abbrev unusedTest : Bool
+    unusedTest = all isNoRow (drop (length (usedRows (g .rows))) (g .rows))
 
-  abbrev bootTest : Bool
-  bootTest = all (rowAsBoot standard) (usedRows (g .rows))
+    abbrev bootTest : Bool
+    bootTest = all (rowAsBoot board) (usedRows (g .rows))
 
-  abbrev recordsTest : Bool
-  recordsTest = leb (managedPages standard regionsIn) (length (g .records) / 16)
+    abbrev recordsTest : Bool
+    recordsTest = leb (managedPages board regionsIn) (length (g .records) / 16)
 
-  -- two rows share no page, and there are few enough
-  abbrev lastTest : Bool
-  lastTest = not (overlap standard regionsIn) && leb (total regionsIn) 1048576
+    -- two rows share no page, and there are few enough
+    abbrev lastTest : Bool
+    lastTest = not (overlap board regionsIn) && leb (total regionsIn) 1048576
 
-  -- where there are eight rows of six lists, as their type says, the sheet's test of the rows has four parts, of which the survey makes two
-  module _ (shape : rowsTest ≡ (unusedTest && (bootTest && lastTest))) where
-    last-two : rowsTest ≡ true → lastTest ≡ true
-    last-two t = and-right bootTest lastTest (and-right unusedTest (bootTest && lastTest) (sym shape ∙ t))
+    -- where there are eight rows of six lists, as their type says, the sheet's test of the rows has four parts, of which the survey makes two
+    module _ (shape : rowsTest ≡ (unusedTest && (bootTest && lastTest))) where
+      last-two : rowsTest ≡ true → lastTest ≡ true
+      last-two t = and-right bootTest lastTest (and-right unusedTest (bootTest && lastTest) (sym shape ∙ t))
 
-    pub torn-survey : surveyed ≡ false → Answers false
-    torn-survey e =
-        torn (λ t.
-        let r : (unusedTest && (bootTest && lastTest)) ≡ true = sym shape ∙ and-left _ _ t in
-        let l = and-right rowsTest _ t in
-        let m = loans-fit (g .rows) (length (g .records)) (g .memoryLen) (and-left _ _ l) in
-        let b = and-left bootTest lastTest (and-right unusedTest (bootTest && lastTest) r) in
-        let w = and-left regionsTest _ (and-right loansTest _ l) in
-        let fit : recordsTest ≡ true = le-leb (managedPages standard regionsIn) (length (g .records) / 16) m in
-        false≢true
-        (sym e
-        ∙ and-true {a = unusedTest} (and-left unusedTest (bootTest && lastTest) r) (and-true {a = bootTest} b (and-true {a = recordsTest} fit w))))
+      pub torn-survey : surveyed ≡ false → Answers false
+      torn-survey e =
+          torn (λ t.
+          let r : (unusedTest && (bootTest && lastTest)) ≡ true = sym shape ∙ and-left _ _ t in
+          let l = and-right rowsTest _ t in
+          let m = loans-fit board (g .rows) (length (g .records)) (g .memoryLen) (and-left _ _ l) in
+          let b = and-left bootTest lastTest (and-right unusedTest (bootTest && lastTest) r) in
+          let w = and-left regionsTest _ (and-right loansTest _ l) in
+          let fit : recordsTest ≡ true = le-leb (managedPages board regionsIn) (length (g .records) / 16) m in
+          false≢true
+          (sym e
+          ∙ and-true {a = unusedTest} (and-left unusedTest (bootTest && lastTest) r) (and-true {a = bootTest} b (and-true {a = recordsTest} fit w))))
 
-    pub torn-total : 1048576 < total regionsIn → Answers false
-    torn-total l =
-        torn (λ t. omega (arith, leb-true (total regionsIn) 1048576 (and-right (not (overlap standard regionsIn)) _ (last-two (and-left _ _ t)))))
+      pub torn-total : 1048576 < total regionsIn → Answers false
+      torn-total l =
+          torn (λ t. omega (arith, leb-true (total regionsIn) 1048576 (and-right (not (overlap board regionsIn)) _ (last-two (and-left _ _ t)))))
 
-    pub torn-apart : not (overlap standard regionsIn) ≡ false → Answers false
-    torn-apart e = torn (λ t. false≢true (sym e ∙ and-left _ _ (last-two (and-left _ _ t))))
+      pub torn-apart : not (overlap board regionsIn) ≡ false → Answers false
+      torn-apart e = torn (λ t. false≢true (sym e ∙ and-left _ _ (last-two (and-left _ _ t))))
 
-    pub torn-memory : g .memoryLen < 4096 * managedPages standard regionsIn → Answers false
-    unfolding loansLong
-    torn-memory l =
-        torn (λ t.
-        let m = and-right (leb (16 * managedPages standard regionsIn) (length (g .records))) _ (and-left loansTest _ (and-right rowsTest _ t)) in
-        omega (arith, leb-true (4096 * managedPages standard regionsIn) (g .memoryLen) m))
-
-    -- where all of these are passed, the counters and the rest decide
-    module _ (s : surveyed ≡ true) (few : total regionsIn ≤ 1048576) (apart : not (overlap standard regionsIn) ≡ true)
-        (memory : 4096 * managedPages standard regionsIn ≤ g .memoryLen) where
-      -- what the survey has passed behind the unused rows
-      others : (bootTest && (recordsTest && regionsTest)) ≡ true
-      others = and-right unusedTest _ s
-
-      rows-pass : rowsTest ≡ true
-      rows-pass =
-          shape
-          ∙ and-true {a = unusedTest}
-          (and-left unusedTest (bootTest && (recordsTest && regionsTest)) s)
-          (and-true {a = bootTest} (and-left bootTest _ others) (and-true apart (le-leb (total regionsIn) 1048576 few)))
-
-      loans-pass : loansTest ≡ true
+      pub torn-memory : g .memoryLen < board .page * managedPages board regionsIn → Answers false
       unfolding loansLong
-      loans-pass =
-          let m = leb-true (managedPages standard regionsIn) (length (g .records) / 16) (and-left recordsTest _ (and-right bootTest _ others)) in
-          and-true
-          (le-leb (16 * managedPages standard regionsIn) (length (g .records)) (omega arith))
-          (le-leb (4096 * managedPages standard regionsIn) (g .memoryLen) memory)
+      torn-memory l =
+          torn (λ t.
+          let m = and-right (leb (16 * managedPages board regionsIn) (length (g .records))) _ (and-left loansTest _ (and-right rowsTest _ t)) in
+          omega (arith, leb-true (board .page * managedPages board regionsIn) (g .memoryLen) m))
 
-      regions-pass : regionsTest ≡ true
-      regions-pass = and-right recordsTest _ (and-right bootTest _ others)
+      -- where all of these are passed, the counters and the rest decide
+      module _ (s : surveyed ≡ true) (few : total regionsIn ≤ 1048576) (apart : not (overlap board regionsIn) ≡ true)
+          (memory : board .page * managedPages board regionsIn ≤ g .memoryLen) where
+        -- what the survey has passed behind the unused rows
+        others : (bootTest && (recordsTest && regionsTest)) ≡ true
+        others = and-right unusedTest _ s
 
-      module _ (seen : Surveyed) (h : Found records (g .rows) seen) where
-        found-five : (t : Bool) → countsAs (g .counters) seen ≡ t → (t && restTest) ≡ five
-        found-five t d =
-            let c : countsTest ≡ t = sym (rw (h .idle, h .total, h .kernel, h .page)) ∙ d in
-            rw (rows-pass, loans-pass, regions-pass, c)
+        rows-pass : rowsTest ≡ true
+        rows-pass =
+            shape
+            ∙ and-true {a = unusedTest}
+            (and-left unusedTest (bootTest && (recordsTest && regionsTest)) s)
+            (and-true {a = bootTest} (and-left bootTest _ others) (and-true apart (le-leb (total regionsIn) 1048576 few)))
 
-        pub torn-counts : countsAs (g .counters) seen ≡ false → Answers false
-        torn-counts d = exact false (found-five false d)
+        loans-pass : loansTest ≡ true
+        unfolding loansLong
+        loans-pass =
+            let m = leb-true (managedPages board regionsIn) (length (g .records) / 16) (and-left recordsTest _ (and-right bootTest _ others)) in
+            and-true
+            (le-leb (16 * managedPages board regionsIn) (length (g .records)) (omega arith))
+            (le-leb (board .page * managedPages board regionsIn) (g .memoryLen) memory)
 
-        pub rest-decides : countsAs (g .counters) seen ≡ true → (r : Bool) → r ≡ restTest → Answers r
-        rest-decides d r e = exact r (e ∙ found-five true d)
+        regions-pass : regionsTest ≡ true
+        regions-pass = and-right recordsTest _ (and-right bootTest _ others)
+
+        module _ (seen : Surveyed) (h : Found board records (g .rows) seen) where
+          found-five : (t : Bool) → countsAs (g .counters) seen ≡ t → (t && restTest) ≡ five
+          found-five t d =
+              let c : countsTest ≡ t = sym (rw (h .idle, h .total, h .kernel, h .page)) ∙ d in
+              rw (rows-pass, loans-pass, regions-pass, c)
+
+          pub torn-counts : countsAs (g .counters) seen ≡ false → Answers false
+          torn-counts d = exact false (found-five false d)
+
+          pub rest-decides : countsAs (g .counters) seen ≡ true → (r : Bool) → r ≡ restTest → Answers r
+          rest-decides d r e = exact r (e ∙ found-five true d)

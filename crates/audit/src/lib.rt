@@ -1,6 +1,7 @@
 // The torn sheet of all that a later call is given (01, "Torn unless all hold"). `survey` makes the tests of each row and its region in one pass over the
 // rows, other functions those of all rows together, of the counters and of the rest. `audit` is true exactly where every sentence holds: on any rows,
 // numbers and bytes whatever, reading nothing outside the loans. Boot asks four of them of the rows that it keeps.
+use definition::Board;
 use definition::Counters;
 use definition::Pass;
 use definition::Row;
@@ -8,7 +9,7 @@ ghost use mathlib.Core.Bool.{true, false, not, _&&_};
 ghost use mathlib.Core.Path.{_≡_};
 ghost use Prim.Native.Nat.{_+_, _≤_, _<_};
 ghost use lib.ListN.{length, drop};
-ghost use Rattle.definition.specs.Board.{standard};
+ghost use Rattle.definition.specs.Board.{Fit};
 ghost use Rattle.definition.specs.Basics.{all, any};
 ghost use Rattle.definition.specs.Allocator.{total};
 ghost use Rattle.definition.specs.Boot.{
@@ -28,42 +29,49 @@ ghost use Rattle.definition.specs.Torn.{
   passWithin,
 };
 ghost use Rattle.record.specs.Records.{pagesIn};
-ghost use Rattle.words.specs.Words.{rowsIn, queuedIn, passIn, usedIn};
+ghost use Rattle.words.specs.Words.{boardIn, rowsIn, queuedIn, passIn, usedIn};
 ghost use Rattle.audit.specs.Sheet.{rowAt, Few, Visited, Surveys, countsAs, Exact};
 
 // ---- "the rows' starts and pages are such as boot makes"
 
-// A page edge, more than one page, an end by 2^40, which is the page 2^28. The sheet also asks for more pages than the tables take: so it is with
-// any number of pages past one.
-fn row_as_boot(row: Row) -> bool
-    ensures { λ r. ⌜ r ≡ rowAsBoot standard row ⌝ }
+// 01: no usable memory ends past it.
+const HIGHEST_ADDRESS: usize = 1099511627776;
+
+// A page edge, more than one page, an end by 2^40, which is looked at in pages, and more pages than the tables take.
+fn row_as_boot(board: Board, row: Row) -> bool
+    requires { ⌜ Fit board ⌝ }
+    ensures { λ r. ⌜ r ≡ rowAsBoot board row ⌝ }
 {
+    let page = board.page;
     let start = row.start;
     let pages = row.pages;
-    if !start.is_aligned_to(4096) {
+    if !start.is_aligned_to(page as u64) {
         return false;
     }
     if pages <= 1 {
         return false;
     }
-    if 268435456 < pages {
+    let most = HIGHEST_ADDRESS / page;
+    if most < pages {
         return false;
     }
-    if 268435456 - pages < start.page_number() {
+    if most - pages < start.page_number(page) {
         return false;
     }
-    true
+    region::table_pages(board, pages) < pages
 }
 
 // Two rows share a page.
-fn shares(r: Row, t: Row) -> bool
-    requires { ⌜ (rowAsBoot standard r ≡ true) × (rowAsBoot standard t ≡ true) ⌝ }
-    ensures { λ b. ⌜ b ≡ «shares_def» standard (bareRegion standard r) (bareRegion standard t) ⌝ }
+fn shares(board: Board, r: Row, t: Row) -> bool
+    requires { ⌜ Fit board ⌝ }
+    requires { ⌜ (rowAsBoot board r ≡ true) × (rowAsBoot board t ≡ true) ⌝ }
+    ensures { λ b. ⌜ b ≡ «shares_def» board (bareRegion board r) (bareRegion board t) ⌝ }
 {
+    let page = board.page;
     let r_start = r.start;
     let t_start = t.start;
-    let r_first = r_start.page_number();
-    let t_first = t_start.page_number();
+    let r_first = r_start.page_number(page);
+    let t_first = t_start.page_number(page);
     if r_first < t_first + t.pages {
         return t_first < r_first + r.pages;
     }
@@ -71,14 +79,15 @@ fn shares(r: Row, t: Row) -> bool
 }
 
 // The row i shares a page with a used one behind it.
-fn shares_behind(rows: [Row; 8], used: usize, i: usize) -> bool
-    requires { ⌜ (used ≡ length (usedRows rows)) × (i < used) × (all (rowAsBoot standard) (usedRows rows) ≡ true) ⌝ }
-    ensures { λ r. ⌜ r ≡ any («shares_def» standard (bareRegion standard (rowAt rows i))) (bareRegions standard (drop (i + 1) (usedRows rows))) ⌝ }
+fn shares_behind(board: Board, rows: [Row; 8], used: usize, i: usize) -> bool
+    requires { ⌜ Fit board ⌝ }
+    requires { ⌜ (used ≡ length (usedRows rows)) × (i < used) × (all (rowAsBoot board) (usedRows rows) ≡ true) ⌝ }
+    ensures { λ r. ⌜ r ≡ any («shares_def» board (bareRegion board (rowAt rows i))) (bareRegions board (drop (i + 1) (usedRows rows))) ⌝ }
 {
     let row = rows[i];
     let mut j = i + 1;
     while j < used {
-        if shares(row, rows[j]) {
+        if shares(board, row, rows[j]) {
             return true;
         }
         j += 1;
@@ -86,13 +95,14 @@ fn shares_behind(rows: [Row; 8], used: usize, i: usize) -> bool
     false
 }
 
-pub fn overlaps(rows: [Row; 8], used: usize) -> bool
-    requires { ⌜ (used ≡ length (usedRows rows)) × (all (rowAsBoot standard) (usedRows rows) ≡ true) ⌝ }
-    ensures { λ r. ⌜ r ≡ overlap standard (regionsOf standard rows) ⌝ }
+pub fn overlaps(board: Board, rows: [Row; 8], used: usize) -> bool
+    requires { ⌜ Fit board ⌝ }
+    requires { ⌜ (used ≡ length (usedRows rows)) × (all (rowAsBoot board) (usedRows rows) ≡ true) ⌝ }
+    ensures { λ r. ⌜ r ≡ overlap board (regionsOf board rows) ⌝ }
 {
     let mut i: usize = 0;
     while i < used {
-        if shares_behind(rows, used, i) {
+        if shares_behind(board, rows, used, i) {
             return true;
         }
         i += 1;
@@ -101,9 +111,10 @@ pub fn overlaps(rows: [Row; 8], used: usize) -> bool
 }
 
 // The pages of the rows in use, tables included.
-pub fn total_pages(rows: [Row; 8], used: usize) -> usize
-    requires { ⌜ (used ≡ length (usedRows rows)) × (all (rowAsBoot standard) (usedRows rows) ≡ true) ⌝ }
-    ensures { λ r. ⌜ r ≡ total (regionsOf standard rows) ⌝ }
+pub fn total_pages(board: Board, rows: [Row; 8], used: usize) -> usize
+    requires { ⌜ Fit board ⌝ }
+    requires { ⌜ (used ≡ length (usedRows rows)) × (all (rowAsBoot board) (usedRows rows) ≡ true) ⌝ }
+    ensures { λ r. ⌜ r ≡ total (regionsOf board rows) ⌝ }
 {
     let mut pages: usize = 0;
     let mut i: usize = 0;
@@ -117,41 +128,43 @@ pub fn total_pages(rows: [Row; 8], used: usize) -> usize
 
 // No two rows in use share a page. A single row shares none, and then the rows are not read.
 fn apart(words: &[u64], used: usize) -> bool
-    requires { ⌜ (92 ≤ length (now words)) × (used ≡ length (usedRows (rowsIn (now words)))) × (all (rowAsBoot standard) (usedRows (rowsIn (now words))) ≡ true) ⌝ }
-    ensures { λ r. ⌜ r ≡ not (overlap standard (regionsOf standard (rowsIn (now (words .entry))))) ⌝ }
+    requires { ⌜ (92 ≤ length (now words)) × (used ≡ length (usedRows (rowsIn (now words)))) × (all (rowAsBoot (boardIn (now words))) (usedRows (rowsIn (now words))) ≡ true) ⌝ }
+    ensures { λ r. ⌜ r ≡ not (overlap (boardIn (now (words .entry))) (regionsOf (boardIn (now (words .entry))) (rowsIn (now (words .entry))))) ⌝ }
 {
     if used < 2 {
         return true;
     }
-    !overlaps(words::rows_in(words), used)
+    !overlaps(words::board_in(words), words::rows_in(words), used)
 }
 
 // ---- "and the loans long enough"
 
 // The managed pages of the rows in use.
-pub fn managed_pages(rows: [Row; 8], used: usize) -> usize
-    requires { ⌜ (used ≡ length (usedRows rows)) × (rowsAsBoot standard rows ≡ true) ⌝ }
-    ensures { λ r. ⌜ (r ≡ managedPages standard (regionsOf standard rows)) × (r ≤ 1048576) ⌝ }
+pub fn managed_pages(board: Board, rows: [Row; 8], used: usize) -> usize
+    requires { ⌜ Fit board ⌝ }
+    requires { ⌜ (used ≡ length (usedRows rows)) × (rowsAsBoot board rows ≡ true) ⌝ }
+    ensures { λ r. ⌜ (r ≡ managedPages board (regionsOf board rows)) × (r ≤ 1048576) ⌝ }
 {
     let mut pages: usize = 0;
     let mut i: usize = 0;
     while i < used {
         let row = rows[i];
-        pages += row.pages - region::table_pages(row.pages);
+        pages += row.pages - region::table_pages(board, row.pages);
         i += 1;
     }
     pages
 }
 
-pub fn loans_long(rows: [Row; 8], used: usize, records: usize, memory: usize) -> bool
-    requires { ⌜ (used ≡ length (usedRows rows)) × (rowsAsBoot standard rows ≡ true) ⌝ }
-    ensures { λ r. ⌜ r ≡ loansLong standard rows records memory ⌝ }
+pub fn loans_long(board: Board, rows: [Row; 8], used: usize, records: usize, memory: usize) -> bool
+    requires { ⌜ Fit board ⌝ }
+    requires { ⌜ (used ≡ length (usedRows rows)) × (rowsAsBoot board rows ≡ true) ⌝ }
+    ensures { λ r. ⌜ r ≡ loansLong board rows records memory ⌝ }
 {
-    let pages = managed_pages(rows, used);
+    let pages = managed_pages(board, rows, used);
     if records < 16 * pages {
         return false;
     }
-    4096 * pages <= memory
+    board.page * pages <= memory
 }
 
 // ---- the rows and their regions
@@ -182,21 +195,22 @@ fn torn_rows() -> Surveyed
 // The row in use behind those that were seen: that it is as boot makes it, that the loan has its records, and that its region is whole.
 fn visit(records: &[u8], words: &[u64], seen: Surveyed) -> Surveyed
     requires { ⌜ Few seen × (92 ≤ length (now words)) × (seen .used < 8) × (seen .used < usedIn (now words)) ⌝ }
-    ensures { λ r. ⌜ Visited (recordAt (now (records .entry))) (pagesIn (now (records .entry))) (rowAt (rowsIn (now (words .entry))) (seen .used)) seen r ⌝ }
+    ensures { λ r. ⌜ Visited (boardIn (now (words .entry))) (recordAt (now (records .entry))) (pagesIn (now (records .entry))) (rowAt (rowsIn (now (words .entry))) (seen .used)) seen r ⌝ }
 {
+    let board = words::board_in(words);
     let row = words::row_at(words, seen.used);
-    if !row_as_boot(row) {
+    if !row_as_boot(board, row) {
         return torn_rows();
     }
     let start = row.start;
-    let tables = region::table_pages(row.pages);
+    let tables = region::table_pages(board, row.pages);
     let past = seen.managed + (row.pages - tables);
     if records.len() / 16 < past {
         return torn_rows();
     }
     let whole = scan::region_whole(
         records,
-        start.page_number() + tables,
+        start.page_number(board.page) + tables,
         seen.managed,
         past,
         row,
@@ -219,7 +233,7 @@ fn visit(records: &[u8], words: &[u64], seen: Surveyed) -> Surveyed
 // The rows in use, each looked at once, and behind them the unused ones, all zeros.
 fn survey(records: &[u8], words: &[u64]) -> Surveyed
     requires { ⌜ 92 ≤ length (now words) ⌝ }
-    ensures { λ r. ⌜ Surveys (recordAt (now (records .entry))) (pagesIn (now (records .entry))) (rowsIn (now (words .entry))) r ⌝ }
+    ensures { λ r. ⌜ Surveys (boardIn (now (words .entry))) (recordAt (now (records .entry))) (pagesIn (now (records .entry))) (rowsIn (now (words .entry))) r ⌝ }
 {
     let mut seen = Surveyed {
         ok: true,
@@ -261,19 +275,21 @@ fn counted(counters: Counters, seen: Surveyed) -> bool
     counters.page_data == seen.page
 }
 
-// ---- "`waiting` is 0; the queue's count is within its loan; pass rounds are at most 1,001 and freed at most 100 × rounds"
+// ---- "`waiting` is 0; the queue's count is within its loan; pass rounds are at most 1,001 and freed at most 100 × rounds", by the board's numbers
 
-fn pass_within(pass: Pass) -> bool
-    ensures { λ r. ⌜ r ≡ passWithin standard pass ⌝ }
+fn pass_within(board: Board, pass: Pass) -> bool
+    requires { ⌜ Fit board ⌝ }
+    ensures { λ r. ⌜ r ≡ passWithin board pass ⌝ }
 {
-    if 1001 < pass.rounds {
+    if board.max_rounds + 1 < pass.rounds {
         return false;
     }
-    pass.freed <= 100 * pass.rounds
+    pass.freed <= board.per_round * pass.rounds
 }
 
-fn within(counters: Counters, queued: usize, room: usize, pass: Pass) -> bool
-    ensures { λ r. ⌜ r ≡ noneWaiting counters && (queueWithin queued room && passWithin standard pass) ⌝ }
+fn within(board: Board, counters: Counters, queued: usize, room: usize, pass: Pass) -> bool
+    requires { ⌜ Fit board ⌝ }
+    ensures { λ r. ⌜ r ≡ noneWaiting counters && (queueWithin queued room && passWithin board pass) ⌝ }
 {
     if counters.waiting != 0 {
         return false;
@@ -281,7 +297,7 @@ fn within(counters: Counters, queued: usize, room: usize, pass: Pass) -> bool
     if room < queued {
         return false;
     }
-    pass_within(pass)
+    pass_within(board, pass)
 }
 
 // ---- the sheet
@@ -296,8 +312,9 @@ pub fn audit(
     queue_len: usize,
 ) -> bool
     requires { ⌜ 92 ≤ length (now words) ⌝ }
-    ensures { λ r. ⌜ Exact (rowsIn (now (words .entry))) counters (queuedIn (now (words .entry))) (passIn (now (words .entry))) (now (records .entry)) «memory_len» «queue_len» r ⌝ }
+    ensures { λ r. ⌜ Exact (boardIn (now (words .entry))) (rowsIn (now (words .entry))) counters (queuedIn (now (words .entry))) (passIn (now (words .entry))) (now (records .entry)) «memory_len» «queue_len» r ⌝ }
 {
+    let board = words::board_in(words);
     let seen = survey(records, words);
     if !seen.ok {
         return false;
@@ -308,13 +325,14 @@ pub fn audit(
     if !apart(words, seen.used) {
         return false;
     }
-    if memory_len < 4096 * seen.managed {
+    if memory_len < board.page * seen.managed {
         return false;
     }
     if !counted(counters, seen) {
         return false;
     }
     within(
+        board,
         counters,
         words::queued_in(words),
         queue_len,

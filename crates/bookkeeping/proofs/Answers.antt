@@ -1,19 +1,20 @@
 -- Each call is answered as the claim says, whatever the store: refused exactly as the sheet says, and then without a change. A grant reports want of memory
 -- exactly when nothing of its level or above is listed, and is otherwise given the frame that the search finds.
-use Prim.Native.Nat.{ℕ, _*_, _≤_, _<_}
+use Prim.Native.Nat.{ℕ, _+_, _*_, _≤_, _<_}
 use native.Mathlib.Omega.{arith}
-use mathlib.Core.Bool.{Bool, true, false, not, _&&_, _||_}
+use mathlib.Core.Bool.{Bool, true, false, not, cond, _&&_, _||_, false≢true}
 use mathlib.Core.List.{List, [], _∷_}
 use mathlib.Core.Logic.{_⊎_, inl, inr, _↔_}
 use mathlib.Core.Option.{Option, none, some}
 use mathlib.Core.Path.{_≡_, refl, sym, ap, _∙_, subst}
 use lib.Dec.{leb}
 use borrow.Author.Tests.{leb-false, lt-leb, ltb-false, le-ltb, not-true}
+use Rattle.definition.proofs.Passing.{passed}
 use Rattle.definition.specs.declared.FrameAllocFlags.{FrameAllocFlags}
 use Rattle.definition.specs.declared.Refusal.{Refusal}
 use Rattle.definition.specs.declared.Refusal.the-variants.{BadLayout, NoLevel, NoFrame, MustWait}
 use Rattle.definition.specs.Board.{Board}
-use Rattle.definition.specs.Basics.{any, sum}
+use Rattle.definition.specs.Basics.{any, sum, bit}
 use Rattle.definition.specs.Allocator.{PhysicalFrameAllocator, doAlloc, isListed}
 use Rattle.definition.specs.Refusal.{_when_, orLater, lowest}
 use Rattle.definition.specs.Store.{Store}
@@ -51,6 +52,7 @@ use Rattle.definition.specs.Calls.{
   noLevel,
   bytesOfLevel,
   findLevel,
+  mine,
   wants,
   sheet,
   Outcome,
@@ -63,7 +65,7 @@ use Rattle.bookkeeping.specs.Blocks.{Block, All, listed}
 use Rattle.bookkeeping.specs.Blocks.All.{all-none, all-more}
 use Rattle.bookkeeping.specs.Claim.{Asks, Wanting, NoneFrom, Picked, Answered}
 use Rattle.bookkeeping.proofs.Wants.{atLeast, listed-counts, finds}
-use Rattle.bookkeeping.proofs.Sheets.{passed, level-low, Grantable, grantable}
+use Rattle.bookkeeping.proofs.Sheets.{level-low, Grantable, grantable}
 use Rattle.bookkeeping.proofs.Steps.{hands-is, then-is}
 
 -- ---- an accepted call is not refused
@@ -86,8 +88,8 @@ hands-accepts b l t (some p) = done-accepts (b .page * p) (bytesOfLevel b l)
 
 perform-accepts : (b : Board) (s : Store) (c : Call) → Accepts (perform b s c .answer)
 unfolding perform
-perform-accepts b s (Alloc y) = let g = tryAllocFrame b (findLevel b y) (y .flags) s in hands-accepts b (findLevel b y) (g .store) (g .page)
-perform-accepts b s (Take y) = let g = tryAllocSplitFrames b (findLevel b y) (y .flags) s in hands-accepts b (findLevel b y) (g .store) (g .page)
+perform-accepts b s (Alloc y) = let g = tryAllocFrame b (mine s) (findLevel b y) (y .flags) s in hands-accepts b (findLevel b y) (g .store) (g .page)
+perform-accepts b s (Take y) = let g = tryAllocSplitFrames b (mine s) (findLevel b y) (y .flags) s in hands-accepts b (findLevel b y) (g .store) (g .page)
 perform-accepts b s (Split a) = done-accepts _ _
 perform-accepts b s (Free a) = done-accepts _ _
 perform-accepts b s (Zero a) = done-accepts _ _
@@ -141,29 +143,29 @@ granted-page b n flags s a none = refl
 granted-page b n flags s a (some p) = refl
 
 module _ (b : Board) (s : Store) (y : Layout) where
-  found-page : (p : ℕ) → doAlloc (findLevel b y) (y .flags .zeroed) (s .allocator) .page ≡ some p → tryAllocFrame b (findLevel b y) (y .flags) s .page ≡ some p
+  found-page : (p : ℕ) → doAlloc (mine s) (findLevel b y) (y .flags .zeroed) (s .allocator) .page ≡ some p → tryAllocFrame b (mine s) (findLevel b y) (y .flags) s .page ≡ some p
   unfolding tryAllocFrame
   found-page p e =
-      granted-page b _ (y .flags) s (doAlloc (findLevel b y) (y .flags .zeroed) (s .allocator) .allocator)
-      (doAlloc (findLevel b y) (y .flags .zeroed) (s .allocator) .page) ∙ e
+      granted-page b _ (y .flags) s (doAlloc (mine s) (findLevel b y) (y .flags .zeroed) (s .allocator) .allocator)
+      (doAlloc (mine s) (findLevel b y) (y .flags .zeroed) (s .allocator) .page) ∙ e
 
   alloc-answer
-      : (p : ℕ) → doAlloc (findLevel b y) (y .flags .zeroed) (s .allocator) .page ≡ some p
+      : (p : ℕ) → doAlloc (mine s) (findLevel b y) (y .flags .zeroed) (s .allocator) .page ≡ some p
       → perform b s (Alloc y) .answer ≡ Done (b .page * p) (bytesOfLevel b (findLevel b y))
   unfolding perform
   alloc-answer p e =
-      let g = tryAllocFrame b (findLevel b y) (y .flags) s in ap (λ (o : Outcome). o .answer) (hands-is b (findLevel b y) (g .store) (g .page) p (found-page p e))
+      let g = tryAllocFrame b (mine s) (findLevel b y) (y .flags) s in ap (λ (o : Outcome). o .answer) (hands-is b (findLevel b y) (g .store) (g .page) p (found-page p e))
 
   take-answer
-      : (p : ℕ) → doAlloc (findLevel b y) (y .flags .zeroed) (s .allocator) .page ≡ some p
+      : (p : ℕ) → doAlloc (mine s) (findLevel b y) (y .flags .zeroed) (s .allocator) .page ≡ some p
       → perform b s (Take y) .answer ≡ Done (b .page * p) (bytesOfLevel b (findLevel b y))
   unfolding perform tryAllocSplitFrames
   take-answer p e =
-      let g = tryAllocFrame b (findLevel b y) (y .flags) s in
+      let g = tryAllocFrame b (mine s) (findLevel b y) (y .flags) s in
       ap (λ (t : Granted). hands b (findLevel b y) t .answer) (then-is (g .store) (g .page) p (found-page p e))
 
-  picks : Grantable b s y → (p : ℕ) × (doAlloc (findLevel b y) (y .flags .zeroed) (s .allocator) .page ≡ some p)
-  picks g = finds (findLevel b y) (y .flags .zeroed) (s .allocator) (g .low) (g .listed)
+  picks : Grantable b s y → (p : ℕ) × (doAlloc (mine s) (findLevel b y) (y .flags .zeroed) (s .allocator) .page ≡ some p)
+  picks g = finds (mine s) (findLevel b y) (y .flags .zeroed) (s .allocator) (g .low) (g .listed)
 
   alloc-picked : lowest (sheet b s (names (Alloc y))) ≡ none → Picked b s y (step b s (Alloc y) .answer)
   alloc-picked e =
@@ -207,35 +209,43 @@ sheet-of : (b : Board) (s : Store) (y : Layout) → lowest (sheet b s (layoutNam
 unfolding sheet lowest any grantSheet
 sheet-of b s y = refl
 
-all-below : (l : ℕ) (xs : List Block) → sum (atLeast l) xs ≡ 0 → All (λ x. x .level < l) xs
-unfolding sum
-all-below l [] e = all-none
-all-below l (x ∷ xs) e = all-more {x = x} (go (leb l (x .level)) refl) (all-below l xs (omega arith))
-  where
-    go : (t : Bool) → leb l (x .level) ≡ t → x .level < l
-    go true i = absurd (omega (arith, rw i at e))
-    go false i = leb-false l (x .level) i
+module _ (among : ℕ → Bool) (l : ℕ) where
+  all-below : (xs : List Block) → sum (atLeast among l) xs ≡ 0 → All (λ x. among (x .page) ≡ true → x .level < l) xs
+  unfolding sum
+  all-below [] e = all-none
+  all-below (x ∷ xs) e = all-more {x = x} (λ m. go m (leb l (x .level)) refl) (all-below xs (omega arith))
+    where
+      go : among (x .page) ≡ true → (t : Bool) → leb l (x .level) ≡ t → x .level < l
+      go m true i = absurd (omega (arith, rw (i, m) at e))
+      go m false i = leb-false l (x .level) i
 
-below-all : (l : ℕ) (xs : List Block) → All (λ x. x .level < l) xs → sum (atLeast l) xs ≡ 0
-unfolding sum
-below-all l [] all-none = refl
-below-all l (x ∷ xs) (all-more i h) = rw (lt-leb l (x .level) i) (omega (arith, below-all l xs h))
+  below-all : (xs : List Block) → All (λ x. among (x .page) ≡ true → x .level < l) xs → sum (atLeast among l) xs ≡ 0
+  unfolding sum
+  below-all [] all-none = refl
+  below-all (x ∷ xs) (all-more i h) = go (leb l (x .level)) refl (among (x .page)) refl (below-all xs h)
+    where
+      go
+          : (t : Bool) → leb l (x .level) ≡ t → (u : Bool) → among (x .page) ≡ u → sum (atLeast among l) xs ≡ 0
+          → cond t (bit u) 0 + sum (atLeast among l) xs ≡ 0
+      go true e true d k = absurd (false≢true (sym (lt-leb l (x .level) (i d)) ∙ e))
+      go true e false d k = omega arith
+      go false e u d k = omega arith
 
 module _ (b : Board) (s : Store) (y : Layout) where
   -- nothing listed, by the definition's test
   none-listed : findLevel b y ≤ 2 → wants b s y ≡ true → NoneFrom (findLevel b y) s
   none-listed h e =
-      all-below (findLevel b y) (listed (s .allocator .regions))
+      all-below (mine s) (findLevel b y) (listed (s .allocator .regions))
       (omega (
         arith,
-        ltb-false 0 (sum (atLeast (findLevel b y)) (listed (s .allocator .regions)))
-            (sym (listed-counts (findLevel b y) (s .allocator .regions) h) ∙ not-true (isListed (findLevel b y) (s .allocator .regions)) e),
+        ltb-false 0 (sum (atLeast (mine s) (findLevel b y)) (listed (s .allocator .regions)))
+            (sym (listed-counts (mine s) (findLevel b y) (s .allocator .regions) h) ∙ not-true (isListed (mine s) (findLevel b y) (s .allocator .regions)) e),
       ))
 
   listed-none : findLevel b y ≤ 2 → NoneFrom (findLevel b y) s → wants b s y ≡ true
   listed-none h i =
-      ap not (listed-counts (findLevel b y) (s .allocator .regions) h ∙ le-ltb 0 (sum (atLeast (findLevel b y)) (listed (s .allocator .regions)))
-      (omega (arith, below-all (findLevel b y) (listed (s .allocator .regions)) i)))
+      ap not (listed-counts (mine s) (findLevel b y) (s .allocator .regions) h ∙ le-ltb 0 (sum (atLeast (mine s) (findLevel b y)) (listed (s .allocator .regions)))
+      (omega (arith, below-all (mine s) (findLevel b y) (listed (s .allocator .regions)) i)))
 
   abbrev Want : Type 0
   Want = (badLayout y ≡ false) × (noLevel b y ≡ false) × NoneFrom (findLevel b y) s

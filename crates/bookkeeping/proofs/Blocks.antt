@@ -341,15 +341,28 @@ module _ {fit : ℕ → ℕ} {room : ℕ → ℕ → ℕ} {pages : ℕ} {fs : Fr
           omega (arith, ap (λ p. w (block p f)) e, starts-none q w xs (omega (arith, h .tiles q, o q, spans-first p (size (f .level)) q (size-pos (f .level)) e)))
       go q w false k = omega (arith, h .marks q w)
 
+-- what has room has it by another measure that gives as much
+wrong-less : (room room′ : ℕ → ℕ → ℕ) → ((p n : ℕ) → 1 ≤ n → room p n ≤ room′ p n) → (xs : List Block) → sum (wrong room′) xs ≤ sum (wrong room) xs
+unfolding sum
+wrong-less room room′ h [] = omega arith
+wrong-less room room′ h (x ∷ xs) = omega (arith, h (x .page) (pagesOf x) (size-pos (x .level)), wrong-less room room′ h xs)
+
+-- the same blocks over other regions, with room for each of them
+pub fine-over
+    : {fit fit′ : ℕ → ℕ} {room room′ : ℕ → ℕ → ℕ} {pages pages′ : ℕ} {fs : Frames} {xs : List Block} → ((q : ℕ) → fit q ≡ fit′ q)
+    → ((p n : ℕ) → 1 ≤ n → room p n ≤ room′ p n) → ((a m c n : ℕ) → a ≤ c → c + n ≤ a + m → room′ a m ≤ room′ c n) → pages ≡ pages′
+    → Fine fit room pages fs xs → Fine fit′ room′ pages′ fs xs
+fine-over {room = room} {room′ = room′} {xs = xs} e r parts d h =
+    record {
+      once = λ q. omega (arith, e q, h .once q);
+      parts = parts;
+      tiles = λ q. h .tiles q ∙ e q;
+      marks = h .marks;
+      right = omega (arith, h .right, wrong-less room room′ r xs);
+      adds = h .adds ∙ d;
+    }
+
 pub fine-home
     : {fit fit′ : ℕ → ℕ} {room : ℕ → ℕ → ℕ} {pages pages′ : ℕ} {fs : Frames} {xs : List Block} → ((q : ℕ) → fit q ≡ fit′ q) → pages ≡ pages′
     → Fine fit room pages fs xs → Fine fit′ room pages′ fs xs
-fine-home e d h =
-    record {
-      once = λ q. omega (arith, e q, h .once q);
-      parts = h .parts;
-      tiles = λ q. h .tiles q ∙ e q;
-      marks = h .marks;
-      right = h .right;
-      adds = h .adds ∙ d;
-    }
+fine-home e d h = fine-over e (λ p n i. omega arith) (h .parts) d h

@@ -1,32 +1,33 @@
 -- Demand 3 over the definition, `bookkeeping`: from the store of an accepted boot the claim holds of every list of calls. The proof takes the invariant that
 -- every call keeps, and reads the claim's sentences off it.
-use Prim.Native.Nat.{ℕ, _+_, _*_, _/_, _≤_, _<_}
+use Prim.Native.Nat.{ℕ, _+_, _*_, _/_, _≤_}
 use native.Mathlib.Omega.{arith}
 use mathlib.Core.Bool.{Bool, true, false}
 use mathlib.Core.List.{List, [], _∷_, _++_}
 use mathlib.Core.Option.{none}
 use mathlib.Core.Path.{_≡_, refl, ap, _∙_}
 use Rattle.definition.specs.declared.MemoryRegion.{MemoryRegion}
-use Rattle.definition.specs.Board.{Board, standard}
+use Rattle.definition.specs.Board.{Board, Fit}
 use Rattle.definition.specs.Basics.{sum, bit}
 use Rattle.definition.specs.Frame.{Frames}
-use Rattle.definition.specs.Allocator.{AllocationRegion, total, isManaged}
-use Rattle.definition.specs.Boot.{keptRegions, overlap, bootSheet}
+use Rattle.definition.specs.Allocator.{AllocationRegion, isManaged}
+use Rattle.definition.specs.Boot.{bootSheet}
 use Rattle.definition.specs.Refusal.{lowest}
 use Rattle.definition.specs.Store.{Memory, Store}
 use Rattle.definition.specs.Calls.{Call}
 use Rattle.definition.specs.Book.{Book}
-use Rattle.bookkeeping.specs.Blocks.{Block, All, onList, regionBlocks, listed, holding, pagesOf, covers, home, lies}
+use Rattle.bookkeeping.specs.Blocks.{Block, All, onList, regionBlocks, listed, holding, pagesOf, covers, home}
 use Rattle.bookkeeping.specs.Blocks.All.{all-none, all-more}
 use Rattle.bookkeeping.specs.Claim.{State, next, afterCalls, booted, bytesOf, Apart, Disjoint, Aligned, Zero, Bookkeeping, Along, Claim}
 use Rattle.bookkeeping.specs.Claim.Along.{along-none, along-more}
 use Rattle.bookkeeping.specs.Claim.Disjoint.{disjoint-none, disjoint-more}
 use Rattle.bookkeeping.proofs.Blocks.{sum-append, wrong, Fine, fine-same}
 use Rattle.bookkeeping.proofs.Frames.{ifHeld, ifMarked, bit-inj, Head, head-of, Clean}
-use Rattle.bookkeeping.proofs.Invariant.{Blank, Agree, managed-home, unmanaged-home}
+use Rattle.bookkeeping.proofs.Invariant.{Blank, roomOf, Agree, managed-home, unmanaged-home, Holds}
+use Rattle.bookkeeping.proofs.Accepts.{accepted}
 use Rattle.bookkeeping.proofs.Steps.{always}
-use Rattle.bookkeeping.proofs.Boots.{map-sums, boot-agree}
-use Rattle.bookkeeping.proofs.Sheets.{lowest-none}
+use Rattle.bookkeeping.proofs.Regions.{regionsStay}
+use Rattle.bookkeeping.proofs.Boots.{boot-agree}
 use Rattle.bookkeeping.proofs.Answers.{answered}
 
 -- ---- the weights' sums as facts of each block
@@ -86,14 +87,14 @@ zero-lists b mem {fs = fs} (x ∷ xs) rest n h c =
 
 -- ---- the claim from the invariant
 
-claimed : (b : Board) (map : List MemoryRegion) (s : Store) (k : Book) → Agree b (keptRegions b map) s k → Bookkeeping b map s k
-claimed b map s k h =
+claimed : (b : Board) (s : Store) (k : Book) → Agree b (k .regions) s k → Bookkeeping b s k
+claimed b s k h =
     let xs = listed (s .allocator .regions) ++ holding (k .held) in
     let f = h .sound .fine in
     record {
       disjoint = all-disjoint xs (λ q. omega (arith, f .tiles q, f .once q));
-      aligned = all-aligned (lies b (keptRegions b map)) xs (f .right);
-      covered = λ q. f .tiles q ∙ managed-bit b (keptRegions b map) q (f .once q);
+      aligned = all-aligned (roomOf b (k .regions)) xs (f .right);
+      covered = λ q. f .tiles q ∙ managed-bit b (k .regions) q (f .once q);
       adds = times b xs ∙ ap (λ n. b .page * n) (f .adds);
       idle = h .counted .idle;
       kernelPages = h .counted .kernel;
@@ -102,39 +103,30 @@ claimed b map s k h =
       queue = h .queue;
     }
 
--- a map that boot accepts shares no page
-pub shares-none
-    : (b : Board) (map : List MemoryRegion) (records memory : ℕ) → lowest (bootSheet b map records memory) ≡ none → overlap b (keptRegions b map) ≡ false
-shares-none b map records memory e =
-    let x = lowest-none _ _ e in
-    let y = lowest-none _ _ (x .1) in
-    lowest-none _ _ (y .1) .0
-
--- the invariant after every list of calls
-pub agrees
-    : (b : Board) → 0 < b .page → (map : List MemoryRegion) (records memory : ℕ) → lowest (bootSheet b map records memory) ≡ none → (bytes : Memory) (room : ℕ)
-    → (calls : List Call) → let x = afterCalls b map bytes room calls in Agree b (keptRegions b map) (x .store) (x .book)
-agrees b pos map records memory e bytes room calls =
-    always b pos (keptRegions b map) (map-sums b map) (booted b map bytes room) calls (boot-agree b map bytes room (shares-none b map records memory e))
-
 -- each call of a list, on whatever stores
-always-answered : (b : Board) (pages : ℕ) (x : State) (calls : List Call) → Along b pages x calls
-always-answered b pages x [] = along-none
-always-answered b pages x (c ∷ cs) = along-more (answered b (x .store) c) (always-answered b pages (next b pages x c) cs)
+always-answered : (b : Board) (x : State) (calls : List Call) → Along b x calls
+always-answered b x [] = along-none
+always-answered b x (c ∷ cs) = along-more (answered b (x .store) c) (always-answered b (next b x c) cs)
 
--- Demand 3, of any board: a map that boot accepts with loans of some lengths, any bytes in the memory, any room in the queue, every list of calls.
-pub bookkeepingOf
-    : (b : Board) → 0 < b .page → (map : List MemoryRegion) (records memory : ℕ) → lowest (bootSheet b map records memory) ≡ none → (bytes : Memory) (room : ℕ)
-    → (calls : List Call) → Claim b map bytes room calls
-bookkeepingOf b pos map records memory e bytes room calls =
-    let x = afterCalls b map bytes room calls in
-    record {
-      afterwards = claimed b map (x .store) (x .book) (agrees b pos map records memory e bytes room calls);
-      along = always-answered b (total (keptRegions b map)) (booted b map bytes room) calls;
-    }
+-- ---- from an accepted boot
 
--- and of the standard board
-pub bookkeeping
-    : (map : List MemoryRegion) (records memory : ℕ) → lowest (bootSheet standard map records memory) ≡ none → (bytes : Memory) (room : ℕ) (calls : List Call)
-    → Claim standard map bytes room calls
-bookkeeping map records memory e bytes room calls = bookkeepingOf standard (omega arith) map records memory e bytes room calls
+module _ {b : Board} (fit : Fit b) where
+  -- the invariant after every list of calls
+  pub agrees
+      : (map : List MemoryRegion) (records memory : ℕ) → lowest (bootSheet b map records memory) ≡ none → (bytes : Memory) (room : ℕ) (calls : List Call)
+      → let x = afterCalls b map bytes room calls in Holds b (x .store) (x .book)
+  agrees map records memory e bytes room calls =
+      let a = accepted fit map records memory e .placed in
+      always fit (booted b map bytes room) calls (record { agree = boot-agree b map bytes room (a .apart); placed = a })
+
+  -- Demand 3, of any board that is fit: a map that boot accepts with loans of some lengths, any bytes in the memory, any room in the queue, every list of calls.
+  pub bookkeeping
+      : (map : List MemoryRegion) (records memory : ℕ) → lowest (bootSheet b map records memory) ≡ none → (bytes : Memory) (room : ℕ) (calls : List Call)
+      → Claim b map bytes room calls
+  bookkeeping map records memory e bytes room calls =
+      let x = afterCalls b map bytes room calls in
+      record {
+        regions = regionsStay b map bytes room calls;
+        afterwards = claimed b (x .store) (x .book) (agrees map records memory e bytes room calls .agree);
+        along = always-answered b (booted b map bytes room) calls;
+      }

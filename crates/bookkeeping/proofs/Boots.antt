@@ -31,13 +31,13 @@ use Rattle.definition.specs.Allocator.{
 use Rattle.definition.specs.Boot.{keptRegions, managedPages, shares, overlap, boot}
 use Rattle.definition.specs.Store.{Memory}
 use Rattle.definition.specs.Book.{emptyBook}
-use Rattle.bookkeeping.specs.Blocks.{Block, onList, regionBlocks, listed, holding, spans, pagesOf, manages, home, between, lies, emptied, tables}
+use Rattle.bookkeeping.specs.Blocks.{Block, onList, regionBlocks, listed, holding, spans, manages, home, between, lies, emptied, tables}
 use Rattle.bookkeeping.specs.Blocks.All.{all-none, all-more}
-use Rattle.bookkeeping.proofs.Blocks.{sum-append, size-pos, spans-more, spans-none, wrong, Fine, fine-same, fine-home, grow}
+use Rattle.bookkeeping.proofs.Blocks.{sum-append, size-pos, spans-more, spans-none, Fine, fine-same, fine-over, fine-home, grow}
 use Rattle.bookkeeping.proofs.Frames.{clean-upd}
 use Rattle.bookkeeping.proofs.Lists.{newFrame, pushed, upd-beyond}
 use Rattle.bookkeeping.proofs.Search.{between-one, between-facts, between-in, alien, Sits}
-use Rattle.bookkeeping.proofs.Invariant.{Blank, Sound, Agree, and-true, or-false}
+use Rattle.bookkeeping.proofs.Invariant.{Blank, Sound, roomOf, Agree, and-true, or-false}
 
 -- ---- the level that fits
 
@@ -183,11 +183,6 @@ module _ (b : Board) where
   lies-parts [] a m c n i j = omega arith
   lies-parts (r ∷ rs) a m c n i j = omega (arith, between-part (first b r) (end b r) a m c n i j, lies-parts rs a m c n i j)
 
-  pub wrong-less : (room room′ : ℕ → ℕ → ℕ) → ((p n : ℕ) → room p n ≤ room′ p n) → (xs : List Block) → sum (wrong room′) xs ≤ sum (wrong room) xs
-  unfolding sum
-  wrong-less room room′ h [] = omega arith
-  wrong-less room room′ h (x ∷ xs) = omega (arith, h (x .page) (pagesOf x), wrong-less room room′ h xs)
-
   lies-more : (r : AllocationRegion) (rs : List AllocationRegion) (p n : ℕ) → lies b rs p n ≤ lies b (r ∷ rs) p n
   unfolding lies sum
   lies-more r rs p n = omega arith
@@ -195,15 +190,7 @@ module _ (b : Board) where
   fine-room
       : {fit : ℕ → ℕ} {pages : ℕ} {fs : Frames} {xs : List Block} (r : AllocationRegion) (rs : List AllocationRegion) → Fine fit (lies b rs) pages fs xs
       → Fine fit (lies b (r ∷ rs)) pages fs xs
-  fine-room {xs = xs} r rs h =
-      record {
-        once = h .once;
-        parts = lies-parts (r ∷ rs);
-        tiles = h .tiles;
-        marks = h .marks;
-        right = omega (arith, h .right, wrong-less (lies b rs) (lies b (r ∷ rs)) (lies-more r rs) xs);
-        adds = h .adds;
-      }
+  fine-room r rs h = fine-over (λ q. refl) (λ p n i. lies-more r rs p n) (lies-parts (r ∷ rs)) refl h
 
   -- ---- a kept region
 
@@ -219,7 +206,8 @@ module _ (b : Board) where
   -- the region that an entry makes, laid out before those behind it
   admit-sound
       : (mem : Memory) (m : MemoryRegion) (rs : List AllocationRegion) (a : PhysicalFrameAllocator) → tables b (emptyRegion b m) ≤ emptyRegion b m .pages
-      → ((q : ℕ) → home b (emptyRegion b m ∷ rs) q ≤ 1) → Sound b rs a mem [] → Sound b (emptyRegion b m ∷ rs) (admitRegion b (emptyRegion b m) a) mem []
+      → ((q : ℕ) → home b (emptyRegion b m ∷ rs) q ≤ 1) → Sound b (lies b rs) rs a mem []
+      → Sound b (lies b (emptyRegion b m ∷ rs)) (emptyRegion b m ∷ rs) (admitRegion b (emptyRegion b m) a) mem []
   unfolding home lies sum listed emptied holding regionBlocks onList Lays Sitting
   admit-sound mem m rs a t o h =
       record {
@@ -265,7 +253,7 @@ module _ (b : Board) where
       go true e h = omega (arith, kept-tables m e)
       go false e h = h
 
-  empty-sound : (mem : Memory) → Sound b [] (newAllocator b []) mem []
+  empty-sound : (mem : Memory) → Sound b (lies b []) [] (newAllocator b []) mem []
   unfolding newAllocator home lies sum listed emptied holding
   empty-sound mem =
       record {
@@ -276,16 +264,18 @@ module _ (b : Board) where
         clean = λ p f e z q i. absurd (let y : _≡_ {A = ℕ} 0 1 = cc in omega arith);
       }
 
-  map-sound : (mem : Memory) (map : List MemoryRegion) → overlap b (keptRegions b map) ≡ false → Sound b (keptRegions b map) (newAllocator b map) mem []
+  map-sound
+      : (mem : Memory) (map : List MemoryRegion) → overlap b (keptRegions b map) ≡ false
+      → Sound b (lies b (keptRegions b map)) (keptRegions b map) (newAllocator b map) mem []
   unfolding newAllocator keptRegions
   map-sound mem [] e = empty-sound mem
   map-sound mem (m ∷ ms) e = go (isKept b m) refl e (λ i. map-sound mem ms i)
     where
       go
           : (t : Bool) → isKept b m ≡ t → overlap b (cond t (emptyRegion b m ∷ keptRegions b ms) (keptRegions b ms)) ≡ false
-          → (overlap b (keptRegions b ms) ≡ false → Sound b (keptRegions b ms) (newAllocator b ms) mem [])
-          → Sound b (cond t (emptyRegion b m ∷ keptRegions b ms) (keptRegions b ms))
-          (cond t (admitRegion b (emptyRegion b m) (newAllocator b ms)) (newAllocator b ms)) mem []
+          → (overlap b (keptRegions b ms) ≡ false → Sound b (lies b (keptRegions b ms)) (keptRegions b ms) (newAllocator b ms) mem [])
+          → let rs = cond t (emptyRegion b m ∷ keptRegions b ms) (keptRegions b ms) in
+          Sound b (lies b rs) rs (cond t (admitRegion b (emptyRegion b m) (newAllocator b ms)) (newAllocator b ms)) mem []
       go true k e h =
           admit-sound mem m (keptRegions b ms) (newAllocator b ms) (kept-tables m k) (home-once (emptyRegion b m ∷ keptRegions b ms) e)
           (h (overlap-rest (emptyRegion b m) (keptRegions b ms) e))
@@ -298,8 +288,8 @@ module _ (b : Board) where
 
   pub boot-agree
       : (map : List MemoryRegion) (mem : Memory) (room : ℕ) → overlap b (keptRegions b map) ≡ false
-      → Agree b (keptRegions b map) (boot b map mem room) emptyBook
-  unfolding boot holding sum
+      → Agree b (keptRegions b map) (boot b map mem room) (emptyBook (keptRegions b map))
+  unfolding boot holding sum roomOf
   boot-agree map mem room e =
       record {
         sound = x;
@@ -310,13 +300,14 @@ module _ (b : Board) where
           total = same;
           waiting = refl;
         };
+        regions = refl;
         queue = refl;
         room = omega arith;
         rounds = omega arith;
         freed = omega arith;
       }
     where
-      x : Sound b (keptRegions b map) (newAllocator b map) mem []
+      x : Sound b (lies b (keptRegions b map)) (keptRegions b map) (newAllocator b map) mem []
       x = map-sound mem map e
 
       same : total (newAllocator b map .regions) ≡ total (keptRegions b map)

@@ -37,7 +37,7 @@ use Rattle.bookkeeping.proofs.Frames.{clean-upd}
 use Rattle.bookkeeping.proofs.Lists.{lone, pushed, upd-beyond}
 use Rattle.bookkeeping.proofs.Search.{between-one, between-facts, alien, strays}
 use Rattle.bookkeeping.proofs.Books.{Replaced, heldOf, in-book}
-use Rattle.bookkeeping.proofs.Invariant.{Blank, Agree, Aside, aside, home-emptied, lies-emptied}
+use Rattle.bookkeeping.proofs.Invariant.{Blank, roomOf, Agree, Aside, aside, home-emptied, lies-emptied, room-lies}
 
 -- where a region has a frame whole it manages its first page
 room-manages : (b : Board) (r : AllocationRegion) (p n : ℕ) → 1 ≤ n → hasRoom b p n r ≤ manages b p r
@@ -136,6 +136,7 @@ module _ (b : Board) (m : List AllocationRegion) (s : Store) (k : Book) (h : Agr
           total = h .counted .total;
           waiting = h .counted .waiting;
         };
+        regions = h .regions;
         queue = h .queue;
         room = h .room;
         rounds = h .rounds;
@@ -145,15 +146,15 @@ module _ (b : Board) (m : List AllocationRegion) (s : Store) (k : Book) (h : Agr
       book : Replaced struck p (k .held) (heldOf p f)
       book = in-book struck (s .allocator .regions) (k .held) p f (h .sound .fine) e j
 
-      off : Aside b m (s .memory) (listed (s .allocator .regions) ++ holding (replace struck p (k .held))) p (s .allocator .frames) f
+      off : Aside b (roomOf b m) m (s .memory) (listed (s .allocator .regions) ++ holding (replace struck p (k .held))) p (s .allocator .frames) f
       off = aside p f (h .sound) e j
 
-      right : wrong (lies b m) (heldBlock (heldOf p f)) ≡ 0
+      right : wrong (roomOf b m) (heldBlock (heldOf p f)) ≡ 0
       right = omega (arith, off .fine .right)
 
       x : Freed b (s .allocator .frames) (s .allocator .regions) p f (freeIn b p (s .allocator .frames) (s .allocator .regions))
       x =
           in-freed b p f (omega (arith, right)) (s .allocator .frames) (s .allocator .regions) e
           (rw (sym (home-emptied b (s .allocator .regions) p), h .sound .shape) (h .sound .fine .once p))
-          (rw (sym (lies-emptied b (s .allocator .regions) p (size (f .level))), h .sound .shape) (omega (arith, right)))
+          (rw (sym (lies-emptied b (s .allocator .regions) p (size (f .level))), h .sound .shape) (omega (arith, right, room-lies b m p (size (f .level)) (size-pos (f .level)))))
           (h .sound .own) (h .sound .beyond)

@@ -3,7 +3,7 @@
 use Prim.Native.Nat.{ℕ, zero, suc, _+_, _*_, _≤_, _<_}
 use native.Mathlib.Omega.{arith}
 use mathlib.Core.Bool.{Bool, true, false, not, cond, _&&_, false≢true}
-use mathlib.Core.List.{List, [], _∷_, _++_}
+use mathlib.Core.List.{List, _∷_, _++_}
 use mathlib.Core.Option.{Option, none, some}
 use mathlib.Core.Path.{_≡_, refl, ap, _∙_}
 use Rattle.definition.specs.declared.FrameAllocFlags.{FrameAllocFlags}
@@ -16,12 +16,12 @@ use Rattle.definition.specs.Store.{Store, withAllocator, withCounters, mark}
 use Rattle.definition.specs.Contents.{filled, sizeOf, zeroFrame, setNotZero}
 use Rattle.definition.specs.Tracker.{countAlloc, Granted, handOver, granted, tryAllocFrame, splitFrame}
 use Rattle.definition.specs.Book.{Held, Book, withHeld, replace, struck, broken}
-use Rattle.bookkeeping.specs.Blocks.{listed, heldBlock, holding, pagesOf, home, lies, pagesWithKernel, pagesWithout}
+use Rattle.bookkeeping.specs.Blocks.{listed, heldBlock, holding, pagesOf, home, pagesWithKernel, pagesWithout}
 use Rattle.bookkeeping.proofs.Blocks.{sum-append, Fine, fine-same, cut}
 use Rattle.bookkeeping.proofs.Frames.{Clean, clean-cut}
 use Rattle.bookkeeping.proofs.Search.{Got, GotIf, do-got}
 use Rattle.bookkeeping.proofs.Books.{Replaced, heldOf, in-book, broken-zero, broken-suc, broken-kernel, broken-other}
-use Rattle.bookkeeping.proofs.Invariant.{Blank, Agree, Aside, aside, aside-change, as-held, zeros-stay, zeros-over}
+use Rattle.bookkeeping.proofs.Invariant.{Blank, roomOf, Agree, Aside, aside, aside-change, as-held, zeros-stay, zeros-over}
 
 -- ---- a split
 
@@ -38,6 +38,7 @@ module _ (b : Board) (m : List AllocationRegion) (s : Store) (k : Book) (h : Agr
           total = h .counted .total;
           waiting = h .counted .waiting;
         };
+        regions = h .regions;
         queue = h .queue;
         room = h .room;
         rounds = h .rounds;
@@ -47,12 +48,12 @@ module _ (b : Board) (m : List AllocationRegion) (s : Store) (k : Book) (h : Agr
       book : Replaced broken p (k .held) (heldOf p f)
       book = in-book broken (s .allocator .regions) (k .held) p f (h .sound .fine) e j
 
-      off : Aside b m (s .memory) (listed (s .allocator .regions) ++ holding (replace struck p (k .held))) p (s .allocator .frames) f
+      off : Aside b (roomOf b m) m (s .memory) (listed (s .allocator .regions) ++ holding (replace struck p (k .held))) p (s .allocator .frames) f
       off = aside p f (h .sound) e j
 
       fine
           : (l : ℕ) → f .level ≡ l
-          → Fine (home b m) (lies b m) (managedPages b m) (keptAs (s .allocator .frames) p l (heldChild f))
+          → Fine (home b m) (roomOf b m) (managedPages b m) (keptAs (s .allocator .frames) p l (heldChild f))
           (listed (s .allocator .regions) ++ holding (replace broken p (k .held)))
       fine zero i =
           fine-same (λ w. simp sum-append (omega (arith, book .before w, book .after w, broken-zero w (heldOf p f) i))) (h .sound .fine)
@@ -72,18 +73,18 @@ pub record Handed (b : Board) (m : List AllocationRegion) (s : Store) (k : Book)
   pub here : s .allocator .frames p ≡ some frame
   pub held : frame .allocated ≡ true
 
-module _ (b : Board) (pos : 0 < b .page) (m : List AllocationRegion) (s : Store) (k : Book) (h : Agree b m s k) (l : ℕ) (flags : FrameAllocFlags) where
+module _ (b : Board) (pos : 0 < b .page) (m : List AllocationRegion) (s : Store) (k : Book) (h : Agree b m s k) (among : ℕ → Bool) (l : ℕ) (flags : FrameAllocFlags) where
   abbrev Find : PhysicalFrameAllocator → ℕ → Type 0
-  Find a p = Got b (home b m) (lies b m) (managedPages b m) (Blank b (s .memory)) (holding (k .held)) l (s .allocator .regions) a p
+  Find a p = Got b (home b m) (roomOf b m) (managedPages b m) (Blank b (s .memory)) among (holding (k .held)) l (s .allocator .regions) a p
 
   module _ (a : PhysicalFrameAllocator) (p : ℕ) (g : Find a p) where
-    found : Aside b m (s .memory) (listed (a .regions) ++ holding (k .held)) p (a .frames) (g .frame)
+    found : Aside b (roomOf b m) m (s .memory) (listed (a .regions) ++ holding (k .held)) p (a .frames) (g .frame)
     unfolding sum
     found = record { here = g .here; held = g .held; fine = fine-same (λ w. omega (arith, as-held p (g .frame) (g .held) w)) (g .fine); clean = g .clean }
 
     -- the frame f at the page p, which is aside, is held by the book from now on
     last
-        : (t : Store) (f : Frame) → Aside b m (t .memory) (listed (a .regions) ++ holding (k .held)) p (t .allocator .frames) f → f .level ≡ l
+        : (t : Store) (f : Frame) → Aside b (roomOf b m) m (t .memory) (listed (a .regions) ++ holding (k .held)) p (t .allocator .frames) f → f .level ≡ l
         → f .kernel ≡ flags .kernel → t .allocator .regions ≡ a .regions → t .queue ≡ s .queue → t .room ≡ s .room → t .pass ≡ s .pass
         → Handed b m (withCounters t (countAlloc (size l) (flags .kernel) (s .counters))) k p l (flags .kernel)
     unfolding countAlloc sum holding
@@ -104,6 +105,7 @@ module _ (b : Board) (pos : 0 < b .page) (m : List AllocationRegion) (s : Store)
               total = h .counted .total;
               waiting = h .counted .waiting;
             };
+            regions = h .regions;
             queue = eq ∙ h .queue;
             room = rw (eq, em) (h .room);
             rounds = rw ep (h .rounds);
@@ -153,15 +155,15 @@ module _ (b : Board) (pos : 0 < b .page) (m : List AllocationRegion) (s : Store)
 
   grants
       : (a : PhysicalFrameAllocator) (o : Option ℕ) (p : ℕ) → o ≡ some p
-      → GotIf b (home b m) (lies b m) (managedPages b m) (Blank b (s .memory)) (holding (k .held)) l (s .allocator .regions) a o
+      → GotIf b (home b m) (roomOf b m) (managedPages b m) (Blank b (s .memory)) among (holding (k .held)) l (s .allocator .regions) a o
       → Grants p (granted b (size l) flags s (record { allocator = a; page = o }))
   grants a none p e g = absurd (let z : _≡_ {A = ℕ} 0 1 = cc in omega arith)
   grants a (some q) p e g = let d : p ≡ q = cc in rw d (refl, handed a q g)
 
-  pub grant-handed : l ≤ 2 → (p : ℕ) → doAlloc l (flags .zeroed) (s .allocator) .page ≡ some p → Grants p (tryAllocFrame b l flags s)
+  pub grant-handed : l ≤ 2 → (p : ℕ) → doAlloc among l (flags .zeroed) (s .allocator) .page ≡ some p → Grants p (tryAllocFrame b among l flags s)
   unfolding tryAllocFrame
   grant-handed i p e =
-      let a = doAlloc l (flags .zeroed) (s .allocator) in
+      let a = doAlloc among l (flags .zeroed) (s .allocator) in
       grants (a .allocator) (a .page) p e
-      (do-got b (home b m) (lies b m) (managedPages b m) (Blank b (s .memory)) (holding (k .held)) l (flags .zeroed) (s .allocator) i
+      (do-got b (home b m) (roomOf b m) (managedPages b m) (Blank b (s .memory)) among (holding (k .held)) l (flags .zeroed) (s .allocator) i
       (h .sound .fine) (h .sound .own) (h .sound .beyond) (h .sound .clean))

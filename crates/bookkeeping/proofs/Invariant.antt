@@ -37,6 +37,7 @@ use Rattle.bookkeeping.specs.Blocks.{
   pagesWithout,
   tables,
 }
+use Rattle.bookkeeping.specs.Good.{Placed}
 use Rattle.bookkeeping.proofs.Blocks.{sum-append, spans-in, spans-facts, block, Fine, fine-same, remark}
 use Rattle.bookkeeping.proofs.Frames.{Clean, clean-write}
 use Rattle.bookkeeping.proofs.Search.{strays}
@@ -46,10 +47,10 @@ use Rattle.bookkeeping.proofs.Books.{heldOf, in-book}
 abbrev pub Blank : Board → Memory → ℕ → Type 0
 Blank b mem q = (a : ℕ) → a / b .page ≡ q → mem a ≡ 0
 
--- of a map that keeps the regions m: the listed and the held frames are those of the store, and what is marked ZEROED is zero
-pub record Sound (b : Board) (m : List AllocationRegion) (a : PhysicalFrameAllocator) (mem : Memory) (hs : List Held) : Type 0 where
+-- of a map that keeps the regions m: the listed and the held frames are those of the store, each has `room` where it lies, and what is marked ZEROED is zero
+pub record Sound (b : Board) (room : ℕ → ℕ → ℕ) (m : List AllocationRegion) (a : PhysicalFrameAllocator) (mem : Memory) (hs : List Held) : Type 0 where
   pub shape : emptied (a .regions) ≡ m
-  pub fine : Fine (home b m) (lies b m) (managedPages b m) (a .frames) (listed (a .regions) ++ holding hs)
+  pub fine : Fine (home b m) room (managedPages b m) (a .frames) (listed (a .regions) ++ holding hs)
   pub own : sum (strays b) (a .regions) ≡ 0
   pub beyond : All SixLists (a .regions)
   pub clean : Clean (Blank b mem) (a .frames)
@@ -61,13 +62,23 @@ pub record Counted (b : Board) (m : List AllocationRegion) (c : Counters) (rs : 
   pub total : c .total ≡ total m
   pub waiting : c .waiting ≡ 0
 
+-- where a frame may lie, whole in one region: what grants, frees and writes keep they keep by any such measure, and `room-lies` is all that is read off this one
+unfoldable pub roomOf : Board → List AllocationRegion → (p n : ℕ) → ℕ
+roomOf b m p n = lies b m p n
+
 pub record Agree (b : Board) (m : List AllocationRegion) (s : Store) (k : Book) : Type 0 where
-  pub sound : Sound b m (s .allocator) (s .memory) (k .held)
+  pub sound : Sound b (roomOf b m) m (s .allocator) (s .memory) (k .held)
   pub counted : Counted b m (s .counters) (s .allocator .regions) (k .held)
+  pub regions : k .regions ≡ m
   pub queue : s .queue ≡ k .queue
   pub room : length (s .queue) ≤ s .room
-  pub rounds : s .pass .rounds ≤ b .maxRounds + 1
-  pub freed : s .pass .freed ≤ b .perRound * s .pass .rounds
+  pub rounds : s .pass .rounds ≤ b .«max_rounds» + 1
+  pub freed : s .pass .freed ≤ b .«per_round» * s .pass .rounds
+
+-- what every call keeps, over the regions that the book has
+pub record Holds (b : Board) (s : Store) (k : Book) : Type 0 where
+  pub agree : Agree b (k .regions) s k
+  pub placed : Placed b (k .regions)
 
 -- ---- tests
 
@@ -90,6 +101,11 @@ pub lies-emptied : (b : Board) (rs : List AllocationRegion) (p n : ℕ) → lies
 unfolding lies emptied sum
 lies-emptied b [] p n = refl
 lies-emptied b (r ∷ rs) p n = rw (lies-emptied b rs p n)
+
+-- what has room is whole in one region
+pub room-lies : (b : Board) (m : List AllocationRegion) (p n : ℕ) → 1 ≤ n → roomOf b m p n ≤ lies b m p n
+unfolding roomOf
+room-lies b m p n h = omega arith
 
 pub managed-home : (b : Board) (rs : List AllocationRegion) (p : ℕ) → isManaged b rs p ≡ true → 1 ≤ home b rs p
 unfolding isManaged any home sum
@@ -130,24 +146,25 @@ at-of b s a i j k = go (s .allocator .frames (a / b .page)) refl (and-true (eqb 
 pub as-held : (p : ℕ) (f : Frame) → f .allocated ≡ true → (w : Block → ℕ) → w (block p f) ≡ w (heldBlock (heldOf p f))
 as-held p f e w = ap (λ (a : Bool). w (record { page = p; level = f .level; held = a; mark = cond a (f .kernel) (f .zeroed) })) e
 
-pub record Aside (b : Board) (m : List AllocationRegion) (mem : Memory) (xs : List Block) (p : ℕ) (fs : Frames) (f : Frame) : Type 0 where
+pub record Aside (b : Board) (room : ℕ → ℕ → ℕ) (m : List AllocationRegion) (mem : Memory) (xs : List Block) (p : ℕ) (fs : Frames) (f : Frame) : Type 0 where
   pub here : fs p ≡ some f
   pub held : f .allocated ≡ true
-  pub fine : Fine (home b m) (lies b m) (managedPages b m) fs (heldBlock (heldOf p f) ∷ xs)
+  pub fine : Fine (home b m) room (managedPages b m) fs (heldBlock (heldOf p f) ∷ xs)
   pub clean : Clean (Blank b mem) fs
 
 pub aside
-    : {b : Board} {m : List AllocationRegion} {a : PhysicalFrameAllocator} {mem : Memory} {hs : List Held} (p : ℕ) (f : Frame) → Sound b m a mem hs
-    → a .frames p ≡ some f → f .allocated ≡ true → Aside b m mem (listed (a .regions) ++ holding (replace struck p hs)) p (a .frames) f
+    : {b : Board} {room : ℕ → ℕ → ℕ} {m : List AllocationRegion} {a : PhysicalFrameAllocator} {mem : Memory} {hs : List Held} (p : ℕ) (f : Frame)
+    → Sound b room m a mem hs → a .frames p ≡ some f → f .allocated ≡ true
+    → Aside b room m mem (listed (a .regions) ++ holding (replace struck p hs)) p (a .frames) f
 unfolding sum
 aside {a = a} {hs = hs} p f h e k =
     let x = in-book struck (a .regions) hs p f (h .fine) e k in
     record { here = e; held = k; fine = fine-same (λ w. simp sum-append (omega (arith, x .before w))) (h .fine); clean = h .clean }
 
 pub aside-change
-    : {b : Board} {m : List AllocationRegion} {mem : Memory} {xs : List Block} {p : ℕ} {fs : Frames} {f : Frame} (mem′ : Memory) (g : Frame → Frame)
-    → Aside b m mem xs p fs f → g f .level ≡ f .level → g f .allocated ≡ true → ((q : ℕ) → spans p (size (f .level)) q ≡ 0 → Blank b mem q → Blank b mem′ q)
-    → (g f .zeroed ≡ true → (q : ℕ) → spans p (size (f .level)) q ≡ 1 → Blank b mem′ q) → Aside b m mem′ xs p (change g fs p) (g f)
+    : {b : Board} {room : ℕ → ℕ → ℕ} {m : List AllocationRegion} {mem : Memory} {xs : List Block} {p : ℕ} {fs : Frames} {f : Frame} (mem′ : Memory)
+    (g : Frame → Frame) → Aside b room m mem xs p fs f → g f .level ≡ f .level → g f .allocated ≡ true → ((q : ℕ) → spans p (size (f .level)) q ≡ 0 → Blank b mem q → Blank b mem′ q)
+    → (g f .zeroed ≡ true → (q : ℕ) → spans p (size (f .level)) q ≡ 1 → Blank b mem′ q) → Aside b room m mem′ xs p (change g fs p) (g f)
 unfolding sum
 aside-change {b} {mem = mem} {xs = xs} {p} {fs} {f} mem′ g h e k out inn =
     rw (h .here) (record {
@@ -159,9 +176,9 @@ aside-change {b} {mem = mem} {xs = xs} {p} {fs} {f} mem′ g h e k out inn =
 
 -- put back as it was but for its mark and its bytes
 pub put-back
-    : {b : Board} {m : List AllocationRegion} {a : PhysicalFrameAllocator} {mem mem′ : Memory} {hs : List Held} {fs : Frames} (p : ℕ) (f f′ : Frame)
-    → Sound b m a mem hs → a .frames p ≡ some f → f .allocated ≡ true → f′ .level ≡ f .level → f′ .kernel ≡ f .kernel
-    → Aside b m mem′ (listed (a .regions) ++ holding (replace struck p hs)) p fs f′ → Sound b m (record { frames = fs; regions = a .regions }) mem′ hs
+    : {b : Board} {room : ℕ → ℕ → ℕ} {m : List AllocationRegion} {a : PhysicalFrameAllocator} {mem mem′ : Memory} {hs : List Held} {fs : Frames} (p : ℕ)
+    (f f′ : Frame) → Sound b room m a mem hs → a .frames p ≡ some f → f .allocated ≡ true → f′ .level ≡ f .level → f′ .kernel ≡ f .kernel
+    → Aside b room m mem′ (listed (a .regions) ++ holding (replace struck p hs)) p fs f′ → Sound b room m (record { frames = fs; regions = a .regions }) mem′ hs
 unfolding sum
 put-back {a = a} {hs = hs} p f f′ h e k el ek i =
     let x = in-book struck (a .regions) hs p f (h .fine) e k in

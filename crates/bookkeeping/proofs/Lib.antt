@@ -10,6 +10,7 @@ pub mod Grants
 pub mod Writes
 pub mod Rounds
 pub mod Sheets
+pub mod Accepts
 pub mod Steps
 pub mod Boots
 pub mod Answers
@@ -18,3 +19,4 @@ pub mod Tilings
 pub mod Listings
 pub mod Good
 pub mod Rooms
+pub mod Regions

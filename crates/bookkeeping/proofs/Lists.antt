@@ -5,9 +5,9 @@ use native.Mathlib.Omega.{arith}
 use mathlib.Core.Bool.{Bool, true, false}
 use mathlib.Core.List.{List, [], _∷_, _++_}
 use mathlib.Core.Option.{Option, none, some}
-use mathlib.Core.Path.{_≡_, refl, ap, _∙_}
+use mathlib.Core.Path.{_≡_, refl, _∙_}
 use Rattle.definition.proofs.Basics.{upd-other}
-use Rattle.definition.specs.Basics.{upd, sum, Popped, behind, popBack}
+use Rattle.definition.specs.Basics.{upd, sum, Popped, orThis, popLast, popBack}
 use Rattle.definition.specs.Frame.{Frame, Levels, Found, slot, size, isZeroed, children, split, kept, nothing, orElse, popped, popFrom, levelAllocate}
 use Rattle.bookkeeping.specs.Blocks.{Block, onList, regionBlocks}
 use Rattle.bookkeeping.proofs.Blocks.{sum-append, block, childBlocks}
@@ -58,58 +58,75 @@ Back xs none = xs ≡ []
 Back xs (some e) = xs ≡ e .rest ++ (e .last ∷ [])
 
 pub back : (xs : List ℕ) → Back xs (popBack xs)
-unfolding popBack
+unfolding popLast
 back [] = refl
 back (x ∷ xs) = go (popBack xs) (back xs)
   where
-    go : (o : Option Popped) → Back xs o → Back (x ∷ xs) (behind x o)
+    go : (o : Option Popped) → Back xs o → Back (x ∷ xs) (orThis true x xs o)
     go none e = rw e
     go (some p) e = rw e
 
+-- what popLast answers: the page that it took and the rest weigh what the list did
+pub record Took (among : ℕ → Bool) (xs : List ℕ) (e : Popped) : Type 0 where
+  pub mine : among (e .last) ≡ true
+  pub moved : (w : Block → ℕ) (l : ℕ) (z : Bool) → sum w (onList l z xs) ≡ w (lone (e .last) l z) + sum w (onList l z (e .rest))
+
+abbrev pub Last : (ℕ → Bool) → List ℕ → Option Popped → Type 0
+Last among xs none = Unit
+Last among xs (some e) = Took among xs e
+
+pub pop-last : (among : ℕ → Bool) (xs : List ℕ) → Last among xs (popLast among xs)
+unfolding popLast
+pop-last among [] = tt
+pop-last among (x ∷ xs) = go (among x) refl (popLast among xs) (pop-last among xs)
+  where
+    go : (t : Bool) → among x ≡ t → (o : Option Popped) → Last among xs o → Last among (x ∷ xs) (orThis t x xs o)
+    go t i (some e) h = record { mine = h .mine; moved = λ w l z. unfold sum onList in omega (arith, h .moved w l z) }
+    go true i none h = record { mine = i; moved = λ w l z. unfold sum onList in refl }
+    go false i none h = tt
+
 -- what a pop answers: a frame less
-pub record Less (l : ℕ) (s t : Levels) (p : ℕ) : Type 0 where
+pub record Less (among : ℕ → Bool) (l : ℕ) (s t : Levels) (p : ℕ) : Type 0 where
+  pub mine : among p ≡ true
   pub zeroed : Bool
   pub frames : t .frames ≡ s .frames
   pub beyond : Beyond (s .free) → Beyond (t .free)
   pub moved : (w : Block → ℕ) → sum w (regionBlocks (s .free)) ≡ w (lone p l zeroed) + sum w (regionBlocks (t .free))
 
-abbrev pub Pops : ℕ → Levels → Levels → Option ℕ → Type 0
-Pops l s t none = Unit
-Pops l s t (some p) = Less l s t p
+abbrev pub Pops : (ℕ → Bool) → ℕ → Levels → Levels → Option ℕ → Type 0
+Pops among l s t none = Unit
+Pops among l s t (some p) = Less among l s t p
 
-abbrev pub PopsAs : ℕ → Levels → Found → Type 0
-PopsAs l s a = Pops l s (a .levels) (a .page)
+abbrev pub PopsAs : (ℕ → Bool) → ℕ → Levels → Found → Type 0
+PopsAs among l s a = Pops among l s (a .levels) (a .page)
 
-pop-pops : (s : Levels) (l : ℕ) (z : Bool) → l ≤ 2 → PopsAs l s (popFrom s (slot l z))
+pop-pops : (among : ℕ → Bool) (s : Levels) (l : ℕ) (z : Bool) → l ≤ 2 → PopsAs among l s (popFrom among s (slot l z))
 unfolding popFrom
-pop-pops s l z h = go (popBack (s .free (slot l z))) (back (s .free (slot l z)))
+pop-pops among s l z h = go (popLast among (s .free (slot l z))) (pop-last among (s .free (slot l z)))
   where
-    go : (o : Option Popped) → Back (s .free (slot l z)) o → PopsAs l s (popped s (slot l z) o)
+    go : (o : Option Popped) → Last among (s .free (slot l z)) o → PopsAs among l s (popped s (slot l z) o)
     go none e = tt
     go (some p) e =
         record {
+          mine = e .mine;
           zeroed = z;
           frames = refl;
           beyond = upd-beyond (s .free) l z (p .rest) h;
-          moved = λ w. omega (
-            arith,
-            region-law w (s .free) l z (p .rest) h,
-            ap (λ ps. sum w (onList l z ps)) e,
-            on-append w l z (p .rest) (p .last ∷ []),
-            single w l z (p .last),
-          );
+          moved = λ w. omega (arith, region-law w (s .free) l z (p .rest) h, e .moved w l z);
         }
 
-or-pops : (l : ℕ) (s t : Levels) (o : Option ℕ) (a : Found) → Pops l s t o → PopsAs l s a → PopsAs l s (orElse (record { levels = t; page = o }) a)
-or-pops l s t none a h k = k
-or-pops l s t (some p) a h k = h
+or-pops : (among : ℕ → Bool) (l : ℕ) (s t : Levels) (o : Option ℕ) (a : Found) → Pops among l s t o → PopsAs among l s a → PopsAs among l s (orElse (record { levels = t; page = o }) a)
+or-pops among l s t none a h k = k
+or-pops among l s t (some p) a h k = h
 
-pub level-pops : (s : Levels) (l : ℕ) (tryZero onlyZero : Bool) → l ≤ 2 → PopsAs l s (levelAllocate s l tryZero onlyZero)
+pub level-pops : (among : ℕ → Bool) (s : Levels) (l : ℕ) (tryZero onlyZero : Bool) → l ≤ 2 → PopsAs among l s (levelAllocate among s l tryZero onlyZero)
 unfolding levelAllocate
-level-pops s l tryZero true h = pop-pops s l true h
-level-pops s l true false h =
-    or-pops l s (popFrom s (slot l false) .levels) (popFrom s (slot l false) .page) (popFrom s (slot l true)) (pop-pops s l false h) (pop-pops s l true h)
-level-pops s l false false h = or-pops l s (popFrom s (slot l false) .levels) (popFrom s (slot l false) .page) (nothing s) (pop-pops s l false h) tt
+level-pops among s l tryZero true h = pop-pops among s l true h
+level-pops among s l true false h =
+    let a = popFrom among s (slot l false) in
+    or-pops among l s (a .levels) (a .page) (popFrom among s (slot l true)) (pop-pops among s l false h) (pop-pops among s l true h)
+level-pops among s l false false h =
+    let a = popFrom among s (slot l false) in or-pops among l s (a .levels) (a .page) (nothing s) (pop-pops among s l false h) tt
 
 -- ---- a listed frame's children, pushed
 

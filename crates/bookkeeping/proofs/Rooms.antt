@@ -12,8 +12,8 @@ use Rattle.definition.specs.declared.Refusal.{Refusal}
 use Rattle.definition.specs.Board.{Board}
 use Rattle.definition.specs.Basics.{Popped, popBack}
 use Rattle.definition.specs.Frame.{Frame, withZeroed}
-use Rattle.definition.specs.Allocator.{PhysicalFrameAllocator, total, doAlloc}
-use Rattle.definition.specs.Boot.{keptRegions, boot}
+use Rattle.definition.specs.Allocator.{PhysicalFrameAllocator, doAlloc}
+use Rattle.definition.specs.Boot.{boot}
 use Rattle.definition.specs.Refusal.{lowest}
 use Rattle.definition.specs.Store.{Memory, Store, withMemory, withQueue, withAllocator, mark}
 use Rattle.definition.specs.Contents.{
@@ -71,6 +71,7 @@ use Rattle.definition.specs.Calls.{
   Stats,
   names,
   findLevel,
+  mine,
   sheet,
   hands,
   perform,
@@ -92,18 +93,18 @@ grant-room b n flags s a (some p) = go (flags .zeroed && not (isZeroedAt (withAl
     go true = refl
     go false = refl
 
-alloc-room : (b : Board) (l : ℕ) (flags : FrameAllocFlags) (s : Store) → tryAllocFrame b l flags s .store .room ≡ s .room
+alloc-room : (b : Board) (among : ℕ → Bool) (l : ℕ) (flags : FrameAllocFlags) (s : Store) → tryAllocFrame b among l flags s .store .room ≡ s .room
 unfolding tryAllocFrame
-alloc-room b l flags s = let a = doAlloc l (flags .zeroed) (s .allocator) in grant-room b _ flags s (a .allocator) (a .page)
+alloc-room b among l flags s = let a = doAlloc among l (flags .zeroed) (s .allocator) in grant-room b _ flags s (a .allocator) (a .page)
 
 then-room : (t : Store) (o : Option ℕ) → thenSplitFrame (record { store = t; page = o }) .store .room ≡ t .room
 unfolding splitFrame
 then-room t none = refl
 then-room t (some p) = refl
 
-take-room : (b : Board) (l : ℕ) (flags : FrameAllocFlags) (s : Store) → tryAllocSplitFrames b l flags s .store .room ≡ s .room
+take-room : (b : Board) (among : ℕ → Bool) (l : ℕ) (flags : FrameAllocFlags) (s : Store) → tryAllocSplitFrames b among l flags s .store .room ≡ s .room
 unfolding tryAllocSplitFrames
-take-room b l flags s = let t = tryAllocFrame b l flags s in then-room (t .store) (t .page) ∙ alloc-room b l flags s
+take-room b among l flags s = let t = tryAllocFrame b among l flags s in then-room (t .store) (t .page) ∙ alloc-room b among l flags s
 
 hands-room : (b : Board) (l : ℕ) (t : Store) (o : Option ℕ) → hands b l (record { store = t; page = o }) .store .room ≡ t .room
 hands-room b l t none = refl
@@ -135,7 +136,7 @@ sweep-room b (suc n) s = go (λ t. sweep-room b n t) (popBack (s .queue))
         on false = more (withQueue s (e .rest))
 
 after-room : (b : Board) (p : Pass) (r : Reclaimed) → afterRound b p r .store .room ≡ r .store .room
-after-room b p r = go (ltb (b .maxRounds) (p .rounds))
+after-room b p r = go (ltb (b .«max_rounds») (p .rounds))
   where
     go : (t : Bool) → cond t (endPass (r .store) (worked p (r .freed))) (goOn (r .store) (worked p (r .freed))) .store .room ≡ r .store .room
     go true = refl
@@ -145,8 +146,8 @@ round-room : (b : Board) (s : Store) → reclaimRound b s .store .room ≡ s .ro
 unfolding reclaimRound
 round-room b s = go (shouldReclaim b (s .counters))
   where
-    go : (t : Bool) → cond t (afterRound b (s .pass) (reclaimUpTo b (b .perRound) s)) (endPass s (s .pass)) .store .room ≡ s .room
-    go true = after-room b (s .pass) (reclaimUpTo b (b .perRound) s) ∙ sweep-room b (b .perRound) s
+    go : (t : Bool) → cond t (afterRound b (s .pass) (reclaimUpTo b (b .«per_round») s)) (endPass s (s .pass)) .store .room ≡ s .room
+    go true = after-room b (s .pass) (reclaimUpTo b (b .«per_round») s) ∙ sweep-room b (b .«per_round») s
     go false = refl
 
 -- ---- contents
@@ -178,9 +179,9 @@ copy-room b s p doff q soff len = go (isZeroedAt s q) (isZeroedAt s p)
 perform-room : (b : Board) (s : Store) (c : Call) → perform b s c .store .room ≡ s .room
 unfolding perform splitFrame zeroFrame setNotZero fillFrame writeFrame copyContentsFromPhysaddr
 perform-room b s (Alloc y) =
-    let t = tryAllocFrame b (findLevel b y) (y .flags) s in hands-room b (findLevel b y) (t .store) (t .page) ∙ alloc-room b (findLevel b y) (y .flags) s
+    let t = tryAllocFrame b (mine s) (findLevel b y) (y .flags) s in hands-room b (findLevel b y) (t .store) (t .page) ∙ alloc-room b (mine s) (findLevel b y) (y .flags) s
 perform-room b s (Take y) =
-    let t = tryAllocSplitFrames b (findLevel b y) (y .flags) s in hands-room b (findLevel b y) (t .store) (t .page) ∙ take-room b (findLevel b y) (y .flags) s
+    let t = tryAllocSplitFrames b (mine s) (findLevel b y) (y .flags) s in hands-room b (findLevel b y) (t .store) (t .page) ∙ take-room b (mine s) (findLevel b y) (y .flags) s
 perform-room b s (Split a) = refl
 perform-room b s (Free a) = free-room b s (a / b .page)
 perform-room b s (Zero a) = refl
@@ -206,12 +207,12 @@ step-room b s c = go (lowest (sheet b s (names c)))
     go none = perform-room b s c
     go (some r) = refl
 
-after-calls : (b : Board) (pages : ℕ) (x : State) (calls : List Call) → after b pages x calls .store .room ≡ x .store .room
+after-calls : (b : Board) (x : State) (calls : List Call) → after b x calls .store .room ≡ x .store .room
 unfolding after next
-after-calls b pages x [] = refl
-after-calls b pages x (c ∷ cs) = after-calls b pages (next b pages x c) cs ∙ step-room b (x .store) c
+after-calls b x [] = refl
+after-calls b x (c ∷ cs) = after-calls b (next b x c) cs ∙ step-room b (x .store) c
 
 -- the room after a list of calls is the boot's
 pub roomStays : (b : Board) (map : List MemoryRegion) (bytes : Memory) (room : ℕ) (calls : List Call) → afterCalls b map bytes room calls .store .room ≡ room
 unfolding boot
-roomStays b map bytes room calls = after-calls b (total (keptRegions b map)) (booted b map bytes room) calls
+roomStays b map bytes room calls = after-calls b (booted b map bytes room) calls

@@ -35,7 +35,7 @@ use Rattle.definition.specs.Tracker.{
   afterRound,
   reclaimRound,
 }
-use Rattle.definition.specs.Book.{Held, Book, withHeld, replace, replaceAt, struck, countersOf, freeNext, freeUpTo, roundOf}
+use Rattle.definition.specs.Book.{withWaiting, Held, Book, withHeld, replace, replaceAt, struck, countersOf, freeNext, freeUpTo, roundOf}
 use Rattle.bookkeeping.specs.Blocks.{Block, listed, holding, pagesOf, home, pagesWithKernel, pagesWithout, tables}
 use Rattle.bookkeeping.proofs.Blocks.{sum-append, startsAt, weigh, starts-none}
 use Rattle.bookkeeping.proofs.Frames.{one, ifHeld}
@@ -59,11 +59,11 @@ totals pages (h ∷ hs) =
     record { idle = omega (arith, x .idle); kernel = omega (arith, x .kernel); page = omega (arith, x .page) }
 
 module _ (b : Board) (m : List AllocationRegion) (sums : managedPages b m + sum (tables b) m ≡ total m) where
-  pub low-same : (s : Store) (k : Book) → Agree b m s k → shouldReclaim b (s .counters) ≡ shouldReclaim b (countersOf (total m) (k .held))
+  pub low-same : (s : Store) (k : Book) → Agree b m s k → shouldReclaim b (s .counters) ≡ shouldReclaim b (countersOf (total (k .regions)) (k .held))
   low-same s k h =
       let x = totals (total m) (k .held) in
       let e : s .counters .idle ≡ total m - sum pagesOf (holding (k .held)) = omega (arith, h .counted .idle, simp sum-append at (h .sound .fine .adds)) in
-      rw (e, h .counted .kernel, h .counted .page, x .idle, x .kernel, x .page)
+      rw (h .regions, e, h .counted .kernel, h .counted .page, x .idle, x .kernel, x .page)
 
 -- ---- an address that can't be freed names no frame of the book
 
@@ -139,11 +139,12 @@ pub record Swept (b : Board) (m : List AllocationRegion) (n : ℕ) (s : Store) (
 module _ (b : Board) (m : List AllocationRegion) where
   shorter
       : (s : Store) (k : Book) (e : Popped) → Agree b m s k → k .queue ≡ e .rest ++ (e .last ∷ [])
-      → Agree b m (withQueue s (e .rest)) (record { held = k .held; queue = e .rest })
+      → Agree b m (withQueue s (e .rest)) (withWaiting k (e .rest))
   shorter s k e h i =
       record {
         sound = h .sound;
         counted = h .counted;
+        regions = h .regions;
         queue = refl;
         room = omega (arith, h .room, ap length (h .queue), simp length-append at (ap length i));
         rounds = h .rounds;
@@ -178,7 +179,7 @@ module _ (b : Board) (m : List AllocationRegion) where
       go more none i = record { agree = h; few = omega arith; pass = refl }
       go more (some e) i =
           let t = withQueue s (e .rest) in
-          let x = sweep-one n more t (record { held = k .held; queue = e .rest }) (shorter s k e h i) (e .last) (canBeFreed b t (e .last)) refl in
+          let x = sweep-one n more t (withWaiting k (e .rest)) (shorter s k e h i) (e .last) (canBeFreed b t (e .last)) refl in
           record { agree = x .agree; few = x .few; pass = x .pass }
 
 -- ---- a round
@@ -186,9 +187,9 @@ module _ (b : Board) (m : List AllocationRegion) where
 module _ (b : Board) (m : List AllocationRegion) where
   -- the pass changes within its bounds
   pass-agree
-      : (s : Store) (k : Book) (p : Pass) → Agree b m s k → p .rounds ≤ b .maxRounds + 1 → p .freed ≤ b .perRound * p .rounds → Agree b m (withPass s p) k
+      : (s : Store) (k : Book) (p : Pass) → Agree b m s k → p .rounds ≤ b .«max_rounds» + 1 → p .freed ≤ b .«per_round» * p .rounds → Agree b m (withPass s p) k
   pass-agree s k p h i j =
-      record { sound = h .sound; counted = h .counted; queue = h .queue; room = h .room; rounds = i; freed = j }
+      record { sound = h .sound; counted = h .counted; regions = h .regions; queue = h .queue; room = h .room; rounds = i; freed = j }
 
   end-agree : (s : Store) (k : Book) (p : Pass) → Agree b m s k → Agree b m (endPass s p .store) k
   unfolding trackReclaimed
@@ -202,6 +203,7 @@ module _ (b : Board) (m : List AllocationRegion) where
           total = h .counted .total;
           waiting = h .counted .waiting;
         };
+        regions = h .regions;
         queue = h .queue;
         room = h .room;
         rounds = omega arith;
@@ -209,24 +211,24 @@ module _ (b : Board) (m : List AllocationRegion) where
       }
 
   after-agree
-      : (s : Store) (k : Book) (r : Reclaimed) → Agree b m s k → (l : Book) → Swept b m (b .perRound) s r l → Agree b m (afterRound b (s .pass) r .store) l
-  after-agree s k r h l x = go (ltb (b .maxRounds) (s .pass .rounds)) refl
+      : (s : Store) (k : Book) (r : Reclaimed) → Agree b m s k → (l : Book) → Swept b m (b .«per_round») s r l → Agree b m (afterRound b (s .pass) r .store) l
+  after-agree s k r h l x = go (ltb (b .«max_rounds») (s .pass .rounds)) refl
     where
       go
-          : (t : Bool) → ltb (b .maxRounds) (s .pass .rounds) ≡ t
+          : (t : Bool) → ltb (b .«max_rounds») (s .pass .rounds) ≡ t
           → Agree b m (cond t (endPass (r .store) (worked (s .pass) (r .freed))) (goOn (r .store) (worked (s .pass) (r .freed))) .store) l
       go true e = end-agree (r .store) l (worked (s .pass) (r .freed)) (x .agree)
       go false e =
-          pass-agree (r .store) l (worked (s .pass) (r .freed)) (x .agree) (omega (arith, ltb-false (b .maxRounds) (s .pass .rounds) e))
+          pass-agree (r .store) l (worked (s .pass) (r .freed)) (x .agree) (omega (arith, ltb-false (b .«max_rounds») (s .pass .rounds) e))
           (omega (arith, h .freed, x .few))
 
   pub round-agree
-      : managedPages b m + sum (tables b) m ≡ total m → (s : Store) (k : Book) → Agree b m s k → Agree b m (reclaimRound b s .store) (roundOf b (total m) k)
+      : managedPages b m + sum (tables b) m ≡ total m → (s : Store) (k : Book) → Agree b m s k → Agree b m (reclaimRound b s .store) (roundOf b k)
   unfolding reclaimRound
   round-agree sums s k h = rw (sym (low-same b m sums s k h)) (go (shouldReclaim b (s .counters)))
     where
       go
           : (t : Bool)
-          → Agree b m (cond t (afterRound b (s .pass) (reclaimUpTo b (b .perRound) s)) (endPass s (s .pass)) .store) (cond t (freeUpTo b (b .perRound) k) k)
-      go true = after-agree s k (reclaimUpTo b (b .perRound) s) h (freeUpTo b (b .perRound) k) (sweeps b m (b .perRound) s k h)
+          → Agree b m (cond t (afterRound b (s .pass) (reclaimUpTo b (b .«per_round») s)) (endPass s (s .pass)) .store) (cond t (freeUpTo b (b .«per_round») k) k)
+      go true = after-agree s k (reclaimUpTo b (b .«per_round») s) h (freeUpTo b (b .«per_round») k) (sweeps b m (b .«per_round») s k h)
       go false = end-agree s k (s .pass) h

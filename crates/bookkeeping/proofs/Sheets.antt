@@ -1,89 +1,24 @@
 -- What a call that the sheet lets pass may count on: of a grant, that a frame of its level or above is listed; of a call on frames, that each is held and that
 -- its range stays inside. A reader should take from here that no accepted call is without what it names.
-use Prim.Native.Nat.{ℕ, _+_, _/_, _≤_}
+use Prim.Native.Nat.{_+_, _/_, _≤_}
 use native.Mathlib.Omega.{arith}
-use mathlib.Core.Bool.{Bool, true, false, not, cond, _&&_, _||_}
-use mathlib.Core.List.{List, [], _∷_, _++_}
-use mathlib.Core.Option.{none}
+use mathlib.Core.Bool.{Bool, true, false, not, cond, _&&_}
+use mathlib.Core.List.{List, _∷_, _++_}
 use mathlib.Core.Path.{_≡_, refl}
 use lib.Dec.{leb, ltb}
 use lib.ListN.{length}
 use borrow.Author.Tests.{ltb-false, le-leb, not-false}
+use Rattle.definition.proofs.Passing.{Passed}
+use Rattle.definition.proofs.Tests.{any-head}
 use Rattle.definition.specs.Board.{Board}
 use Rattle.definition.specs.Basics.{any}
 use Rattle.definition.specs.Frame.{size}
 use Rattle.definition.specs.Allocator.{isListed}
-use Rattle.definition.specs.Refusal.{Test, orLater, lowest}
 use Rattle.definition.specs.Store.{Store}
 use Rattle.definition.specs.Contents.{frameBytes}
 use Rattle.definition.specs.Tracker.{startsFrame, isHeld}
-use Rattle.definition.specs.Calls.{
-  Layout,
-  Range,
-  Names,
-  badLayout,
-  noLevel,
-  bytesOfLevel,
-  levelFrom,
-  findLevel,
-  wants,
-  outside,
-  leavesFrame,
-  leavesRegion,
-  sheet,
-}
+use Rattle.definition.specs.Calls.{Layout, Range, Names, noLevel, bytesOfLevel, levelFrom, findLevel, wants, mine, outside, leavesFrame, leavesRegion}
 use Rattle.bookkeeping.proofs.Invariant.{At, at-of, or-false}
-
--- no line of the sheet is met
-pub lowest-none : (t : Test) (ts : List Test) → lowest (t ∷ ts) ≡ none → (t .met ≡ false) × (lowest ts ≡ none)
-unfolding lowest
-lowest-none t ts e = go (t .met) refl e
-  where
-    go : (u : Bool) → t .met ≡ u → orLater (record { refusal = t .refusal; met = u }) (lowest ts) ≡ none → (t .met ≡ false) × (lowest ts ≡ none)
-    go true x y = absurd (let z : _≡_ {A = ℕ} 0 1 = cc in omega arith)
-    go false x y = (x, y)
-
-pub record Passed (b : Board) (s : Store) (n : Names) : Type 0 where
-  pub layout : any badLayout (n .layouts) ≡ false
-  pub level : any (noLevel b) (n .layouts) ≡ false
-  pub frame : any (λ y. wants b s y && not (y .flags .«wait_ok»)) (n .layouts) ≡ false
-  pub wait : any (λ y. wants b s y && y .flags .«wait_ok») (n .layouts) ≡ false
-  pub inside : any (outside b s) (n .frames ++ n .places) ≡ false
-  pub starts : any (λ r. not (startsFrame b s (r .address))) (n .frames) ≡ false
-  pub held : any (λ r. not (isHeld b s (r .address))) (n .frames) ≡ false
-  pub ends : (any (leavesFrame b s) (n .frames) || any (leavesRegion b s) (n .places)) ≡ false
-  pub pager : any (ltb (s .counters .«pager_outstanding»)) (n .returned) ≡ false
-  pub queue : any (λ (a : ℕ). leb (s .room) (length (s .queue))) (n .queued) ≡ false
-
-pub passed : (b : Board) (s : Store) (n : Names) → lowest (sheet b s n) ≡ none → Passed b s n
-unfolding sheet
-passed b s n e =
-    let a = lowest-none _ _ e in
-    let c = lowest-none _ _ (a .1) in
-    let d = lowest-none _ _ (c .1) in
-    let f = lowest-none _ _ (d .1) in
-    let g = lowest-none _ _ (f .1) in
-    let h = lowest-none _ _ (g .1) in
-    let i = lowest-none _ _ (h .1) in
-    let j = lowest-none _ _ (i .1) in
-    let k = lowest-none _ _ (j .1) in
-    let l = lowest-none _ _ (k .1) in
-    record {
-      layout = a .0;
-      level = c .0;
-      frame = d .0;
-      wait = f .0;
-      inside = g .0;
-      starts = h .0;
-      held = i .0;
-      ends = j .0;
-      pager = k .0;
-      queue = l .0;
-    }
-
-pub any-head : {A : Type 0} (test : A → Bool) (x : A) (xs : List A) → any test (x ∷ xs) ≡ false → test x ≡ false
-unfolding any
-any-head test x xs e = or-false (test x) (any test xs) e .0
 
 -- ---- the first frame that a call names
 
@@ -121,7 +56,7 @@ level-low b y e =
 -- a grant that passes: its level, and that a frame of it or above is listed
 pub record Grantable (b : Board) (s : Store) (y : Layout) : Type 0 where
   pub low : findLevel b y ≤ 2
-  pub listed : isListed (findLevel b y) (s .allocator .regions) ≡ true
+  pub listed : isListed (mine s) (findLevel b y) (s .allocator .regions) ≡ true
 
 unwanted : (t w : Bool) → (t && not w) ≡ false → (t && w) ≡ false → t ≡ false
 unwanted true true i j = j

@@ -10,8 +10,11 @@ use mathlib.Core.Path.{_≡_, refl, sym, ap, subst}
 use lib.Dec.{leb}
 use lib.ListN.{length, length-append}
 use borrow.Author.Tests.{eq-eqb, leb-false}
+use Rattle.definition.proofs.Boards.{page-positive}
+use Rattle.definition.proofs.Passing.{Passed, passed}
+use Rattle.definition.proofs.Tests.{any-head}
 use Rattle.definition.specs.declared.Refusal.{Refusal}
-use Rattle.definition.specs.Board.{Board}
+use Rattle.definition.specs.Board.{Board, Fit}
 use Rattle.definition.specs.Basics.{sum}
 use Rattle.definition.specs.Allocator.{AllocationRegion, total}
 use Rattle.definition.specs.Boot.{managedPages}
@@ -42,6 +45,7 @@ use Rattle.definition.specs.Calls.{
   names,
   bytesOfLevel,
   findLevel,
+  mine,
   sheet,
   Outcome,
   done,
@@ -50,16 +54,18 @@ use Rattle.definition.specs.Calls.{
   unlessRefused,
   step,
 }
-use Rattle.definition.specs.Book.{Held, Book, withHeld, replace, noteAnswer}
+use Rattle.definition.specs.Book.{Held, Book, withHeld, withWaiting, replace, noteAnswer}
 use Rattle.bookkeeping.specs.Blocks.{tables}
 use Rattle.bookkeeping.specs.Claim.{State, next, after}
+use Rattle.bookkeeping.specs.Good.{Placed}
 use Rattle.bookkeeping.proofs.Wants.{finds}
-use Rattle.bookkeeping.proofs.Invariant.{Agree, managed-home}
+use Rattle.bookkeeping.proofs.Invariant.{Agree, Holds, managed-home}
+use Rattle.bookkeeping.proofs.Accepts.{placed-sums}
 use Rattle.bookkeeping.proofs.Frees.{free-agree}
 use Rattle.bookkeeping.proofs.Grants.{Handed, split-agree, grant-handed}
 use Rattle.bookkeeping.proofs.Writes.{zero-agree, dirty-agree, fill-agree, bytes-agree, copy-agree, pcopy-agree}
 use Rattle.bookkeeping.proofs.Rounds.{round-agree}
-use Rattle.bookkeeping.proofs.Sheets.{Passed, passed, any-head, named, Grantable, grantable}
+use Rattle.bookkeeping.proofs.Sheets.{named, Grantable, grantable}
 
 -- ---- what a grant that found a page answers
 
@@ -81,28 +87,28 @@ then-is t (some q) p e = let d : q ≡ p = cc in rw d
 module _ (b : Board) (pos : 0 < b .page) (m : List AllocationRegion) (sums : managedPages b m + sum (tables b) m ≡ total m) (s : Store) (k : Book)
     (h : Agree b m s k) where
   abbrev pub Keeps : Call → Outcome → Type 0
-  Keeps c o = Agree b m (o .store) (noteAnswer b (total m) k c (o .answer))
+  Keeps c o = Agree b m (o .store) (noteAnswer b k c (o .answer))
 
   module _ (y : Layout) (g : Grantable b s y) where
     granted
         : (p : ℕ)
-        × ((tryAllocFrame b (findLevel b y) (y .flags) s .page ≡ some p)
-        × Handed b m (tryAllocFrame b (findLevel b y) (y .flags) s .store) k p (findLevel b y) (y .flags .kernel))
+        × ((tryAllocFrame b (mine s) (findLevel b y) (y .flags) s .page ≡ some p)
+        × Handed b m (tryAllocFrame b (mine s) (findLevel b y) (y .flags) s .store) k p (findLevel b y) (y .flags .kernel))
     granted =
-        let f = finds (findLevel b y) (y .flags .zeroed) (s .allocator) (g .low) (g .listed) in
-        let x = grant-handed b pos m s k h (findLevel b y) (y .flags) (g .low) (f .0) (f .1) in (f .0, x)
+        let f = finds (mine s) (findLevel b y) (y .flags .zeroed) (s .allocator) (g .low) (g .listed) in
+        let x = grant-handed b pos m s k h (mine s) (findLevel b y) (y .flags) (g .low) (f .0) (f .1) in (f .0, x)
 
-    alloc-agree : Keeps (Alloc y) (hands b (findLevel b y) (tryAllocFrame b (findLevel b y) (y .flags) s))
+    alloc-agree : Keeps (Alloc y) (hands b (findLevel b y) (tryAllocFrame b (mine s) (findLevel b y) (y .flags) s))
     alloc-agree =
-        let t = tryAllocFrame b (findLevel b y) (y .flags) s in
+        let t = tryAllocFrame b (mine s) (findLevel b y) (y .flags) s in
         let p = granted .0 in
         subst (λ o. Keeps (Alloc y) o) (sym (hands-is b (findLevel b y) (t .store) (t .page) p (granted .1 .0)))
         (rw (mul-div-cancel-left p pos) (granted .1 .1 .agree))
 
-    take-agree : Keeps (Take y) (hands b (findLevel b y) (tryAllocSplitFrames b (findLevel b y) (y .flags) s))
+    take-agree : Keeps (Take y) (hands b (findLevel b y) (tryAllocSplitFrames b (mine s) (findLevel b y) (y .flags) s))
     unfolding tryAllocSplitFrames replace
     take-agree =
-        let t = tryAllocFrame b (findLevel b y) (y .flags) s in
+        let t = tryAllocFrame b (mine s) (findLevel b y) (y .flags) s in
         let p = granted .0 in
         let x = granted .1 .1 in
         let w : Held = record { page = p; level = findLevel b y; kernel = y .flags .kernel } in
@@ -112,11 +118,12 @@ module _ (b : Board) (pos : 0 < b .page) (m : List AllocationRegion) (sums : man
 
   queue-agree
       : (a : ℕ) → leb (s .room) (length (s .queue)) ≡ false
-      → Agree b m (withQueue s (s .queue ++ (a ∷ []))) (record { held = k .held; queue = k .queue ++ (a ∷ []) })
+      → Agree b m (withQueue s (s .queue ++ (a ∷ []))) (withWaiting k (k .queue ++ (a ∷ [])))
   queue-agree a e =
       record {
         sound = h .sound;
         counted = h .counted;
+        regions = h .regions;
         queue = ap (λ q. q ++ (a ∷ [])) (h .queue);
         room = simp length-append (omega (arith, leb-false (s .room) (length (s .queue)) e));
         rounds = h .rounds;
@@ -134,6 +141,7 @@ module _ (b : Board) (pos : 0 < b .page) (m : List AllocationRegion) (sums : man
           total = h .counted .total;
           waiting = h .counted .waiting;
         };
+        regions = h .regions;
         queue = h .queue;
         room = h .room;
         rounds = h .rounds;
@@ -184,9 +192,15 @@ module _ (b : Board) (pos : 0 < b .page) (m : List AllocationRegion) (sums : man
 
 -- ---- every list of calls
 
-pub always
-    : (b : Board) → 0 < b .page → (m : List AllocationRegion) → managedPages b m + sum (tables b) m ≡ total m → (x : State) (cs : List Call)
-    → Agree b m (x .store) (x .book) → Agree b m (after b (total m) x cs .store) (after b (total m) x cs .book)
-unfolding after next
-always b pos m sums x [] h = h
-always b pos m sums x (c ∷ cs) h = always b pos m sums (next b (total m) x c) cs (step-agree b pos m sums (x .store) (x .book) h c)
+module _ {b : Board} (fit : Fit b) where
+  pub step-holds : (s : Store) (k : Book) (c : Call) → Holds b s k → Holds b (step b s c .store) (noteAnswer b k c (step b s c .answer))
+  step-holds s k c h =
+      let m = k .regions in
+      let x = step-agree b (page-positive fit) m (placed-sums b m (h .placed .asBoot)) s k (h .agree) c in
+      let e = sym (x .regions) in
+      record { agree = subst (λ rs. Agree b rs (step b s c .store) (noteAnswer b k c (step b s c .answer))) e x; placed = subst (λ rs. Placed b rs) e (h .placed) }
+
+  pub always : (x : State) (cs : List Call) → Holds b (x .store) (x .book) → Holds b (after b x cs .store) (after b x cs .book)
+  unfolding after next
+  always x [] h = h
+  always x (c ∷ cs) h = always (next b x c) cs (step-holds (x .store) (x .book) c h)

@@ -3,7 +3,7 @@
 use Prim.Native.Nat.{ℕ, _+_, _-_, _*_, _≤_, _<_}
 use native.Mathlib.Omega.{arith}
 use mathlib.Core.Bool.{Bool, true, false, cond, _&&_, false≢true}
-use mathlib.Core.List.{List, []}
+use mathlib.Core.List.{List}
 use mathlib.Core.Option.{some}
 use mathlib.Core.Path.{_≡_, refl, _∙_}
 use lib.Dec.{eqb}
@@ -45,6 +45,7 @@ module _ (b : Board) (pos : 0 < b .page) (m : List AllocationRegion) (s : Store)
           clean = λ p f e y q o. z q (h .sound .clean p f e y q o);
         };
         counted = h .counted;
+        regions = h .regions;
         queue = h .queue;
         room = h .room;
         rounds = h .rounds;
@@ -60,6 +61,7 @@ module _ (b : Board) (pos : 0 < b .page) (m : List AllocationRegion) (s : Store)
         record {
           sound = put-back p f (withZeroed z f) (h .sound) e j refl refl (aside-change mem (withZeroed z) (aside p f (h .sound) e j) refl j out inn);
           counted = h .counted;
+          regions = h .regions;
           queue = h .queue;
           room = h .room;
           rounds = h .rounds;

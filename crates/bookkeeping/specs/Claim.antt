@@ -12,11 +12,11 @@ use Rattle.definition.specs.declared.Refusal.the-variants.{NoFrame, MustWait}
 use Rattle.definition.specs.Board.{Board}
 use Rattle.definition.specs.Basics.{sum, bit}
 use Rattle.definition.specs.Frame.{levels}
-use Rattle.definition.specs.Allocator.{total, isManaged, doAlloc}
+use Rattle.definition.specs.Allocator.{isManaged, doAlloc}
 use Rattle.definition.specs.Boot.{managedPages, keptRegions, boot}
 use Rattle.definition.specs.Refusal.{lowest}
 use Rattle.definition.specs.Store.{Memory, Store}
-use Rattle.definition.specs.Calls.{Layout, Call, Alloc, Take, Answer, Refused, Done, names, badLayout, noLevel, bytesOfLevel, findLevel, sheet, step}
+use Rattle.definition.specs.Calls.{Layout, Call, Alloc, Take, Answer, Refused, Done, names, badLayout, noLevel, bytesOfLevel, findLevel, mine, sheet, step}
 use Rattle.definition.specs.Book.{Book, emptyBook, noteAnswer}
 use Rattle.bookkeeping.specs.Blocks.{Block, All, listed, holding, pagesOf, pagesWithKernel, pagesWithout, covers, tables}
 
@@ -26,20 +26,20 @@ pub record State : Type 0 where
   pub store : Store
   pub book : Book
 
--- the store takes the step, and the book notes the answer; the map's kept regions have so many pages
-unfoldable pub next : Board → ℕ → State → Call → State
-next b pages x c = record { store = step b (x .store) c .store; book = noteAnswer b pages (x .book) c (step b (x .store) c .answer) }
+-- the store takes the step, and the book notes the answer
+unfoldable pub next : Board → State → Call → State
+next b x c = record { store = step b (x .store) c .store; book = noteAnswer b (x .book) c (step b (x .store) c .answer) }
 
-unfoldable pub after : Board → ℕ → State → List Call → State
-after b pages x [] = x
-after b pages x (c ∷ cs) = after b pages (next b pages x c) cs
+unfoldable pub after : Board → State → List Call → State
+after b x [] = x
+after b x (c ∷ cs) = after b (next b x c) cs
 
--- the store of a boot, and the empty book
+-- the store of a boot, and the book that holds nothing, of the regions that the map keeps
 abbrev pub booted : Board → List MemoryRegion → Memory → ℕ → State
-booted b map memory room = record { store = boot b map memory room; book = emptyBook }
+booted b map memory room = record { store = boot b map memory room; book = emptyBook (keptRegions b map) }
 
 abbrev pub afterCalls : Board → List MemoryRegion → Memory → ℕ → List Call → State
-afterCalls b map memory room calls = after b (total (keptRegions b map)) (booted b map memory room) calls
+afterCalls b map memory room calls = after b (booted b map memory room) calls
 
 -- ---- after it
 
@@ -66,17 +66,17 @@ bytesOf b x = b .page * pagesOf x
 abbrev pub Zero : Board → Memory → Block → Type 0
 Zero b memory x = (a : ℕ) → covers (a / b .page) x ≡ 1 → memory a ≡ 0
 
-pub record Bookkeeping (b : Board) (map : List MemoryRegion) (s : Store) (k : Book) : Type 0 where
+pub record Bookkeeping (b : Board) (s : Store) (k : Book) : Type 0 where
   -- "the listed and held frames are disjoint"
   pub disjoint : Disjoint (frames s k)
   -- "aligned to their size"
   pub aligned : All Aligned (frames s k)
-  -- "cover each managed page of the map": exactly one of them has it; and none has any other page
-  pub covered : (q : ℕ) → sum (covers q) (frames s k) ≡ bit (isManaged b (keptRegions b map) q)
+  -- "cover each managed page of the map", the regions that the book has: exactly one of them has it; and none has any other page
+  pub covered : (q : ℕ) → sum (covers q) (frames s k) ≡ bit (isManaged b (k .regions) q)
   -- "and add up to its managed bytes"
-  pub adds : sum (bytesOf b) (frames s k) ≡ b .page * managedPages b (keptRegions b map)
+  pub adds : sum (bytesOf b) (frames s k) ≡ b .page * managedPages b (k .regions)
   -- "Idle pages are then listed plus table pages"
-  pub idle : s .counters .idle ≡ sum pagesOf (listed (s .allocator .regions)) + sum (tables b) (keptRegions b map)
+  pub idle : s .counters .idle ≡ sum pagesOf (listed (s .allocator .regions)) + sum (tables b) (k .regions)
   -- "kernel and page counts are the held pages granted with KERNEL and without"
   pub kernelPages : s .counters .«kernel_used» ≡ sum pagesWithKernel (holding (k .held))
   pub pageData : s .counters .«page_data» ≡ sum pagesWithout (holding (k .held))
@@ -95,14 +95,14 @@ Asks c y = (c ≡ Alloc y) ⊎ (c ≡ Take y)
 abbrev pub Wanting : Answer → Type 0
 Wanting y = (y ≡ Refused NoFrame) ⊎ (y ≡ Refused MustWait)
 
--- "no listed frame of the asked level or above"
+-- "no listed frame of the asked level or above", of those that the grant may take
 abbrev pub NoneFrom : ℕ → Store → Type 0
-NoneFrom l s = All (λ x. x .level < l) (listed (s .allocator .regions))
+NoneFrom l s = All (λ x. mine s (x .page) ≡ true → x .level < l) (listed (s .allocator .regions))
 
 -- "a grant gives the frame that 01 picks": the page is the one that the search finds
 pub record Picked (b : Board) (s : Store) (y : Layout) (answer : Answer) : Type 0 where
   pub page : ℕ
-  pub found : doAlloc (findLevel b y) (y .flags .zeroed) (s .allocator) .page ≡ some page
+  pub found : doAlloc (mine s) (findLevel b y) (y .flags .zeroed) (s .allocator) .page ≡ some page
   pub given : answer ≡ Done (b .page * page) (bytesOfLevel b (findLevel b y))
 
 pub record Answered (b : Board) (s : Store) (c : Call) : Type 0 where
@@ -117,11 +117,13 @@ pub record Answered (b : Board) (s : Store) (c : Call) : Type 0 where
 -- ---- the claim
 
 -- each call of the list is answered so
-pub data Along (b : Board) (pages : ℕ) : State → List Call → Type 0 where
-  along-none : {x : State} → Along b pages x []
-  along-more : {x : State} {c : Call} {cs : List Call} → Answered b (x .store) c → Along b pages (next b pages x c) cs → Along b pages x (c ∷ cs)
+pub data Along (b : Board) : State → List Call → Type 0 where
+  along-none : {x : State} → Along b x []
+  along-more : {x : State} {c : Call} {cs : List Call} → Answered b (x .store) c → Along b (next b x c) cs → Along b x (c ∷ cs)
 
 -- of a boot with a map, bytes that the memory has and room in the queue, and a list of calls
 pub record Claim (b : Board) (map : List MemoryRegion) (bytes : Memory) (room : ℕ) (calls : List Call) : Type 0 where
-  pub afterwards : Bookkeeping b map (afterCalls b map bytes room calls .store) (afterCalls b map bytes room calls .book)
-  pub along : Along b (total (keptRegions b map)) (booted b map bytes room) calls
+  -- "each managed page of the map": the book's regions, of which `Bookkeeping` speaks, are those that boot keeps of the map
+  pub regions : afterCalls b map bytes room calls .book .regions ≡ keptRegions b map
+  pub afterwards : Bookkeeping b (afterCalls b map bytes room calls .store) (afterCalls b map bytes room calls .book)
+  pub along : Along b (booted b map bytes room) calls

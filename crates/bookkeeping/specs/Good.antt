@@ -26,12 +26,16 @@ pub record AsBoot (b : Board) (r : AllocationRegion) : Type 0 where
   pub tables : tables b r < r .pages
   pub near : b .page * end b r ≤ highestAddress
 
+-- regions that a store may have
+pub record Placed (b : Board) (rs : List AllocationRegion) : Type 0 where
+  pub few : length rs ≤ mostRows
+  pub asBoot : All (AsBoot b) rs
+  pub apart : overlap b rs ≡ false
+  pub pages : total rs ≤ mostPages
+
 -- what the boot's sheet lets pass, with loans of so many bytes
 pub record Accepted (b : Board) (map : List MemoryRegion) (records memory : ℕ) : Type 0 where
-  pub few : length (keptRegions b map) ≤ mostRows
-  pub asBoot : All (AsBoot b) (keptRegions b map)
-  pub apart : overlap b (keptRegions b map) ≡ false
-  pub pages : total (keptRegions b map) ≤ mostPages
+  pub placed : Placed b (keptRegions b map)
   pub recordsLong : recordSize * managedPages b (keptRegions b map) ≤ records
   pub memoryLong : b .page * managedPages b (keptRegions b map) ≤ memory
 
@@ -108,13 +112,10 @@ heldPages kernel (some f) = cond (f .allocated && same (f .kernel) kernel) (size
 abbrev pub headPages : Board → Frames → Bool → AllocationRegion → ℕ
 headPages b fs kernel r = sum (λ h. heldPages kernel (fs h)) (heads b fs r)
 
-pub record Good (b : Board) (map : List MemoryRegion) (s : Store) (k : Book) : Type 0 where
-  -- the regions start where boot put them, and have the pages that it gave them
-  pub regions : emptied (s .allocator .regions) ≡ keptRegions b map
-  pub asBoot : All (AsBoot b) (s .allocator .regions)
-  pub few : length (s .allocator .regions) ≤ mostRows
-  pub apart : overlap b (s .allocator .regions) ≡ false
-  pub pages : total (s .allocator .regions) ≤ mostPages
+pub record Good (b : Board) (s : Store) (k : Book) : Type 0 where
+  -- the regions start where the book has them, and have the pages that it gives them
+  pub regions : emptied (s .allocator .regions) ≡ k .regions
+  pub placed : Placed b (s .allocator .regions)
   -- their frames tile them up to their ends, and there are no others
   pub tiled : All (λ r. All (IsHead b (s .allocator .frames) r) (heads b (s .allocator .frames) r)) (s .allocator .regions)
   pub ended : All (λ r. sum (λ h. sizeOf (s .allocator .frames h)) (heads b (s .allocator .frames) r) ≡ managed b r) (s .allocator .regions)
@@ -133,5 +134,5 @@ pub record Good (b : Board) (map : List MemoryRegion) (s : Store) (k : Book) : T
   -- the queue is the book's and has its place, and the pass is within its bounds
   pub queue : s .queue ≡ k .queue
   pub room : length (s .queue) ≤ s .room
-  pub rounds : s .pass .rounds ≤ b .maxRounds + 1
-  pub freed : s .pass .freed ≤ b .perRound * s .pass .rounds
+  pub rounds : s .pass .rounds ≤ b .«max_rounds» + 1
+  pub freed : s .pass .freed ≤ b .«per_round» * s .pass .rounds

@@ -16,7 +16,7 @@ use Rattle.definition.specs.declared.MemoryRegion.{MemoryRegion}
 use Rattle.definition.proofs.MemoryRegion as M
 use Rattle.definition.specs.declared.MemoryRegionKind.the-variants.{UsableRam}
 use Rattle.definition.specs.declared.Row.{Row}
-use Rattle.definition.specs.Board.{standard}
+use Rattle.definition.specs.Board.{Board}
 use Rattle.definition.specs.Basics.{all, any}
 use Rattle.definition.specs.Allocator.{AllocationRegion, emptyRegion, isKept, total}
 use Rattle.definition.specs.Boot.{endsFar, keptRegions, mostPages, overlap}
@@ -25,6 +25,7 @@ use Rattle.definition.specs.Torn.{bareRegions, isNoRow, regionsOf, rowAsBoot, r
 use Rattle.definition.proofs.Tests.{and-left, and-right, and-true}
 use Rattle.audit.proofs.Booted.{booted}
 use Rattle.audit.proofs.Onward.{drop-at}
+use Rattle.definition.specs.Board.{Fit}
 use Rattle.world.specs.Stands.{rowAt}
 use Rattle.boot.specs.declared.Kept.{Kept}
 use Rattle.boot.specs.Booting.{Keeps, RowsKept, Mapped, eight, keptRow, keptRows, rowOf}
@@ -60,24 +61,25 @@ noEntry = record { start = record { 0 = 0 }; length = 0; kind = UsableRam }
 
 -- ---- one entry more
 
-kept-append : (xs ys : List MemoryRegion) → keptRows (xs ++ ys) ≡ keptRows xs ++ keptRows ys
-unfolding keptRows
-kept-append [] ys = refl
-kept-append (m ∷ xs) ys = go (isKept standard m) (kept-append xs ys)
-  where
-    go : (t : Bool) → keptRows (xs ++ ys) ≡ keptRows xs ++ keptRows ys
-        → cond t (keptRow m ∷ keptRows (xs ++ ys)) (keptRows (xs ++ ys)) ≡ cond t (keptRow m ∷ keptRows xs) (keptRows xs) ++ keptRows ys
-    go true e = ap (λ (l : List Row). keptRow m ∷ l) e
-    go false e = e
+module _ (board : Board) where
+  kept-append : (xs ys : List MemoryRegion) → keptRows board (xs ++ ys) ≡ keptRows board xs ++ keptRows board ys
+  unfolding keptRows
+  kept-append [] ys = refl
+  kept-append (m ∷ xs) ys = go (isKept board m) (kept-append xs ys)
+    where
+      go : (t : Bool) → keptRows board (xs ++ ys) ≡ keptRows board xs ++ keptRows board ys
+          → cond t (keptRow board m ∷ keptRows board (xs ++ ys)) (keptRows board (xs ++ ys)) ≡ cond t (keptRow board m ∷ keptRows board xs) (keptRows board xs) ++ keptRows board ys
+      go true e = ap (λ (l : List Row). keptRow board m ∷ l) e
+      go false e = e
 
-pub kept-most : (ms : List MemoryRegion) → length (keptRows ms) ≤ length ms
-unfolding keptRows
-kept-most [] = omega arith
-kept-most (m ∷ ms) = go (isKept standard m) (kept-most ms)
-  where
-    go : (t : Bool) → length (keptRows ms) ≤ length ms → length (cond t (keptRow m ∷ keptRows ms) (keptRows ms)) ≤ length (m ∷ ms)
-    go true h = omega arith
-    go false h = omega arith
+  pub kept-most : (ms : List MemoryRegion) → length (keptRows board ms) ≤ length ms
+  unfolding keptRows
+  kept-most [] = omega arith
+  kept-most (m ∷ ms) = go (isKept board m) (kept-most ms)
+    where
+      go : (t : Bool) → length (keptRows board ms) ≤ length ms → length (cond t (keptRow board m ∷ keptRows board ms) (keptRows board ms)) ≤ length (m ∷ ms)
+      go true h = omega arith
+      go false h = omega arith
 
 -- the place behind the rows is unused
 eight-split : (xs : List Row) → length xs < 8 → eight xs ≡ xs ++ (noRow ∷ replicate (8 - suc (length xs)) noRow)
@@ -97,11 +99,12 @@ eight-next xs r h =
     ∙ sym (append-snoc xs r (replicate (8 - suc (length xs)) noRow))
     ∙ ap (λ (k : ℕ). (xs ++ (r ∷ [])) ++ replicate (8 - k) noRow) (sym e)
 
--- the rows after one entry more, which stands for a row or an unused one
-pub record Grown (xs : List MemoryRegion) (m : MemoryRegion) : Type 0 where
-  pub rows : set (eight (keptRows xs)) (length (keptRows xs)) (rowOf m) ≡ eight (keptRows (xs ++ (m ∷ [])))
-  pub more : (rowOf m .pages ≡ 0 → ⊥) → length (keptRows (xs ++ (m ∷ []))) ≡ length (keptRows xs) + 1
-  pub same : rowOf m .pages ≡ 0 → length (keptRows (xs ++ (m ∷ []))) ≡ length (keptRows xs)
+module _ (board : Board) where
+  -- the rows after one entry more, which stands for a row or an unused one
+  pub record Grown (xs : List MemoryRegion) (m : MemoryRegion) : Type 0 where
+    pub rows : set (eight (keptRows board xs)) (length (keptRows board xs)) (rowOf board m) ≡ eight (keptRows board (xs ++ (m ∷ [])))
+    pub more : (rowOf board m .pages ≡ 0 → ⊥) → length (keptRows board (xs ++ (m ∷ []))) ≡ length (keptRows board xs) + 1
+    pub same : rowOf board m .pages ≡ 0 → length (keptRows board (xs ++ (m ∷ []))) ≡ length (keptRows board xs)
 
 module _ (xs : List Row) (k : Row) where
   grown-rows : length xs < 8 → (t : Bool) → set (eight xs) (length xs) (cond t k noRow) ≡ eight (xs ++ cond t (k ∷ []) [])
@@ -116,36 +119,37 @@ module _ (xs : List Row) (k : Row) where
   grown-same true e = absurd (false≢true (sym e))
   grown-same false e = ap length (append-nil xs)
 
-pub grown : (xs : List MemoryRegion) (m : MemoryRegion) → length (keptRows xs) < 8 → Grown xs m
-unfolding keptRows
-grown xs m h =
-    record {
-      rows = grown-rows (keptRows xs) (keptRow m) h (isKept standard m) ∙ ap eight (sym (kept-append xs (m ∷ [])));
-      more = λ p. ap length (kept-append xs (m ∷ [])) ∙ grown-more (keptRows xs) (keptRow m) (isKept standard m) (paged-kept m p);
-      same = λ p. ap length (kept-append xs (m ∷ [])) ∙ grown-same (keptRows xs) (keptRow m) (isKept standard m) (unpaged-not m p);
-    }
+module _ {board : Board} where
+  pub grown : (xs : List MemoryRegion) (m : MemoryRegion) → length (keptRows board xs) < 8 → Grown board xs m
+  unfolding keptRows
+  grown xs m h =
+      record {
+        rows = grown-rows (keptRows board xs) (keptRow board m) h (isKept board m) ∙ ap eight (sym (kept-append board xs (m ∷ [])));
+        more = λ p. ap length (kept-append board xs (m ∷ [])) ∙ grown-more (keptRows board xs) (keptRow board m) (isKept board m) (paged-kept board m p);
+        same = λ p. ap length (kept-append board xs (m ∷ [])) ∙ grown-same (keptRows board xs) (keptRow board m) (isKept board m) (unpaged-not board m p);
+      }
 
 -- a turn of the loop, at the entry i
 module _
-    (map : List MemoryRegion) (i : ℕ) (d : MemoryRegion) {rows : List Row} {used : ℕ} {r : Row} (h : i < length map) (few : i < 8)
-    (R : rows ≡ eight (keptRows (take i map))) (U : used ≡ length (keptRows (take i map))) (e : r ≡ rowOf (getD map i d))
+    (board : Board) (map : List MemoryRegion) (i : ℕ) (d : MemoryRegion) {rows : List Row} {used : ℕ} {r : Row} (h : i < length map) (few : i < 8)
+    (R : rows ≡ eight (keptRows board (take i map))) (U : used ≡ length (keptRows board (take i map))) (e : r ≡ rowOf board (getD map i d))
   where
     next : take (i + 1) map ≡ take i map ++ (getD map i d ∷ [])
     next = rw add-one (take-suc map i d h)
 
     pub turn-fits : used < 8
-    turn-fits = omega (arith, kept-most (take i map), length-take-le i map (omega arith))
+    turn-fits = omega (arith, kept-most board (take i map), length-take-le i map (omega arith))
 
-    G : Grown (take i map) (getD map i d)
+    G : Grown board (take i map) (getD map i d)
     G = grown (take i map) (getD map i d) (omega (arith, turn-fits))
 
-    pub turn-rows : set rows used r ≡ eight (keptRows (take (i + 1) map))
+    pub turn-rows : set rows used r ≡ eight (keptRows board (take (i + 1) map))
     turn-rows = rw (R, U, e, next) (G .rows)
 
-    pub turn-more : (r .pages ≡ 0 → ⊥) → used + 1 ≡ length (keptRows (take (i + 1) map))
+    pub turn-more : (r .pages ≡ 0 → ⊥) → used + 1 ≡ length (keptRows board (take (i + 1) map))
     turn-more p = rw (U, next) (sym (G .more (subst (λ (x : Row). x .pages ≡ 0 → ⊥) e p)))
 
-    pub turn-same : r .pages ≡ 0 → used ≡ length (keptRows (take (i + 1) map))
+    pub turn-same : r .pages ≡ 0 → used ≡ length (keptRows board (take (i + 1) map))
     turn-same p = rw (U, next) (sym (G .same (subst (λ (x : Row). x .pages ≡ 0) e p)))
 
 any-none : {A : Type 0} (test : A → Bool) (d : A) (xs : List A) (i : ℕ) → any test xs ≡ false → i < length xs → test (getD xs i d) ≡ false
@@ -162,25 +166,26 @@ near-at map count i d e h k =
 
 -- ---- the rows as boot makes them
 
-pub all-booted : (ms : List MemoryRegion) → any endsFar ms ≡ false → all (rowAsBoot standard) (keptRows ms) ≡ true
-unfolding any all keptRows
-all-booted [] e = refl
-all-booted (m ∷ ms) e = go (isKept standard m) refl (all-booted ms (neither (endsFar m) _ e .1))
-  where
-    go : (t : Bool) → isKept standard m ≡ t → all (rowAsBoot standard) (keptRows ms) ≡ true
-        → all (rowAsBoot standard) (cond t (keptRow m ∷ keptRows ms) (keptRows ms)) ≡ true
-    go true k r = and-true (kept-booted m k (neither (endsFar m) _ e .0)) r
-    go false k r = r
+module _ {board : Board} (fit : Fit board) where
+  pub all-booted : (ms : List MemoryRegion) → any endsFar ms ≡ false → all (rowAsBoot board) (keptRows board ms) ≡ true
+  unfolding any all keptRows
+  all-booted [] e = refl
+  all-booted (m ∷ ms) e = go (isKept board m) refl (all-booted ms (neither (endsFar m) _ e .1))
+    where
+      go : (t : Bool) → isKept board m ≡ t → all (rowAsBoot board) (keptRows board ms) ≡ true
+          → all (rowAsBoot board) (cond t (keptRow board m ∷ keptRows board ms) (keptRows board ms)) ≡ true
+      go true k r = and-true (kept-booted fit m k (neither (endsFar m) _ e .0)) r
+      go false k r = r
 
-pub kept-regions : (ms : List MemoryRegion) → bareRegions standard (keptRows ms) ≡ keptRegions standard ms
-unfolding keptRows bareRegions keptRegions
-kept-regions [] = refl
-kept-regions (m ∷ ms) = go (isKept standard m) (kept-regions ms)
-  where
-    go : (t : Bool) → bareRegions standard (keptRows ms) ≡ keptRegions standard ms
-        → bareRegions standard (cond t (keptRow m ∷ keptRows ms) (keptRows ms)) ≡ cond t (emptyRegion standard m ∷ keptRegions standard ms) (keptRegions standard ms)
-    go true e = ap₂ (λ (r : AllocationRegion) (rs : List AllocationRegion). r ∷ rs) (kept-region m) e
-    go false e = e
+  pub kept-regions : (ms : List MemoryRegion) → bareRegions board (keptRows board ms) ≡ keptRegions board ms
+  unfolding keptRows bareRegions keptRegions
+  kept-regions [] = refl
+  kept-regions (m ∷ ms) = go (isKept board m) (kept-regions ms)
+    where
+      go : (t : Bool) → bareRegions board (keptRows board ms) ≡ keptRegions board ms
+          → bareRegions board (cond t (keptRow board m ∷ keptRows board ms) (keptRows board ms)) ≡ cond t (emptyRegion board m ∷ keptRegions board ms) (keptRegions board ms)
+      go true e = ap₂ (λ (r : AllocationRegion) (rs : List AllocationRegion). r ∷ rs) (kept-region fit m) e
+      go false e = e
 
 -- ---- rows with pages, and unused ones to eight
 
@@ -212,21 +217,22 @@ unfolding all
 none-left zero = refl
 none-left (suc k) = none-left k
 
-pub booted-paged : (xs : List Row) → all (rowAsBoot standard) xs ≡ true → Paged xs
-unfolding all
-booted-paged [] e j h z = absurd (omega arith)
-booted-paged (x ∷ xs) e zero h z = omega (arith, booted x (and-left _ _ e) .more)
-booted-paged (x ∷ xs) e (suc j) h z = booted-paged xs (and-right (rowAsBoot standard x) _ e) j (omega arith) z
+module _ (board : Board) where
+  pub booted-paged : (xs : List Row) → all (rowAsBoot board) xs ≡ true → Paged xs
+  unfolding all
+  booted-paged [] e j h z = absurd (omega arith)
+  booted-paged (x ∷ xs) e zero h z = omega (arith, booted board x (and-left _ _ e) .more)
+  booted-paged (x ∷ xs) e (suc j) h z = booted-paged xs (and-right (rowAsBoot board x) _ e) j (omega arith) z
 
--- each has six lists
-six-kept : (ms : List MemoryRegion) → all sixLists (keptRows ms) ≡ true
-unfolding all keptRows
-six-kept [] = refl
-six-kept (m ∷ ms) = go (isKept standard m) (six-kept ms)
-  where
-    go : (t : Bool) → all sixLists (keptRows ms) ≡ true → all sixLists (cond t (keptRow m ∷ keptRows ms) (keptRows ms)) ≡ true
-    go true e = e
-    go false e = e
+  -- each has six lists
+  six-kept : (ms : List MemoryRegion) → all sixLists (keptRows board ms) ≡ true
+  unfolding all keptRows
+  six-kept [] = refl
+  six-kept (m ∷ ms) = go (isKept board m) (six-kept ms)
+    where
+      go : (t : Bool) → all sixLists (keptRows board ms) ≡ true → all sixLists (cond t (keptRow board m ∷ keptRows board ms) (keptRows board ms)) ≡ true
+      go true e = e
+      go false e = e
 
 six-before : (xs : List Row) (k : ℕ) → all sixLists xs ≡ true → all sixLists (xs ++ replicate k noRow) ≡ true
 unfolding all
@@ -236,37 +242,37 @@ six-before (x ∷ xs) k e = and-true {a = sixLists x} (and-left (sixLists x) _ e
 
 -- ---- what the loop leaves
 
-module _ (ms : List MemoryRegion) (near : any endsFar ms ≡ false) where
-  pub kept-paged : Paged (keptRows ms)
-  kept-paged = booted-paged (keptRows ms) (all-booted ms near)
+module _ {board : Board} (fit : Fit board) (ms : List MemoryRegion) (near : any endsFar ms ≡ false) where
+  pub kept-paged : Paged (keptRows board ms)
+  kept-paged = booted-paged board (keptRows board ms) (all-booted fit ms near)
 
-  pub kept-used : usedRows (eight (keptRows ms)) ≡ keptRows ms
-  kept-used = used-eight (keptRows ms) kept-paged
+  pub kept-used : usedRows (eight (keptRows board ms)) ≡ keptRows board ms
+  kept-used = used-eight (keptRows board ms) kept-paged
 
-  pub kept-spans : regionsOf standard (eight (keptRows ms)) ≡ keptRegions standard ms
-  kept-spans = ap (bareRegions standard) kept-used ∙ kept-regions ms
+  pub kept-spans : regionsOf board (eight (keptRows board ms)) ≡ keptRegions board ms
+  kept-spans = ap (bareRegions board) kept-used ∙ kept-regions fit ms
 
-  kept-six : all sixLists (eight (keptRows ms)) ≡ true
+  kept-six : all sixLists (eight (keptRows board ms)) ≡ true
   unfolding eight
-  kept-six = six-before (keptRows ms) (8 - length (keptRows ms)) (six-kept ms)
+  kept-six = six-before (keptRows board ms) (8 - length (keptRows board ms)) (six-kept board ms)
 
   -- rows such as the sheet of a later call asks for
   pub kept-whole
-      : length ms ≤ 8 → overlap standard (keptRegions standard ms) ≡ false → total (keptRegions standard ms) ≤ mostPages
-      → rowsAsBoot standard (eight (keptRows ms)) ≡ true
+      : length ms ≤ 8 → overlap board (keptRegions board ms) ≡ false → total (keptRegions board ms) ≤ mostPages
+      → rowsAsBoot board (eight (keptRows board ms)) ≡ true
   unfolding rowsAsBoot
   kept-whole few o h =
-      rw (kept-spans, kept-used, eight-unused (keptRows ms))
-      (and-true (eq-eqb (length (eight (keptRows ms))) 8 (eight-long (keptRows ms) (omega (arith, kept-most ms))))
+      rw (kept-spans, kept-used, eight-unused (keptRows board ms))
+      (and-true (eq-eqb (length (eight (keptRows board ms))) 8 (eight-long (keptRows board ms) (omega (arith, kept-most board ms))))
       (and-true kept-six
-      (and-true (none-left (8 - length (keptRows ms)))
-      (and-true (all-booted ms near) (and-true (ap not o) (le-leb (total (keptRegions standard ms)) mostPages h))))))
+      (and-true (none-left (8 - length (keptRows board ms)))
+      (and-true (all-booted fit ms near) (and-true (ap not o) (le-leb (total (keptRegions board ms)) mostPages h))))))
 
-  pub kept-ready : (r : Kept) → Keeps ms r → RowsKept (r .rows) (r .used)
+  pub kept-ready : (r : Kept) → Keeps board ms r → RowsKept board (r .rows) (r .used)
   kept-ready r K =
       rw (K .rows, K .used)
       (record {
         many = ap length (sym kept-used);
-        booted = rw kept-used (all-booted ms near);
-        unused = rw (eight-unused (keptRows ms)) (none-left (8 - length (keptRows ms)));
+        booted = rw kept-used (all-booted fit ms near);
+        unused = rw (eight-unused (keptRows board ms)) (none-left (8 - length (keptRows board ms)));
       })

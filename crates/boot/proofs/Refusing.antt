@@ -7,13 +7,14 @@ use native.Mathlib.Omega.{arith}
 use lib.ListN.{length, take}
 use lib.Seq.{length-take-le, take-all}
 use Rattle.definition.specs.declared.MemoryRegion.{MemoryRegion}
-use Rattle.definition.specs.Board.{standard}
+use Rattle.definition.specs.Board.{Board}
 use Rattle.definition.specs.Basics.{any}
 use Rattle.definition.specs.Boot.{bootSheet, endsFar, keptRegions}
 use Rattle.definition.specs.Refusal.{lowest}
 use Rattle.definition.specs.Torn.{regionsOf, rowsAsBoot}
 use Rattle.definition.specs.World.{usedRows}
 use Rattle.audit.proofs.Regions.{loans-fit}
+use Rattle.definition.specs.Board.{Fit}
 use Rattle.world.specs.Refusals.{numberIf}
 use Rattle.boot.specs.declared.Kept.{Kept}
 use Rattle.boot.specs.Booting.{Keeps, Mapped, Ready, RefusedAs, RowsKept, eight, keptRows, rowsRefusal}
@@ -21,34 +22,38 @@ use Rattle.boot.proofs.KeptRows.{kept-ready, kept-spans, kept-used, kep
 use Rattle.boot.proofs.Sheet.{Admitted, admitted, far-map, long-map, near-map}
 
 module _ {map : List MemoryRegion} {count : ℕ} {ms : List MemoryRegion} (M : Mapped map count ms) where
-  pub given-long : (records memory : ℕ) → 8 < count → _≡_ {A = ℕ} 1 (numberIf (lowest (bootSheet standard ms records memory)))
-  given-long records memory h = sym (long-map ms records memory (omega (arith, M .long)))
+  pub given-long
+      : (board : Board) (records memory : ℕ) → 8 < count → _≡_ {A = ℕ} 1 (numberIf (lowest (bootSheet board ms records memory)))
+  given-long board records memory h = sym (long-map board ms records memory (omega (arith, M .long)))
 
   module _ (few : count ≤ 8) where
     all-given : take count map ≡ ms
     all-given = mapped-all map count ms M few
 
-    pub given-far : (records memory : ℕ) → any endsFar (take count map) ≡ true → _≡_ {A = ℕ} 2 (numberIf (lowest (bootSheet standard ms records memory)))
-    given-far records memory f = sym (far-map ms records memory (omega (arith, M .long)) (ap (any endsFar) (sym all-given) ∙ f))
+    pub given-far
+        : (board : Board) (records memory : ℕ) → any endsFar (take count map) ≡ true
+        → _≡_ {A = ℕ} 2 (numberIf (lowest (bootSheet board ms records memory)))
+    given-far board records memory f = sym (far-map board ms records memory (omega (arith, M .long)) (ap (any endsFar) (sym all-given) ∙ f))
 
-    module _ (near : any endsFar (take count map) ≡ false) (r : Kept) (K : Keeps (take count map) r) where
-      pub given-near : any endsFar ms ≡ false
-      given-near = ap (any endsFar) (sym all-given) ∙ near
+    pub given-near : any endsFar (take count map) ≡ false → any endsFar ms ≡ false
+    given-near near = ap (any endsFar) (sym all-given) ∙ near
 
-      pub given-kept : r .rows ≡ eight (keptRows ms)
-      given-kept = K .rows ∙ ap (λ (l : List MemoryRegion). eight (keptRows l)) all-given
+    module _ {board : Board} (r : Kept) (K : Keeps board (take count map) r) where
+      pub given-kept : r .rows ≡ eight (keptRows board ms)
+      given-kept = K .rows ∙ ap (λ (l : List MemoryRegion). eight (keptRows board l)) all-given
 
-      pub given-spans : regionsOf standard (r .rows) ≡ keptRegions standard ms
-      given-spans = rw given-kept (kept-spans ms given-near)
+      module _ (fit : Fit board) (near : any endsFar (take count map) ≡ false) where
+        pub given-spans : regionsOf board (r .rows) ≡ keptRegions board ms
+        given-spans = rw given-kept (kept-spans fit ms (given-near near))
 
-      pub given-rows : (records memory : ℕ) → rowsRefusal (r .rows) records memory ≡ numberIf (lowest (bootSheet standard ms records memory))
-      given-rows records memory = sym (near-map ms records memory (omega (arith, M .long)) given-near (r .rows) given-spans)
+        pub given-rows : (records memory : ℕ) → rowsRefusal board (r .rows) records memory ≡ numberIf (lowest (bootSheet board ms records memory))
+        given-rows records memory = sym (near-map board ms records memory (omega (arith, M .long)) (given-near near) (r .rows) given-spans)
 
 -- ---- a map that is not refused
 
 module _
-    (map : List MemoryRegion) (count records memory n : ℕ) (eight-long : length map ≡ 8) (E : RefusedAs map count records memory n) (z : n ≡ 0)
-    (k : Kept) (K : Keeps (take count map) k)
+    {board : Board} (fit : Fit board) (map : List MemoryRegion) (count records memory n : ℕ) (eight-long : length map ≡ 8) (E : RefusedAs board map count records memory n) (z : n ≡ 0)
+    (k : Kept) (K : Keeps board (take count map) k)
   where
     itself : Mapped map count (take count map)
     itself =
@@ -56,30 +61,30 @@ module _
         let l = length-take-le count map (omega arith) in
         record { long = l; front = take-all 8 (take count map) (omega (arith, l)) }
 
-    pub accepted-admitted : Admitted (k .rows) records memory
+    pub accepted-admitted : Admitted board (k .rows) records memory
     accepted-admitted =
-        admitted (k .rows) records memory
-        (given-rows itself (E .few z) (E .near z) k K records memory ∙ sym (E .number (take count map) itself) ∙ z)
+        admitted board (k .rows) records memory
+        (given-rows itself (E .few z) k K fit (E .near z) records memory ∙ sym (E .number (take count map) itself) ∙ z)
 
-    pub accepted-kept : RowsKept (k .rows) (k .used)
-    accepted-kept = kept-ready (take count map) (E .near z) k K
+    pub accepted-kept : RowsKept board (k .rows) (k .used)
+    accepted-kept = kept-ready fit (take count map) (E .near z) k K
 
-    pub accepted-boot : rowsAsBoot standard (k .rows) ≡ true
+    pub accepted-boot : rowsAsBoot board (k .rows) ≡ true
     accepted-boot =
         let A = accepted-admitted in
-        let e = given-spans itself (E .few z) (E .near z) k K in
+        let e = given-spans itself (E .few z) k K fit (E .near z) in
         rw (K .rows)
-        (kept-whole (take count map) (E .near z) (omega (arith, itself .long, E .few z)) (rw e at (A .apart)) (rw e at (A .most)))
+        (kept-whole fit (take count map) (E .near z) (omega (arith, itself .long, E .few z)) (rw e at (A .apart)) (rw e at (A .most)))
 
-    pub accepted-ready : Ready (k .rows) (k .used) (records / 16)
+    pub accepted-ready : Ready board (k .rows) (k .used) (records / 16)
     accepted-ready =
         let A = accepted-admitted in
-        let used : usedRows (k .rows) ≡ keptRows (take count map) = rw (K .rows) (kept-used (take count map) (E .near z)) in
+        let used : usedRows (k .rows) ≡ keptRows board (take count map) = rw (K .rows) (kept-used fit (take count map) (E .near z)) in
         record {
           shape = K .rows ∙ ap eight (sym used);
           many = accepted-kept .many;
           booted = accepted-kept .booted;
           apart = A .apart;
           most = A .most;
-          fits = loans-fit (k .rows) records memory (A .long);
+          fits = loans-fit board (k .rows) records memory (A .long);
         }

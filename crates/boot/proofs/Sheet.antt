@@ -14,7 +14,7 @@ use denote.Array.{Array}
 use Rattle.definition.specs.declared.MemoryRegion.{MemoryRegion}
 use Rattle.definition.specs.declared.Row.{Row}
 use Rattle.definition.specs.declared.Refusal.the-variants.{LongMap, FarAddress, Overlap, TooManyPages, ShortLoan}
-use Rattle.definition.specs.Board.{standard}
+use Rattle.definition.specs.Board.{Board}
 use Rattle.definition.specs.Basics.{any}
 use Rattle.definition.specs.Allocator.{total}
 use Rattle.definition.specs.Boot.{bootSheet, endsFar, keptRegions, managedPages, mostPages, mostRows, overlap, recordSize}
@@ -47,74 +47,74 @@ short-loans r m a b = go (decLe a r) (decLe b m)
     go (yes h) (no k) = rw (le-ltb r a h, le-leb a r h, lt-ltb m b (omega arith), lt-leb b m (omega arith)) refl
     go (no h) k = rw (lt-ltb r a (omega arith), lt-leb a r (omega arith)) refl
 
-module _ (ms : List MemoryRegion) (records memory : ℕ) where
+module _ (board : Board) (ms : List MemoryRegion) (records memory : ℕ) where
   abbrev short : Bool
-  short = ltb records (recordSize * managedPages standard (keptRegions standard ms)) || ltb memory (standard .page * managedPages standard (keptRegions standard ms))
+  short = ltb records (recordSize * managedPages board (keptRegions board ms)) || ltb memory (board .page * managedPages board (keptRegions board ms))
 
   by-tests
-      : numberIf (lowest (bootSheet standard ms records memory))
+      : numberIf (lowest (bootSheet board ms records memory))
       ≡ cond (ltb mostRows (length ms)) 1
-      (cond (any endsFar ms) 2 (cond (overlap standard (keptRegions standard ms)) 3 (cond (ltb mostPages (total (keptRegions standard ms))) 4 (cond short 5 0))))
+      (cond (any endsFar ms) 2 (cond (overlap board (keptRegions board ms)) 3 (cond (ltb mostPages (total (keptRegions board ms))) 4 (cond short 5 0))))
   by-tests =
-      sheet-number (ltb mostRows (length ms)) (any endsFar ms) (overlap standard (keptRegions standard ms)) (ltb mostPages (total (keptRegions standard ms))) short
+      sheet-number (ltb mostRows (length ms)) (any endsFar ms) (overlap board (keptRegions board ms)) (ltb mostPages (total (keptRegions board ms))) short
 
-  pub long-map : 8 < length ms → numberIf (lowest (bootSheet standard ms records memory)) ≡ 1
+  pub long-map : 8 < length ms → numberIf (lowest (bootSheet board ms records memory)) ≡ 1
   long-map h = by-tests ∙ rw (lt-ltb 8 (length ms) h) refl
 
   module _ (few : length ms ≤ 8) where
-    pub far-map : any endsFar ms ≡ true → numberIf (lowest (bootSheet standard ms records memory)) ≡ 2
+    pub far-map : any endsFar ms ≡ true → numberIf (lowest (bootSheet board ms records memory)) ≡ 2
     far-map f = by-tests ∙ rw (le-ltb 8 (length ms) few, f) refl
 
     pub near-map
-        : any endsFar ms ≡ false → (rows : List Row) → regionsOf standard rows ≡ keptRegions standard ms
-        → numberIf (lowest (bootSheet standard ms records memory)) ≡ rowsRefusal rows records memory
+        : any endsFar ms ≡ false → (rows : List Row) → regionsOf board rows ≡ keptRegions board ms
+        → numberIf (lowest (bootSheet board ms records memory)) ≡ rowsRefusal board rows records memory
     unfolding rowsRefusal loansLong
     near-map f rows e =
         by-tests
         ∙ rw (le-ltb 8 (length ms) few, f, e)
         (ap
-        (λ (x : ℕ). cond (overlap standard (keptRegions standard ms)) 3 (cond (ltb mostPages (total (keptRegions standard ms))) 4 x))
-        (short-loans records memory (recordSize * managedPages standard (keptRegions standard ms)) (standard .page * managedPages standard (keptRegions standard ms))))
+        (λ (x : ℕ). cond (overlap board (keptRegions board ms)) 3 (cond (ltb mostPages (total (keptRegions board ms))) 4 x))
+        (short-loans records memory (recordSize * managedPages board (keptRegions board ms)) (board .page * managedPages board (keptRegions board ms))))
 
 -- ---- the rows' own refusals
 
-module _ (rows : List Row) (records memory : ℕ) where
-  pub overlapping : overlap standard (regionsOf standard rows) ≡ true → _≡_ {A = ℕ} 3 (rowsRefusal rows records memory)
+module _ (board : Board) (rows : List Row) (records memory : ℕ) where
+  pub overlapping : overlap board (regionsOf board rows) ≡ true → _≡_ {A = ℕ} 3 (rowsRefusal board rows records memory)
   unfolding rowsRefusal
   overlapping o = rw o refl
 
-  module _ (o : overlap standard (regionsOf standard rows) ≡ false) where
-    pub too-many : mostPages < total (regionsOf standard rows) → _≡_ {A = ℕ} 4 (rowsRefusal rows records memory)
+  module _ (o : overlap board (regionsOf board rows) ≡ false) where
+    pub too-many : mostPages < total (regionsOf board rows) → _≡_ {A = ℕ} 4 (rowsRefusal board rows records memory)
     unfolding rowsRefusal
-    too-many h = rw (o, lt-ltb mostPages (total (regionsOf standard rows)) h) refl
+    too-many h = rw (o, lt-ltb mostPages (total (regionsOf board rows)) h) refl
 
     pub by-loans
-        : total (regionsOf standard rows) ≤ mostPages → (t : Bool) → loansLong standard rows records memory ≡ t
-        → _≡_ {A = ℕ} (cond t 0 5) (rowsRefusal rows records memory)
+        : total (regionsOf board rows) ≤ mostPages → (t : Bool) → loansLong board rows records memory ≡ t
+        → _≡_ {A = ℕ} (cond t 0 5) (rowsRefusal board rows records memory)
     unfolding rowsRefusal
-    by-loans h t e = rw (o, le-ltb mostPages (total (regionsOf standard rows)) h, e) refl
+    by-loans h t e = rw (o, le-ltb mostPages (total (regionsOf board rows)) h, e) refl
 
   -- what is so where none is met
   pub record Admitted : Type 0 where
-    pub apart : overlap standard (regionsOf standard rows) ≡ false
-    pub most : total (regionsOf standard rows) ≤ mostPages
-    pub long : loansLong standard rows records memory ≡ true
+    pub apart : overlap board (regionsOf board rows) ≡ false
+    pub most : total (regionsOf board rows) ≤ mostPages
+    pub long : loansLong board rows records memory ≡ true
 
-  pub admitted : rowsRefusal rows records memory ≡ 0 → Admitted
+  pub admitted : rowsRefusal board rows records memory ≡ 0 → Admitted
   unfolding rowsRefusal
   admitted z =
-      go (overlap standard (regionsOf standard rows)) (ltb mostPages (total (regionsOf standard rows))) (loansLong standard rows records memory) refl refl refl z
+      go (overlap board (regionsOf board rows)) (ltb mostPages (total (regionsOf board rows))) (loansLong board rows records memory) refl refl refl z
     where
-      go : (a b c : Bool) → overlap standard (regionsOf standard rows) ≡ a → ltb mostPages (total (regionsOf standard rows)) ≡ b
-          → loansLong standard rows records memory ≡ c → _≡_ {A = ℕ} (cond a 3 (cond b 4 (cond c 0 5))) 0 → Admitted
+      go : (a b c : Bool) → overlap board (regionsOf board rows) ≡ a → ltb mostPages (total (regionsOf board rows)) ≡ b
+          → loansLong board rows records memory ≡ c → _≡_ {A = ℕ} (cond a 3 (cond b 4 (cond c 0 5))) 0 → Admitted
       go true b c x y u z = absurd (omega arith)
       go false true c x y u z = absurd (omega arith)
       go false false false x y u z = absurd (omega arith)
-      go false false true x y u z = record { apart = x; most = ltb-false mostPages (total (regionsOf standard rows)) y; long = u }
+      go false false true x y u z = record { apart = x; most = ltb-false mostPages (total (regionsOf board rows)) y; long = u }
 
   pub ready-rows
-      : (used : ℕ) (vs : List Val) → Is (Array R.the-row 8) rows vs → RowsKept rows used → overlap standard (regionsOf standard rows) ≡ false
-      → total (regionsOf standard rows) ≤ mostPages → rowsAsBoot standard rows ≡ true
+      : (used : ℕ) (vs : List Val) → Is (Array R.the-row 8) rows vs → RowsKept board rows used → overlap board (regionsOf board rows) ≡ false
+      → total (regionsOf board rows) ≤ mostPages → rowsAsBoot board rows ≡ true
   ready-rows used vs p K o h =
-      rows-shaped rows used vs (K .many) p
-      ∙ and-true (K .unused) (and-true (K .booted) (and-true (ap not o) (le-leb (total (regionsOf standard rows)) mostPages h)))
+      rows-shaped board rows used vs (K .many) p
+      ∙ and-true (K .unused) (and-true (K .booted) (and-true (ap not o) (le-leb (total (regionsOf board rows)) mostPages h)))

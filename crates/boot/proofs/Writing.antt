@@ -6,6 +6,7 @@ use mathlib.Core.Path.{_≡_, refl, sym, ap, _∙_, subst}
 use native.Mathlib.Omega.{arith}
 use borrow.Author.Tests.{eqb-true}
 use lib.ListN.{length, drop, replicate}
+use Rattle.definition.specs.Board.{Board}
 use Rattle.definition.specs.declared.MemoryRegion.{MemoryRegion}
 use Rattle.definition.specs.declared.Pass.{Pass}
 use Rattle.definition.specs.declared.Record.{Record}
@@ -26,9 +27,10 @@ use Rattle.boot.proofs.Laying.{laid-many}
 pub over-refused : (ws : List ℕ) (n : ℕ) → (n ≡ 0 → ⊥) → BootsOver ws ws (refusedBy n)
 over-refused ws n d = record { refused = λ h. refl; written = λ h. absurd (d (eqb-true n 0 h)) }
 
--- the rows that are laid out are as many as were kept
-pub laid-used : {f g : ℕ → Record} {rows laid : List Row} {n : ℕ} → Lays f rows g n laid → length (usedRows laid) ≡ length (usedRows rows)
-laid-used {f} {g} {rows} Y = sym (stand-length (Y .stands)) ∙ laid-many (usedRows rows)
+module _ {board : Board} where
+  -- the rows that are laid out are as many as were kept
+  pub laid-used : {f g : ℕ → Record} {rows laid : List Row} {n : ℕ} → Lays board f rows g n laid → length (usedRows laid) ≡ length (usedRows rows)
+  laid-used {f} {g} {rows} Y = sym (stand-length (Y .stands)) ∙ laid-many board (usedRows rows)
 
 -- the count that is written is that of the rows in use, so that they are read again as they were laid out
 module _
@@ -54,11 +56,11 @@ module _
     state-written pages = rw (rows-back, queued-back, pass-back) refl
 
     pub boots-written
-        : {ms : List MemoryRegion} {w : World} {y : Answer} (pages : ℕ) (records memory queue : List ℕ)
-        → Boots ms w (worldOf (stateAtBoot laid pages) records memory queue) y
-        → Boots ms w (worldOf (stateWith (countersAtBoot pages) after) records memory queue) y
-    boots-written {ms} {w} {y} pages records memory queue b =
-        subst (λ (s : State). Boots ms w (worldOf s records memory queue) y) (sym (state-written pages)) b
+        : {board : Board} {ms : List MemoryRegion} {w : World} {y : Answer} (pages : ℕ) (records memory queue : List ℕ)
+        → Boots board ms w (worldOf (stateAtBoot laid pages) records memory queue) y
+        → Boots board ms w (worldOf (stateWith (countersAtBoot pages) after) records memory queue) y
+    boots-written {board} {ms} {w} {y} pages records memory queue b =
+        subst (λ (s : State). Boots board ms w (worldOf s records memory queue) y) (sym (state-written pages)) b
 
     pub over-done : (bytes : ℕ) → BootsOver ws after (record { number = 0; address = 0; bytes = bytes })
     over-done bytes =

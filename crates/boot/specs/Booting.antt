@@ -10,7 +10,7 @@ use lib.ListN.{length, take, drop, replicate}
 use Rattle.definition.specs.declared.MemoryRegion.{MemoryRegion}
 use Rattle.definition.specs.declared.Record.{Record}
 use Rattle.definition.specs.declared.Row.{Row}
-use Rattle.definition.specs.Board.{standard}
+use Rattle.definition.specs.Board.{Board}
 use Rattle.definition.specs.Basics.{all, any}
 use Rattle.definition.specs.Allocator.{PhysicalFrameAllocator, admitRegion, isKept, nrPages, startPage, total}
 use Rattle.definition.specs.Boot.{bootSheet, countersAtBoot, endsFar, managedPages, mostPages, overlap}
@@ -35,66 +35,69 @@ pub record Mapped (map : List MemoryRegion) (count : ℕ) (ms : List MemoryRegio
 
 -- ---- the rows that it keeps
 
--- the row of an entry that is kept, before its frames are laid out
-abbrev pub keptRow : MemoryRegion → Row
-keptRow m = emptyRow (record { 0 = startPage standard m * standard .page }) (nrPages standard m)
-
-abbrev pub rowOf : MemoryRegion → Row
-rowOf m = cond (isKept standard m) (keptRow m) noRow
-
-unfoldable pub keptRows : List MemoryRegion → List Row
-keptRows [] = []
-keptRows (m ∷ ms) = cond (isKept standard m) (keptRow m ∷ keptRows ms) (keptRows ms)
-
--- with unused ones to eight
+-- rows, with unused ones to eight
 unfoldable pub eight : List Row → List Row
 eight xs = xs ++ replicate (8 - length xs) noRow
 
-pub record Keeps (ms : List MemoryRegion) (r : Kept) : Type 0 where
-  pub rows : r .rows ≡ eight (keptRows ms)
-  pub used : r .used ≡ length (keptRows ms)
+module _ (board : Board) where
+  -- the row of an entry that is kept, before its frames are laid out
+  abbrev pub keptRow : MemoryRegion → Row
+  keptRow m = emptyRow (record { 0 = startPage board m * board .page }) (nrPages board m)
+
+  abbrev pub rowOf : MemoryRegion → Row
+  rowOf m = cond (isKept board m) (keptRow m) noRow
+
+  unfoldable pub keptRows : List MemoryRegion → List Row
+  keptRows [] = []
+  keptRows (m ∷ ms) = cond (isKept board m) (keptRow m ∷ keptRows ms) (keptRows ms)
+
+  pub record Keeps (ms : List MemoryRegion) (r : Kept) : Type 0 where
+    pub rows : r .rows ≡ eight (keptRows ms)
+    pub used : r .used ≡ length (keptRows ms)
 
 -- ---- the refusals by numbers
 
--- rows such as a map keeps
-pub record RowsKept (rows : List Row) (used : ℕ) : Type 0 where
-  pub many : used ≡ length (usedRows rows)
-  pub booted : all (rowAsBoot standard) (usedRows rows) ≡ true
-  pub unused : all isNoRow (drop used rows) ≡ true
+module _ (board : Board) where
+  -- rows such as a map keeps
+  pub record RowsKept (rows : List Row) (used : ℕ) : Type 0 where
+    pub many : used ≡ length (usedRows rows)
+    pub booted : all (rowAsBoot board) (usedRows rows) ≡ true
+    pub unused : all isNoRow (drop used rows) ≡ true
 
-unfoldable pub rowsRefusal : List Row → (records memory : ℕ) → ℕ
-rowsRefusal rows records memory =
-    cond (overlap standard (regionsOf standard rows)) 3
-    (cond (ltb mostPages (total (regionsOf standard rows))) 4 (cond (loansLong standard rows records memory) 0 5))
+  unfoldable pub rowsRefusal : List Row → (records memory : ℕ) → ℕ
+  rowsRefusal rows records memory =
+      cond (overlap board (regionsOf board rows)) 3
+      (cond (ltb mostPages (total (regionsOf board rows))) 4 (cond (loansLong board rows records memory) 0 5))
 
--- the sheet's number, whatever stands past the eighth entry; where there is none, every entry is in the array
-pub record RefusedAs (map : List MemoryRegion) (count records memory r : ℕ) : Type 0 where
-  pub number : (ms : List MemoryRegion) → Mapped map count ms → r ≡ numberIf (lowest (bootSheet standard ms records memory))
-  pub few : r ≡ 0 → count ≤ 8
-  pub near : r ≡ 0 → any endsFar (take count map) ≡ false
+  -- the sheet's number, whatever stands past the eighth entry; where there is none, every entry is in the array
+  pub record RefusedAs (map : List MemoryRegion) (count records memory r : ℕ) : Type 0 where
+    pub number : (ms : List MemoryRegion) → Mapped map count ms → r ≡ numberIf (lowest (bootSheet board ms records memory))
+    pub few : r ≡ 0 → count ≤ 8
+    pub near : r ≡ 0 → any endsFar (take count map) ≡ false
 
 -- ---- the layout
 
--- the allocator over the regions of so many rows, all free: each region's frames are laid out after those of the rows behind it
-unfoldable pub layRows : List Row → PhysicalFrameAllocator
-layRows [] = record { frames = λ p. none; regions = [] }
-layRows (row ∷ rows) = admitRegion standard (bareRegion standard row) (layRows rows)
+module _ (board : Board) where
+  -- the allocator over the regions of so many rows, all free: each region's frames are laid out after those of the rows behind it
+  unfoldable pub layRows : List Row → PhysicalFrameAllocator
+  layRows [] = record { frames = λ p. none; regions = [] }
+  layRows (row ∷ rows) = admitRegion board (bareRegion board row) (layRows rows)
 
--- rows that are not refused, with records of n pages
-pub record Ready (rows : List Row) (used n : ℕ) : Type 0 where
-  pub shape : rows ≡ eight (usedRows rows)
-  pub many : used ≡ length (usedRows rows)
-  pub booted : all (rowAsBoot standard) (usedRows rows) ≡ true
-  pub apart : overlap standard (regionsOf standard rows) ≡ false
-  pub most : total (regionsOf standard rows) ≤ mostPages
-  pub fits : managedPages standard (regionsOf standard rows) ≤ n
+  -- rows that are not refused, with records of n pages
+  pub record Ready (rows : List Row) (used n : ℕ) : Type 0 where
+    pub shape : rows ≡ eight (usedRows rows)
+    pub many : used ≡ length (usedRows rows)
+    pub booted : all (rowAsBoot board) (usedRows rows) ≡ true
+    pub apart : overlap board (regionsOf board rows) ≡ false
+    pub most : total (regionsOf board rows) ≤ mostPages
+    pub fits : managedPages board (regionsOf board rows) ≤ n
 
--- the records f became g, and the rows became r, which stand for the regions laid out; no record past the managed pages changed
-pub record Lays (f : ℕ → Record) (rows : List Row) (g : ℕ → Record) (n : ℕ) (r : List Row) : Type 0 where
-  pub eight : length r ≡ 8
-  pub unused : drop (length (usedRows r)) r ≡ replicate (8 - length (usedRows r)) noRow
-  pub stands : StandRows standard g n (layRows (usedRows rows) .frames) 0 (usedRows r) (layRows (usedRows rows) .regions)
-  pub outside : (q : ℕ) → managedPages standard (regionsOf standard rows) ≤ q → g q ≡ f q
+  -- the records f became g, and the rows became r, which stand for the regions laid out; no record past the managed pages changed
+  pub record Lays (f : ℕ → Record) (rows : List Row) (g : ℕ → Record) (n : ℕ) (r : List Row) : Type 0 where
+    pub eight : length r ≡ 8
+    pub unused : drop (length (usedRows r)) r ≡ replicate (8 - length (usedRows r)) noRow
+    pub stands : StandRows board g n (layRows (usedRows rows) .frames) 0 (usedRows r) (layRows (usedRows rows) .regions)
+    pub outside : (q : ℕ) → managedPages board (regionsOf board rows) ≤ q → g q ≡ f q
 
 -- ---- what a boot leaves and answers
 
@@ -102,13 +105,14 @@ pub record Lays (f : ℕ → Record) (rows : List Row) (g : ℕ → Record) (n :
 abbrev pub stateAtBoot : List Row → ℕ → State
 stateAtBoot rows pages = record { rows = rows; counters = countersAtBoot pages; queued = 0; pass = record { rounds = 0; freed = 0 } }
 
-pub record Boots (ms : List MemoryRegion) (w v : World) (y : Answer) : Type 0 where
-  pub world : bootCall standard ms w .world ≡ v
-  pub answer : told (bootCall standard ms w .answer) ≡ y
+module _ (board : Board) where
+  pub record Boots (ms : List MemoryRegion) (w v : World) (y : Answer) : Type 0 where
+    pub world : bootCall board ms w .world ≡ v
+    pub answer : told (bootCall board ms w .answer) ≡ y
 
--- whatever stands past the eighth entry of the map
-abbrev pub BootsAll : List MemoryRegion → ℕ → World → World → Answer → Type 0
-BootsAll map count w v y = (ms : List MemoryRegion) → length ms ≡ count → take 8 ms ≡ take count map → Boots ms w v y
+  -- whatever stands past the eighth entry of the map
+  abbrev pub BootsAll : List MemoryRegion → ℕ → World → World → Answer → Type 0
+  BootsAll map count w v y = (ms : List MemoryRegion) → length ms ≡ count → take 8 ms ≡ take count map → Boots ms w v y
 
 -- and of the words: a boot that is refused leaves them as they are; else they are written whole, from the version to the pass
 pub record BootsOver (ws vs : List ℕ) (y : Answer) : Type 0 where

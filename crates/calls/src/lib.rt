@@ -11,7 +11,7 @@ ghost use mathlib.Core.Path.{_≡_};
 ghost use Prim.Native.Nat.{_≤_, _%_};
 ghost use lib.ListN.{getD, length};
 ghost use Rattle.definition.specs.Script.{flagsOf, kindOf};
-ghost use Rattle.words.specs.Words.{Beside};
+ghost use Rattle.words.specs.Words.{boardIn, Beside};
 ghost use Rattle.exam.specs.Promise.{stateWith, worldOf, Leaves};
 ghost use Rattle.lines.specs.Reading.{callOf};
 
@@ -67,7 +67,7 @@ fn fill(
     n: [u64; 5],
 ) -> Answer
     requires { ⌜ 92 ≤ length (now words) ⌝ }
-    ensures { λ r. ⌜ Leaves (worldOf (stateWith counters (now (words .entry))) (now (records .entry)) (now (memory .entry)) (now (queue .entry))) (callOf (Ask.Fill) (λ i. getD n i 0)) (worldOf (stateWith counters (now (words .entry))) (now (records .exit)) (now (memory .exit)) (now (queue .entry))) r ⌝ }
+    ensures { λ r. ⌜ Leaves (boardIn (now (words .entry))) (worldOf (stateWith counters (now (words .entry))) (now (records .entry)) (now (memory .entry)) (now (queue .entry))) (callOf (Ask.Fill) (λ i. getD n i 0)) (worldOf (stateWith counters (now (words .entry))) (now (records .exit)) (now (memory .exit)) (now (queue .entry))) r ⌝ }
 {
     let byte = byte_of(n[3]);
     ranges::fill(
@@ -92,7 +92,7 @@ fn copy(
     n: [u64; 5],
 ) -> Answer
     requires { ⌜ 92 ≤ length (now words) ⌝ }
-    ensures { λ r. ⌜ Leaves (worldOf (stateWith counters (now (words .entry))) (now (records .entry)) (now (memory .entry)) (now (queue .entry))) (callOf (Ask.Copy) (λ i. getD n i 0)) (worldOf (stateWith counters (now (words .entry))) (now (records .exit)) (now (memory .exit)) (now (queue .entry))) r ⌝ }
+    ensures { λ r. ⌜ Leaves (boardIn (now (words .entry))) (worldOf (stateWith counters (now (words .entry))) (now (records .entry)) (now (memory .entry)) (now (queue .entry))) (callOf (Ask.Copy) (λ i. getD n i 0)) (worldOf (stateWith counters (now (words .entry))) (now (records .exit)) (now (memory .exit)) (now (queue .entry))) r ⌝ }
 {
     let to = PhysAddr(n[0]);
     let from = PhysAddr(n[2]);
@@ -119,7 +119,7 @@ fn pcopy(
     n: [u64; 5],
 ) -> Answer
     requires { ⌜ 92 ≤ length (now words) ⌝ }
-    ensures { λ r. ⌜ Leaves (worldOf (stateWith counters (now (words .entry))) (now (records .entry)) (now (memory .entry)) (now (queue .entry))) (callOf (Ask.Pcopy) (λ i. getD n i 0)) (worldOf (stateWith counters (now (words .entry))) (now (records .exit)) (now (memory .exit)) (now (queue .entry))) r ⌝ }
+    ensures { λ r. ⌜ Leaves (boardIn (now (words .entry))) (worldOf (stateWith counters (now (words .entry))) (now (records .entry)) (now (memory .entry)) (now (queue .entry))) (callOf (Ask.Pcopy) (λ i. getD n i 0)) (worldOf (stateWith counters (now (words .entry))) (now (records .exit)) (now (memory .exit)) (now (queue .entry))) r ⌝ }
 {
     let to = PhysAddr(n[0]);
     let from = PhysAddr(n[2]);
@@ -147,7 +147,7 @@ pub fn ask(
     n: [u64; 5],
 ) -> Outcome
     requires { ⌜ 92 ≤ length (now words) ⌝ }
-    ensures { λ r. ⌜ Leaves (worldOf (stateWith counters (now (words .entry))) (now (records .entry)) (now (memory .entry)) (now (queue .entry))) (callOf op (λ i. getD n i 0)) (worldOf (stateWith (r .counters) (now (words .exit))) (now (records .exit)) (now (memory .exit)) (now (queue .exit))) (r .answer) ⌝ }
+    ensures { λ r. ⌜ Leaves (boardIn (now (words .entry))) (worldOf (stateWith counters (now (words .entry))) (now (records .entry)) (now (memory .entry)) (now (queue .entry))) (callOf op (λ i. getD n i 0)) (worldOf (stateWith (r .counters) (now (words .exit))) (now (records .exit)) (now (memory .exit)) (now (queue .exit))) (r .answer) ⌝ }
     ensures { λ _. ⌜ Beside (now (words .entry)) (now (words .exit)) ⌝ }
 {
     let pa = PhysAddr(n[0]);

@@ -4,13 +4,13 @@ use mathlib.Core.List.{[]}
 use mathlib.Core.Path.{_≡_, refl, sym, ap, _∙_}
 use native.Mathlib.Omega.{arith}
 use lib.ListN.{take, drop}
-use Rattle.definition.specs.Board.{standard}
+use Rattle.definition.proofs.Bytes.{aligned-is}
+use Rattle.definition.specs.Board.{Board}
 use Rattle.definition.specs.Contents.{bytesAt}
 use Rattle.definition.specs.Refusal.{lowest}
 use Rattle.definition.specs.Calls.{Answer, Bytes, Call, Done, Read, Refused, Text, answerNumber, names, perform, sheet}
 use Rattle.definition.specs.World.{World, decode}
 use Rattle.definition.specs.Torn.{Left, call}
-use Rattle.world.specs.Fit.{standard-fit}
 use Rattle.world.proofs.Calling.{done-call, none-met}
 use Rattle.world.proofs.Refusing.{one-frame}
 use Rattle.world.proofs.RoundTrip.{round-trip}
@@ -45,65 +45,67 @@ refused-bytes (Done a n) d = absurd (d refl)
 refused-bytes (Text t) d = absurd (d refl)
 refused-bytes (Bytes t) d = absurd (d refl)
 
-module _ (w : World) (small : Small w) {a off len : ℕ} {r : Exam} (E : Examined w a off len r) where
-  abbrev answer : Answer
-  answer = call standard w (Read a off len) .answer
+module _ {board : Board} where
+  module _ (w : World) (small : Small w) {a off len : ℕ} {r : Exam} (E : Examined board w a off len r) where
+    abbrev answer : Answer
+    answer = call board w (Read a off len) .answer
 
-  -- ---- refused
+    -- ---- refused
 
-  left : (r .number ≡ 0 → ⊥) → Leaves w (Read a off len) w (refusedBy (r .number))
-  left d = examined-refused E (Read a off len) small (λ t. one-frame standard (decode standard w) a off len) d
+    left : (r .number ≡ 0 → ⊥) → Leaves board w (Read a off len) w (refusedBy (r .number))
+    left d = examined-refused E (Read a off len) small (λ t. one-frame board (decode board w) a off len) d
 
-  left-number : (r .number ≡ 0 → ⊥) → answerNumber answer ≡ r .number
-  left-number d = sym (told-number answer) ∙ ap (λ y. y .number) (left d .answer)
+    left-number : (r .number ≡ 0 → ⊥) → answerNumber answer ≡ r .number
+    left-number d = sym (told-number answer) ∙ ap (λ y. y .number) (left d .answer)
 
-  pub place-refused : (r .number ≡ 0 → ⊥) → Finds w (Read a off len) len (record { number = r .number; at = 0 })
-  place-refused d =
-      record {
-        numbers = record { world = left d .world; number = sym (left-number d) };
-        inside = λ z. absurd (d z);
-        bytes = λ z. absurd (d z);
-      }
-
-  -- ---- done
-
-  module _ (z : r .number ≡ 0) where
-    abbrev at : ℕ
-    at = 4096 * r .seen .spot .page + off
-
-    bytes-are : bytesAt (decode standard w .memory) (a + off) len ≡ take len (drop at (w .memory))
-    bytes-are =
-        let e : 4096 * (a / 4096) + off ≡ a + off = omega (arith, examined-edge E z) in
-        rw e at (held-read (examined-whole E z) (examined-held E z) (examined-number E z) off len (examined-range E z))
-
-    performed : perform standard (decode standard w) (Read a off len) ≡ record { store = decode standard w; answer = Bytes (take len (drop at (w .memory))) }
-    unfolding perform
-    performed = rw bytes-are refl
-
-    called : call standard w (Read a off len) ≡ record { world = w; answer = Bytes (take len (drop at (w .memory))) }
-    called =
-        done-call standard-fit w (Read a off len) (examined-sound E z) (record { store = decode standard w; answer = Bytes (take len (drop at (w .memory))) }) w
-        (none-met (lowest (sheet standard (decode standard w) (names (Read a off len)))) (one-frame standard (decode standard w) a off len ∙ examined-none E z))
-        performed (round-trip standard-fit w (examined-whole E z) small)
-
-    pub place-done : Finds w (Read a off len) len (record { number = 0; at = at })
-    place-done =
+    pub place-refused : (r .number ≡ 0 → ⊥) → Finds board w (Read a off len) len (record { number = r .number; at = 0 })
+    place-refused d =
         record {
-          numbers =
-              record { world = ap (λ (l : Left). l .world) called; number = sym (ap (λ (l : Left). answerNumber (l .answer)) called) };
-          inside = λ _. omega (arith, examined-ends E z);
-          bytes = λ _. sym (ap (λ (l : Left). bytesOf (l .answer)) called);
+          numbers = record { world = left d .world; number = sym (left-number d) };
+          inside = λ z. absurd (d z);
+          bytes = λ z. absurd (d z);
         }
+
+    -- ---- done
+
+    module _ (z : r .number ≡ 0) where
+      abbrev at : ℕ
+      at = board .page * r .seen .spot .page + off
+
+      bytes-are : bytesAt (decode board w .memory) (a + off) len ≡ take len (drop at (w .memory))
+      bytes-are =
+          let e : board .page * (a / board .page) + off ≡ a + off = omega (arith, aligned-is (board .page) a (examined-edge E z)) in
+          rw e at (held-read (examined-whole E z) (examined-held E z) (examined-number E z) off len (examined-range E z))
+
+      performed : perform board (decode board w) (Read a off len) ≡ record { store = decode board w; answer = Bytes (take len (drop at (w .memory))) }
+      unfolding perform
+      performed = rw bytes-are refl
+
+      called : call board w (Read a off len) ≡ record { world = w; answer = Bytes (take len (drop at (w .memory))) }
+      called =
+          done-call board w (Read a off len) (examined-sound E z) (record { store = decode board w; answer = Bytes (take len (drop at (w .memory))) }) w
+          (none-met (lowest (sheet board (decode board w) (names (Read a off len)))) (one-frame board (decode board w) a off len ∙ examined-none E z))
+          performed (round-trip w (examined-whole E z) small)
+
+      pub place-done : Finds board w (Read a off len) len (record { number = 0; at = at })
+      place-done =
+          record {
+            numbers =
+                record { world = ap (λ (l : Left). l .world) called; number = sym (ap (λ (l : Left). answerNumber (l .answer)) called) };
+            inside = λ _. omega (arith, examined-ends E z);
+            bytes = λ _. sym (ap (λ (l : Left). bytesOf (l .answer)) called);
+          }
 
 -- ---- the part that is lent
 
-module _ {w : World} {c : Call} {n : ℕ} {r : Place} (F : Finds w c n r) where
-  pub lends-none : (r .number ≡ 0 → ⊥) → Lends w c []
-  lends-none d =
-      record {
-        world = F .numbers .world;
-        bytes = sym (refused-bytes (call standard w c .answer) (λ e. d (F .numbers .number ∙ e)));
-      }
+module _ {board : Board} where
+  module _ {w : World} {c : Call} {n : ℕ} {r : Place} (F : Finds board w c n r) where
+    pub lends-none : (r .number ≡ 0 → ⊥) → Lends board w c []
+    lends-none d =
+        record {
+          world = F .numbers .world;
+          bytes = sym (refused-bytes (call board w c .answer) (λ e. d (F .numbers .number ∙ e)));
+        }
 
-  pub lends-part : r .number ≡ 0 → Lends w c (take n (drop (r .at) (w .memory)))
-  lends-part z = record { world = F .numbers .world; bytes = F .bytes z }
+    pub lends-part : r .number ≡ 0 → Lends board w c (take n (drop (r .at) (w .memory)))
+    lends-part z = record { world = F .numbers .world; bytes = F .bytes z }

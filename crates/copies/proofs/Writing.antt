@@ -6,7 +6,7 @@ use mathlib.Core.List.{List}
 use mathlib.Core.Path.{_≡_, refl, sym, ap, _∙_}
 use lib.Dec.{eqb}
 use lib.ListN.{length, take, drop, replicate}
-use Rattle.definition.specs.Board.{standard}
+use Rattle.definition.specs.Board.{Board}
 use Rattle.definition.specs.Store.{Memory}
 use Rattle.definition.specs.Contents.{bytesAt, copyContentsFromPhysaddr, filled, moved, setNotZero, zeroRange}
 use Rattle.definition.specs.World.{World, decode, encode, recordAt}
@@ -21,46 +21,47 @@ use Rattle.ranges.proofs.Held.{held-bytes, held-filled, held-written}
 use Rattle.ranges.proofs.Marking.{Remarked, marked-left, relent, written-left}
 use Rattle.copies.specs.Copies.{Spans}
 
-module _
-    {w : World} {r : Seen} {off len : ℕ} (S : Sound standard w) (P : Spans (recordAt (w .records)) (w .rows) (length (w .memory)) r off len)
-  where
-    abbrev number : ℕ
-    number = numberAt standard (w .rows) (r .spot)
+module _ {board : Board} where
+  module _
+      {w : World} {r : Seen} {off len : ℕ} (S : Sound board w) (P : Spans board (recordAt (w .records)) (w .rows) (length (w .memory)) r off len)
+    where
+      abbrev number : ℕ
+      number = numberAt board (w .rows) (r .spot)
 
-    abbrev at : ℕ
-    at = 4096 * r .spot .page + off
+      abbrev at : ℕ
+      at = board .page * r .spot .page + off
 
-    abbrev memory : Memory
-    memory = decode standard w .memory
+      abbrev memory : Memory
+      memory = decode board w .memory
 
-    -- the range is zeroed; where it is not the whole frame, the mark stays
-    pub zero-part
-        : Small w → (eqb off 0 && eqb len (bytesIf r)) ≡ false
-        → encode standard (zeroRange standard (decode standard w) number off len) w ≡ relent w (w .records) (withBytes (w .memory) at (replicate len 0))
-    unfolding zeroRange
-    zero-part small e =
-        rw (held-bytes S (P .held) refl, e)
-        (written-left S small (filled (4096 * number + off) len 0 memory) (withBytes (w .memory) at (replicate len 0))
-        (held-filled S (P .held) refl off len (P .range) 0))
-
-    module _ {kernel : Bool} {bs : List ℕ} where
-      pub zero-whole
-          : Remarked w r true kernel bs → (eqb off 0 && eqb len (bytesIf r)) ≡ true
-          → encode standard (zeroRange standard (decode standard w) number off len) w ≡ relent w bs (withBytes (w .memory) at (replicate len 0))
+      -- the range is zeroed; where it is not the whole frame, the mark stays
+      pub zero-part
+          : Small w → (eqb off 0 && eqb len (bytesIf board r)) ≡ false
+          → encode board (zeroRange board (decode board w) number off len) w ≡ relent w (w .records) (withBytes (w .memory) at (replicate len 0))
       unfolding zeroRange
-      zero-whole M e =
+      zero-part small e =
           rw (held-bytes S (P .held) refl, e)
-          (marked-left S (P .held) refl M (filled (4096 * number + off) len 0 memory) (withBytes (w .memory) at (replicate len 0))
+          (written-left S small (filled (board .page * number + off) len 0 memory) (withBytes (w .memory) at (replicate len 0))
           (held-filled S (P .held) refl off len (P .range) 0))
 
-      -- bytes of the loan are moved into the range
-      pub moved-into
-          : Remarked w r false kernel bs → (from a : ℕ) → bytesAt memory a len ≡ take len (drop from (w .memory))
-          → encode standard (copyContentsFromPhysaddr standard (decode standard w) number off a len) w
-          ≡ relent w bs (withBytes (w .memory) at (take len (drop from (w .memory))))
-      unfolding copyContentsFromPhysaddr setNotZero
-      moved-into M from a e =
-          let xs = take len (drop from (w .memory)) in
-          let n : length xs ≡ len = sym (ap (λ (ys : List ℕ). length ys) e) ∙ bytes-length memory a len in
-          marked-left S (P .held) refl M (moved (4096 * number + off) a len memory) (withBytes (w .memory) at xs)
-          (rw (moved-written memory (4096 * number + off) len a, e) (held-written S (P .held) refl off len (P .range) xs n))
+      module _ {kernel : Bool} {bs : List ℕ} where
+        pub zero-whole
+            : Remarked board w r true kernel bs → (eqb off 0 && eqb len (bytesIf board r)) ≡ true
+            → encode board (zeroRange board (decode board w) number off len) w ≡ relent w bs (withBytes (w .memory) at (replicate len 0))
+        unfolding zeroRange
+        zero-whole M e =
+            rw (held-bytes S (P .held) refl, e)
+            (marked-left S (P .held) refl M (filled (board .page * number + off) len 0 memory) (withBytes (w .memory) at (replicate len 0))
+            (held-filled S (P .held) refl off len (P .range) 0))
+
+        -- bytes of the loan are moved into the range
+        pub moved-into
+            : Remarked board w r false kernel bs → (from a : ℕ) → bytesAt memory a len ≡ take len (drop from (w .memory))
+            → encode board (copyContentsFromPhysaddr board (decode board w) number off a len) w
+            ≡ relent w bs (withBytes (w .memory) at (take len (drop from (w .memory))))
+        unfolding copyContentsFromPhysaddr setNotZero
+        moved-into M from a e =
+            let xs = take len (drop from (w .memory)) in
+            let n : length xs ≡ len = sym (ap (λ (ys : List ℕ). length ys) e) ∙ bytes-length memory a len in
+            marked-left S (P .held) refl M (moved (board .page * number + off) a len memory) (withBytes (w .memory) at xs)
+            (rw (moved-written memory (board .page * number + off) len a, e) (held-written S (P .held) refl off len (P .range) xs n))

@@ -9,7 +9,7 @@ use lib.ListN.{length, take, drop}
 use Rattle.definition.specs.declared.Record.{Record}
 use Rattle.definition.specs.declared.Row.{Row}
 use Rattle.definition.specs.declared.Counters.{Counters}
-use Rattle.definition.specs.Board.{standard}
+use Rattle.definition.specs.Board.{Board}
 use Rattle.definition.specs.Frame.{size}
 use Rattle.definition.specs.Allocator.{end}
 use Rattle.definition.specs.Store.{Store}
@@ -32,66 +32,67 @@ bytesOf (Done a n) = []
 bytesOf (Text t) = []
 bytesOf (Bytes t) = t
 
--- the call leaves the world, and n is its answer's number
-pub record Numbers (w : World) (c : Call) (n : ℕ) : Type 0 where
-  pub world : call standard w c .world ≡ w
-  pub number : n ≡ answerNumber (call standard w c .answer)
-
--- the same, and where it is accepted its bytes are the n from a place of the memory on
-pub record Finds (w : World) (c : Call) (n : ℕ) (r : Place) : Type 0 where
-  pub numbers : Numbers w c (r .number)
-  pub inside : r .number ≡ 0 → r .at + n ≤ length (w .memory)
-  pub bytes : r .number ≡ 0 → take n (drop (r .at) (w .memory)) ≡ bytesOf (call standard w c .answer)
-
--- the call leaves the world, and bs are the bytes of its answer
-pub record Lends (w : World) (c : Call) (bs : List ℕ) : Type 0 where
-  pub world : call standard w c .world ≡ w
-  pub bytes : bs ≡ bytesOf (call standard w c .answer)
-
 -- ---- a copy
-
--- a range of a held frame that was seen, in a loan of so many bytes
-pub record Spans (f : ℕ → Record) (rows : List Row) (memory : ℕ) (r : Seen) (off len : ℕ) : Type 0 where
-  pub held : HeldSeen f rows r
-  pub range : off + len ≤ standard .page * size (r .level)
-  pub ends : standard .page * r .spot .page + (off + len) ≤ memory
-
--- the loans became those of what `op` makes of the store, whatever the queue
-abbrev pub Writes : State → (records memory records2 memory2 : List ℕ) → (Store → Store) → Type 0
-Writes s records memory records2 memory2 op =
-    (queue : List ℕ) → Sound standard (worldOf s records memory queue)
-    → encode standard (op (decode standard (worldOf s records memory queue))) (worldOf s records memory queue) ≡ worldOf s records2 memory2 queue
-
--- so it is with the words that are lent, whatever the counters
-abbrev pub WritesAny : List ℕ → (records memory records2 memory2 : List ℕ) → (Store → Store) → Type 0
-WritesAny words records memory records2 memory2 op = (k : Counters) → Writes (stateWith k words) records memory records2 memory2 op
-
--- the same of a copy into the frame that was seen, from any address whose bytes are those of the loan from `from` on
-abbrev pub Moves : State → (records memory records2 memory2 : List ℕ) → Seen → (off from len : ℕ) → Type 0
-Moves s records memory records2 memory2 r off from len =
-    (queue : List ℕ) → Sound standard (worldOf s records memory queue)
-    → (a : ℕ) → bytesAt (decode standard (worldOf s records memory queue) .memory) a len ≡ take len (drop from memory)
-    → encode standard (copyContentsFromPhysaddr standard (decode standard (worldOf s records memory queue)) (numberAt standard (s .rows) (r .spot)) off a len) (worldOf s records memory queue)
-    ≡ worldOf s records2 memory2 queue
-
-abbrev pub MovesAny : List ℕ → (records memory records2 memory2 : List ℕ) → Seen → (off from len : ℕ) → Type 0
-MovesAny words records memory records2 memory2 r off from len = (k : Counters) → Moves (stateWith k words) records memory records2 memory2 r off from len
 
 -- ---- a physical source
 
--- the address behind the last managed page of the region where a page was seen
-abbrev pub endSeen : List Row → Seen → ℕ
-endSeen rows r = standard .page * end standard (bareRegion standard (rowAt rows (r .spot .index)))
+module _ (board : Board) where
+  -- the call leaves the world, and n is its answer's number
+  pub record Numbers (w : World) (c : Call) (n : ℕ) : Type 0 where
+    pub world : call board w c .world ≡ w
+    pub number : n ≡ answerNumber (call board w c .answer)
 
--- the address a is of the region of a row in use
-pub record Inward (rows : List Row) (r : Seen) (a : ℕ) : Type 0 where
-  pub index : r .spot .index < 8
-  pub before : a < endSeen rows r
-  pub bounded : endSeen rows r ≤ 2 ^ 40
+  -- the same, and where it is accepted its bytes are the n from a place of the memory on
+  pub record Finds (w : World) (c : Call) (n : ℕ) (r : Place) : Type 0 where
+    pub numbers : Numbers w c (r .number)
+    pub inside : r .number ≡ 0 → r .at + n ≤ length (w .memory)
+    pub bytes : r .number ≡ 0 → take n (drop (r .at) (w .memory)) ≡ bytesOf (call board w c .answer)
 
-abbrev pub Placed : List Row → Seen → ℕ → Type 0
-Placed rows r a = r .managed ≡ true → Inward rows r a
+  -- the call leaves the world, and bs are the bytes of its answer
+  pub record Lends (w : World) (c : Call) (bs : List ℕ) : Type 0 where
+    pub world : call board w c .world ≡ w
+    pub bytes : bs ≡ bytesOf (call board w c .answer)
 
--- 11 and 14 of a place that need only be managed, by what was seen at the address a
-abbrev pub placeSeen : List Row → Seen → (a len : ℕ) → ℕ
-placeSeen rows r a len = cond (not (r .managed)) 11 (cond (ltb (endSeen rows r) (a + len)) 14 0)
+  -- a range of a held frame that was seen, in a loan of so many bytes
+  pub record Spans (f : ℕ → Record) (rows : List Row) (memory : ℕ) (r : Seen) (off len : ℕ) : Type 0 where
+    pub held : HeldSeen board f rows r
+    pub range : off + len ≤ board .page * size (r .level)
+    pub ends : board .page * r .spot .page + (off + len) ≤ memory
+
+  -- the loans became those of what `op` makes of the store, whatever the queue
+  abbrev pub Writes : State → (records memory records2 memory2 : List ℕ) → (Store → Store) → Type 0
+  Writes s records memory records2 memory2 op =
+      (queue : List ℕ) → Sound board (worldOf s records memory queue)
+      → encode board (op (decode board (worldOf s records memory queue))) (worldOf s records memory queue) ≡ worldOf s records2 memory2 queue
+
+  -- so it is with the words that are lent, whatever the counters
+  abbrev pub WritesAny : List ℕ → (records memory records2 memory2 : List ℕ) → (Store → Store) → Type 0
+  WritesAny words records memory records2 memory2 op = (k : Counters) → Writes (stateWith k words) records memory records2 memory2 op
+
+  -- the same of a copy into the frame that was seen, from any address whose bytes are those of the loan from `from` on
+  abbrev pub Moves : State → (records memory records2 memory2 : List ℕ) → Seen → (off from len : ℕ) → Type 0
+  Moves s records memory records2 memory2 r off from len =
+      (queue : List ℕ) → Sound board (worldOf s records memory queue)
+      → (a : ℕ) → bytesAt (decode board (worldOf s records memory queue) .memory) a len ≡ take len (drop from memory)
+      → encode board (copyContentsFromPhysaddr board (decode board (worldOf s records memory queue)) (numberAt board (s .rows) (r .spot)) off a len) (worldOf s records memory queue)
+      ≡ worldOf s records2 memory2 queue
+
+  abbrev pub MovesAny : List ℕ → (records memory records2 memory2 : List ℕ) → Seen → (off from len : ℕ) → Type 0
+  MovesAny words records memory records2 memory2 r off from len = (k : Counters) → Moves (stateWith k words) records memory records2 memory2 r off from len
+
+  -- the address behind the last managed page of the region where a page was seen
+  abbrev pub endSeen : List Row → Seen → ℕ
+  endSeen rows r = board .page * end board (bareRegion board (rowAt rows (r .spot .index)))
+
+  -- the address a is of the region of a row in use
+  pub record Inward (rows : List Row) (r : Seen) (a : ℕ) : Type 0 where
+    pub index : r .spot .index < 8
+    pub before : a < endSeen rows r
+    pub bounded : endSeen rows r ≤ 2 ^ 40
+
+  abbrev pub Placed : List Row → Seen → ℕ → Type 0
+  Placed rows r a = r .managed ≡ true → Inward rows r a
+
+  -- 11 and 14 of a place that need only be managed, by what was seen at the address a
+  abbrev pub placeSeen : List Row → Seen → (a len : ℕ) → ℕ
+  placeSeen rows r a len = cond (not (r .managed)) 11 (cond (ltb (endSeen rows r) (a + len)) 14 0)

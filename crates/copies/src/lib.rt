@@ -2,6 +2,7 @@
 // definition's `call` of the words and loans that it is given; the words and counters stay as they are.
 use address::PhysAddr;
 use allocator::Seen;
+use definition::Board;
 use definition::Counters;
 use exam::Answer;
 ghost use mathlib.Core.Path.{_≡_};
@@ -9,15 +10,13 @@ ghost use mathlib.Core.Bool.{_&&_};
 ghost use Prim.Native.Nat.{_+_, _≤_};
 ghost use lib.Dec.{eqb};
 ghost use lib.ListN.{length};
-ghost use Rattle.definition.specs.Board.{standard};
+ghost use Rattle.definition.specs.Board.{Fit};
 ghost use Rattle.definition.specs.Contents.{zeroRange, copyContentsFrom};
 ghost use Rattle.definition.specs.Calls.{Read, Copy, Pcopy};
 ghost use Rattle.definition.specs.World.{recordAt};
-ghost use Rattle.record.specs.Records.{pagesIn};
-ghost use Rattle.words.specs.Words.{rowsIn};
-ghost use Rattle.world.specs.Tables.{Sane};
-ghost use Rattle.allocator.specs.Spots.{numberAt};
-ghost use Rattle.exam.specs.Promise.{stateWith, worldOf, Leaves, Fit, bytesIf};
+ghost use Rattle.words.specs.Words.{boardIn, rowsIn};
+ghost use Rattle.allocator.specs.Spots.{SaneIn, numberIn};
+ghost use Rattle.exam.specs.Promise.{stateWith, worldOf, Leaves, LevelKnown, bytesIf};
 ghost use Rattle.copies.specs.Copies.{Numbers, Finds, Lends, Spans, WritesAny, MovesAny, Placed, placeSeen};
 
 // ---- read
@@ -39,7 +38,7 @@ pub fn read_place(
     len: u64,
 ) -> Place
     requires { ⌜ 92 ≤ length (now words) ⌝ }
-    ensures { λ r. ⌜ Finds (worldOf (stateWith counters (now (words .entry))) (now (records .entry)) (now (memory .entry)) (now (queue .entry))) (Read (pa .0) offset len) len r ⌝ }
+    ensures { λ r. ⌜ Finds (boardIn (now (words .entry))) (worldOf (stateWith counters (now (words .entry))) (now (records .entry)) (now (memory .entry)) (now (queue .entry))) (Read (pa .0) offset len) len r ⌝ }
 {
     let exam = exam::examine(
         counters,
@@ -59,7 +58,7 @@ pub fn read_place(
     let spot = seen.spot;
     Place {
         number: 0,
-        at: 4096 * spot.page + offset as usize,
+        at: exam::place(words, spot.page, offset),
     }
 }
 
@@ -75,7 +74,7 @@ pub fn read_number(
     len: u64,
 ) -> u32
     requires { ⌜ 92 ≤ length (now words) ⌝ }
-    ensures { λ r. ⌜ Numbers (worldOf (stateWith counters (now (words .entry))) (now (records .entry)) (now (memory .entry)) (now (queue .entry))) (Read (pa .0) offset len) r ⌝ }
+    ensures { λ r. ⌜ Numbers (boardIn (now (words .entry))) (worldOf (stateWith counters (now (words .entry))) (now (records .entry)) (now (memory .entry)) (now (queue .entry))) (Read (pa .0) offset len) r ⌝ }
 {
     read_place(counters, words, records, memory, queue, pa, offset, len).number
 }
@@ -92,7 +91,7 @@ pub fn read<'a>(
     len: u64,
 ) -> &'a [u8]
     requires { ⌜ 92 ≤ length (now words) ⌝ }
-    ensures { λ r. ⌜ Lends (worldOf (stateWith counters (now (words .entry))) (now (records .entry)) (now (memory .entry)) (now (queue .entry))) (Read (pa .0) offset len) (now r) ⌝ }
+    ensures { λ r. ⌜ Lends (boardIn (now (words .entry))) (worldOf (stateWith counters (now (words .entry))) (now (records .entry)) (now (memory .entry)) (now (queue .entry))) (Read (pa .0) offset len) (now r) ⌝ }
 {
     let place = read_place(counters, words, records, memory, queue, pa, offset, len);
     if place.number != 0 {
@@ -104,25 +103,27 @@ pub fn read<'a>(
 // ---- copy
 
 // Whether a range is all of the frame that was seen.
-fn is_whole(seen: Seen, offset: u64, len: u64) -> bool
-    requires { ⌜ Fit seen ⌝ }
-    ensures { λ r. ⌜ r ≡ (eqb offset 0 && eqb len (bytesIf seen)) ⌝ }
+fn is_whole(board: Board, seen: Seen, offset: u64, len: u64) -> bool
+    requires { ⌜ Fit board ⌝ }
+    requires { ⌜ LevelKnown seen ⌝ }
+    ensures { λ r. ⌜ r ≡ (eqb offset 0 && eqb len (bytesIf board seen)) ⌝ }
 {
     if offset != 0 {
         return false;
     }
-    len == exam::frame_bytes(seen)
+    len == exam::frame_bytes(board, seen)
 }
 
 // Bytes of a held frame become 0; 01: "sets the mark if that is the whole frame".
 fn zero_range(words: &[u64], records: &mut [u8], memory: &mut [u8], to: Seen, offset: u64, len: u64)
-    requires { ⌜ (92 ≤ length (now words)) × Sane standard (recordAt (now records)) (pagesIn (now records)) (rowsIn (now words)) ⌝ }
-    requires { ⌜ Spans (recordAt (now records)) (rowsIn (now words)) (length (now memory)) to offset len ⌝ }
-    ensures { λ _. ⌜ WritesAny (now (words .entry)) (now (records .entry)) (now (memory .entry)) (now (records .exit)) (now (memory .exit)) (λ s. zeroRange standard s (numberAt standard (rowsIn (now (words .entry))) (to .spot)) offset len) ⌝ }
+    requires { ⌜ (92 ≤ length (now words)) × SaneIn (now records) (now words) ⌝ }
+    requires { ⌜ Spans (boardIn (now words)) (recordAt (now records)) (rowsIn (now words)) (length (now memory)) to offset len ⌝ }
+    ensures { λ _. ⌜ WritesAny (boardIn (now (words .entry))) (now (words .entry)) (now (records .entry)) (now (memory .entry)) (now (records .exit)) (now (memory .exit)) (λ s. zeroRange (boardIn (now (words .entry))) s (numberIn (now (words .entry)) (to .spot)) offset len) ⌝ }
 {
     let spot = to.spot;
-    contents::fill(memory, 4096 * spot.page + offset as usize, len as usize, 0);
-    if !is_whole(to, offset, len) {
+    let at = exam::place(words, spot.page, offset);
+    contents::fill(memory, at, len as usize, 0);
+    if !is_whole(words::board_in(words), to, offset, len) {
         return;
     }
     allocator::set_marks(words, records, spot, true, record::is_kernel(to.marks));
@@ -138,17 +139,13 @@ fn move_into(
     from: usize,
     len: u64,
 )
-    requires { ⌜ (92 ≤ length (now words)) × Sane standard (recordAt (now records)) (pagesIn (now records)) (rowsIn (now words)) ⌝ }
-    requires { ⌜ Spans (recordAt (now records)) (rowsIn (now words)) (length (now memory)) to offset len × (from + len ≤ length (now memory)) ⌝ }
-    ensures { λ _. ⌜ MovesAny (now (words .entry)) (now (records .entry)) (now (memory .entry)) (now (records .exit)) (now (memory .exit)) to offset from len ⌝ }
+    requires { ⌜ (92 ≤ length (now words)) × SaneIn (now records) (now words) ⌝ }
+    requires { ⌜ Spans (boardIn (now words)) (recordAt (now records)) (rowsIn (now words)) (length (now memory)) to offset len × (from + len ≤ length (now memory)) ⌝ }
+    ensures { λ _. ⌜ MovesAny (boardIn (now (words .entry))) (now (words .entry)) (now (records .entry)) (now (memory .entry)) (now (records .exit)) (now (memory .exit)) to offset from len ⌝ }
 {
     let spot = to.spot;
-    contents::copy(
-        memory,
-        4096 * spot.page + offset as usize,
-        from,
-        len as usize,
-    );
+    let at = exam::place(words, spot.page, offset);
+    contents::copy(memory, at, from, len as usize);
     allocator::set_marks(words, records, spot, false, record::is_kernel(to.marks));
 }
 
@@ -163,13 +160,13 @@ fn copy_contents_from(
     from_offset: u64,
     len: u64,
 )
-    requires { ⌜ (92 ≤ length (now words)) × Sane standard (recordAt (now records)) (pagesIn (now records)) (rowsIn (now words)) ⌝ }
-    requires { ⌜ Spans (recordAt (now records)) (rowsIn (now words)) (length (now memory)) to offset len × Spans (recordAt (now records)) (rowsIn (now words)) (length (now memory)) from «from_offset» len ⌝ }
-    ensures { λ _. ⌜ WritesAny (now (words .entry)) (now (records .entry)) (now (memory .entry)) (now (records .exit)) (now (memory .exit)) (λ s. copyContentsFrom standard s (numberAt standard (rowsIn (now (words .entry))) (to .spot)) offset (numberAt standard (rowsIn (now (words .entry))) (from .spot)) «from_offset» len) ⌝ }
+    requires { ⌜ (92 ≤ length (now words)) × SaneIn (now records) (now words) ⌝ }
+    requires { ⌜ Spans (boardIn (now words)) (recordAt (now records)) (rowsIn (now words)) (length (now memory)) to offset len × Spans (boardIn (now words)) (recordAt (now records)) (rowsIn (now words)) (length (now memory)) from «from_offset» len ⌝ }
+    ensures { λ _. ⌜ WritesAny (boardIn (now (words .entry))) (now (words .entry)) (now (records .entry)) (now (memory .entry)) (now (records .exit)) (now (memory .exit)) (λ s. copyContentsFrom (boardIn (now (words .entry))) s (numberIn (now (words .entry)) (to .spot)) offset (numberIn (now (words .entry)) (from .spot)) «from_offset» len) ⌝ }
 {
     if !record::is_zeroed(from.marks) {
         let spot = from.spot;
-        let at = 4096 * spot.page + from_offset as usize;
+        let at = exam::place(words, spot.page, from_offset);
         move_into(words, records, memory, to, offset, at, len);
         return;
     }
@@ -193,7 +190,7 @@ pub fn copy(
     len: u64,
 ) -> Answer
     requires { ⌜ 92 ≤ length (now words) ⌝ }
-    ensures { λ r. ⌜ Leaves (worldOf (stateWith counters (now (words .entry))) (now (records .entry)) (now (memory .entry)) (now (queue .entry))) (Copy (target .0) «target_offset» (source .0) «source_offset» len) (worldOf (stateWith counters (now (words .entry))) (now (records .exit)) (now (memory .exit)) (now (queue .entry))) r ⌝ }
+    ensures { λ r. ⌜ Leaves (boardIn (now (words .entry))) (worldOf (stateWith counters (now (words .entry))) (now (records .entry)) (now (memory .entry)) (now (queue .entry))) (Copy (target .0) «target_offset» (source .0) «source_offset» len) (worldOf (stateWith counters (now (words .entry))) (now (records .exit)) (now (memory .exit)) (now (queue .entry))) r ⌝ }
 {
     if !exam::is_sound(counters, words, records, memory.len(), queue.len()) {
         return exam::refused(6);
@@ -221,16 +218,17 @@ pub fn copy(
 
 // Refusals 11 and 14 of a physical source, which need only be managed, up to the end of its region.
 fn place_refusal(words: &[u64], seen: Seen, pa: PhysAddr, len: u64) -> u32
-    requires { ⌜ (92 ≤ length (now words)) × Placed (rowsIn (now words)) seen (pa .0) ⌝ }
-    ensures { λ r. ⌜ r ≡ placeSeen (rowsIn (now (words .entry))) seen (pa .0) len ⌝ }
+    requires { ⌜ (92 ≤ length (now words)) × Placed (boardIn (now words)) (rowsIn (now words)) seen (pa .0) ⌝ }
+    ensures { λ r. ⌜ r ≡ placeSeen (boardIn (now (words .entry))) (rowsIn (now (words .entry))) seen (pa .0) len ⌝ }
 {
     if !seen.managed {
         return 11;
     }
+    let board = words::board_in(words);
     let spot = seen.spot;
     let row = words::row_at(words, spot.index);
     let start = row.start;
-    let end = 4096 * (start.page_number() + row.pages);
+    let end = board.page * (start.page_number(board.page) + row.pages);
     if (end as u64) - pa.raw() < len {
         return 14;
     }
@@ -250,7 +248,7 @@ pub fn pcopy(
     len: u64,
 ) -> Answer
     requires { ⌜ 92 ≤ length (now words) ⌝ }
-    ensures { λ r. ⌜ Leaves (worldOf (stateWith counters (now (words .entry))) (now (records .entry)) (now (memory .entry)) (now (queue .entry))) (Pcopy (target .0) «target_offset» (source .0) len) (worldOf (stateWith counters (now (words .entry))) (now (records .exit)) (now (memory .exit)) (now (queue .entry))) r ⌝ }
+    ensures { λ r. ⌜ Leaves (boardIn (now (words .entry))) (worldOf (stateWith counters (now (words .entry))) (now (records .entry)) (now (memory .entry)) (now (queue .entry))) (Pcopy (target .0) «target_offset» (source .0) len) (worldOf (stateWith counters (now (words .entry))) (now (records .exit)) (now (memory .exit)) (now (queue .entry))) r ⌝ }
 {
     if !exam::is_sound(counters, words, records, memory.len(), queue.len()) {
         return exam::refused(6);
@@ -261,8 +259,9 @@ pub fn pcopy(
     if number != 0 {
         return exam::refused(number);
     }
+    let board = words::board_in(words);
     let spot = seen.spot;
-    let from = 4096 * spot.page + (source.raw() % 4096) as usize;
+    let from = exam::place(words, spot.page, source.raw() % (board.page as u64));
     move_into(words, records, memory, to.seen, target_offset, from, len);
     exam::done(target.raw(), len)
 }

@@ -14,7 +14,7 @@ use Rattle.definition.specs.declared.Record.{Record}
 use Rattle.definition.specs.declared.Row.{Row}
 use Rattle.definition.specs.Allocator.{PhysicalFrameAllocator}
 use Rattle.definition.specs.Basics.{bit}
-use Rattle.definition.specs.Board.{standard}
+use Rattle.definition.specs.Board.{Board}
 use Rattle.definition.specs.Calls.{Back, Lend, Low, Stats, Text, done, perform, tells}
 use Rattle.definition.specs.Store.{withCounters}
 use Rattle.definition.specs.Torn.{Left, call, sound}
@@ -23,7 +23,6 @@ use Rattle.definition.specs.World.{World, decode, encode}
 use Rattle.record.specs.Records.{withBytes}
 use Rattle.text.specs.Writing.{Wrote}
 use Rattle.audit.proofs.Sheets.{sound-is}
-use Rattle.world.specs.Fit.{standard-fit}
 use Rattle.world.specs.Tables.{Table, Turned}
 use Rattle.world.proofs.Calling.{done-call, none-met, torn-call}
 use Rattle.world.proofs.Leaving.{left-by, sound-table, unwritten}
@@ -34,10 +33,11 @@ use Rattle.exam.specs.Promise.{Leaves, told}
 use Rattle.exam.proofs.Promises.{Small, leaves-done, leaves-refused, refusedBy}
 use Rattle.counts.specs.Counting.{Reports, textOf}
 
--- a table that nothing turned
-pub unturned
-    : {f : ℕ → Record} {n : ℕ} {rows : List Row} {a : PhysicalFrameAllocator} → Table standard f n rows a → Turned standard f rows f n rows a
-unturned t = record { table = t; spans = refl; outside = λ q h. refl }
+module _ {board : Board} where
+  -- a table that nothing turned
+  pub unturned
+      : {f : ℕ → Record} {n : ℕ} {rows : List Row} {a : PhysicalFrameAllocator} → Table board f n rows a → Turned board f rows f n rows a
+  unturned t = record { table = t; spans = refl; outside = λ q h. refl }
 
 -- the world with other counters
 abbrev pub recounted : World → Counters → World
@@ -63,69 +63,71 @@ text-written : {out text out′ : List ℕ} {n : ℕ} → Wrote out 0 text out�
 unfolding withBytes
 text-written {out} {text} x = rw (x .bytes, long x) (take-append-seam text (drop (0 + length text) out))
 
-module _ (w : World) (t : sound standard w ≡ true) (small : Small w) where
-  -- what is written where the counters alone change
-  pub recounted-left : (c : Counters) → encode standard (withCounters (decode standard w) c) w ≡ recounted w c
-  recounted-left c =
-      let S = sound-is standard w t in
-      let d = decode-stands standard-fit w S in
-      left-by standard-fit w S (withCounters (decode standard w) c) (recounted w c) (unturned (sound-table standard-fit w S)) refl small small (unwritten standard-fit w S) refl
-      (d .pass) (d .queue) (d .queued) (d .room) refl
+module _ (board : Board) where
+  module _ (w : World) (t : sound board w ≡ true) (small : Small w) where
+    -- what is written where the counters alone change
+    pub recounted-left : (c : Counters) → encode board (withCounters (decode board w) c) w ≡ recounted w c
+    recounted-left c =
+        let S = sound-is board w t in
+        let d = decode-stands w S in
+        left-by w S (withCounters (decode board w) c) (recounted w c) (unturned (sound-table w S)) refl small small (unwritten w S) refl
+        (d .pass) (d .queue) (d .queued) (d .room) refl
 
-  pub same-left : encode standard (decode standard w) w ≡ w
-  same-left = round-trip standard-fit w (sound-is standard w t) small
+    pub same-left : encode board (decode board w) w ≡ w
+    same-left = round-trip w (sound-is board w t) small
 
-  counters-are : decode standard w .counters ≡ w .counters
-  counters-are = decode-stands standard-fit w (sound-is standard w t) .counters
+    counters-are : decode board w .counters ≡ w .counters
+    counters-are = decode-stands w (sound-is board w t) .counters
 
-  pub leaves-lend
-      : (n : ℕ) (c : Counters) → c ≡ trackFramePager n (w .counters) → Leaves w (Lend n) (recounted w c) (told-bytes (c .«pager_outstanding»))
-  unfolding perform
-  leaves-lend n c e =
-      leaves-done w (Lend n) t (nothing-refused standard (decode standard w)) (done (withCounters (decode standard w) c) 0 (c .«pager_outstanding»))
-      (recounted w c) (rw (counters-are, e) refl) (recounted-left c)
+    pub leaves-lend
+        : (n : ℕ) (c : Counters) → c ≡ trackFramePager n (w .counters) → Leaves board w (Lend n) (recounted w c) (told-bytes (c .«pager_outstanding»))
+    unfolding perform
+    leaves-lend n c e =
+        leaves-done w (Lend n) t (nothing-refused board (decode board w)) (done (withCounters (decode board w) c) 0 (c .«pager_outstanding»))
+        (recounted w c) (rw (counters-are, e) refl) (recounted-left c)
 
-  pub leaves-back
-      : (n : ℕ) → n ≤ w .counters .«pager_outstanding» → (c : Counters) → c ≡ untrackFramePager n (w .counters)
-      → Leaves w (Back n) (recounted w c) (told-bytes (c .«pager_outstanding»))
-  unfolding perform
-  leaves-back n h c e =
-      let z : ltb (decode standard w .counters .«pager_outstanding») n ≡ false = rw counters-are (le-ltb (w .counters .«pager_outstanding») n h) in
-      leaves-done w (Back n) t (back-refused standard (decode standard w) n ∙ ap (λ (b : Bool). cond b 15 0) z)
-      (done (withCounters (decode standard w) c) 0 (c .«pager_outstanding»)) (recounted w c) (rw (counters-are, e) refl) (recounted-left c)
+    pub leaves-back
+        : (n : ℕ) → n ≤ w .counters .«pager_outstanding» → (c : Counters) → c ≡ untrackFramePager n (w .counters)
+        → Leaves board w (Back n) (recounted w c) (told-bytes (c .«pager_outstanding»))
+    unfolding perform
+    leaves-back n h c e =
+        let z : ltb (decode board w .counters .«pager_outstanding») n ≡ false = rw counters-are (le-ltb (w .counters .«pager_outstanding») n h) in
+        leaves-done w (Back n) t (back-refused board (decode board w) n ∙ ap (λ (b : Bool). cond b 15 0) z)
+        (done (withCounters (decode board w) c) 0 (c .«pager_outstanding»)) (recounted w c) (rw (counters-are, e) refl) (recounted-left c)
 
-  pub refuses-back : (n : ℕ) → w .counters .«pager_outstanding» < n → Leaves w (Back n) w (refusedBy 15)
-  refuses-back n h =
-      let z : ltb (decode standard w .counters .«pager_outstanding») n ≡ true = rw counters-are (lt-ltb (w .counters .«pager_outstanding») n h) in
-      leaves-refused w (Back n) small t 15 (back-refused standard (decode standard w) n ∙ ap (λ (b : Bool). cond b 15 0) z) (λ e. omega arith)
+    pub refuses-back : (n : ℕ) → w .counters .«pager_outstanding» < n → Leaves board w (Back n) w (refusedBy 15)
+    refuses-back n h =
+        let z : ltb (decode board w .counters .«pager_outstanding») n ≡ true = rw counters-are (lt-ltb (w .counters .«pager_outstanding») n h) in
+        leaves-refused w (Back n) small t 15 (back-refused board (decode board w) n ∙ ap (λ (b : Bool). cond b 15 0) z) (λ e. omega arith)
 
-  pub leaves-low : (b : Bool) → b ≡ shouldReclaim standard (w .counters) → Leaves w Low w (told-bytes (bit b))
-  unfolding perform
-  leaves-low b e =
-      leaves-done w Low t (nothing-refused standard (decode standard w)) (done (decode standard w) 0 (bit b)) w
-      (ap (λ (c : Counters). done (decode standard w) 0 (bit (shouldReclaim standard c))) counters-are ∙ ap (λ (x : Bool). done (decode standard w) 0 (bit x)) (sym e))
-      same-left
+    pub leaves-low : (b : Bool) → b ≡ shouldReclaim board (w .counters) → Leaves board w Low w (told-bytes (bit b))
+    unfolding perform
+    leaves-low b e =
+        leaves-done w Low t (nothing-refused board (decode board w)) (done (decode board w) 0 (bit b)) w
+        (ap (λ (c : Counters). done (decode board w) 0 (bit (shouldReclaim board c))) counters-are ∙ ap (λ (x : Bool). done (decode board w) 0 (bit x)) (sym e))
+        same-left
 
-  tells-stats : call standard w Stats ≡ record { world = w; answer = Text (trackerStats (w .counters)) }
-  unfolding perform
-  tells-stats =
-      done-call standard-fit w Stats t (tells (decode standard w) (Text (trackerStats (w .counters)))) w
-      (none-met _ (nothing-refused standard (decode standard w)))
-      (ap (λ (c : Counters). tells (decode standard w) (Text (trackerStats c))) counters-are) same-left
+    tells-stats : call board w Stats ≡ record { world = w; answer = Text (trackerStats (w .counters)) }
+    unfolding perform
+    tells-stats =
+        done-call board w Stats t (tells (decode board w) (Text (trackerStats (w .counters)))) w
+        (none-met _ (nothing-refused board (decode board w)))
+        (ap (λ (c : Counters). tells (decode board w) (Text (trackerStats c))) counters-are) same-left
 
-  pub reports-done
-      : {out text : List ℕ} {n : ℕ} → Wrote out 0 (trackerStats (w .counters)) text n → Reports w (record { number = 0; len = n; text = text })
-  reports-done x =
+    pub reports-done
+        : {out text : List ℕ} {n : ℕ} → Wrote out 0 (trackerStats (w .counters)) text n → Reports board w (record { number = 0; len = n; text = text })
+    reports-done x =
+        record {
+          world = ap (λ (l : Left). l .world) tells-stats;
+          answer = ap (λ (l : Left). told (l .answer)) tells-stats ∙ ap told-bytes (sym (long x));
+          text = text-written x ∙ sym (ap (λ (l : Left). textOf (l .answer)) tells-stats);
+        }
+
+module _ {board : Board} where
+  pub reports-torn : (w : World) → sound board w ≡ false → (text : List ℕ) → Reports board w (record { number = 6; len = 0; text = text })
+  reports-torn w e text =
       record {
-        world = ap (λ (l : Left). l .world) tells-stats;
-        answer = ap (λ (l : Left). told (l .answer)) tells-stats ∙ ap told-bytes (sym (long x));
-        text = text-written x ∙ sym (ap (λ (l : Left). textOf (l .answer)) tells-stats);
+        world = ap (λ (l : Left). l .world) (torn-call board w Stats e);
+        answer = ap (λ (l : Left). told (l .answer)) (torn-call board w Stats e);
+        text = sym (ap (λ (l : Left). textOf (l .answer)) (torn-call board w Stats e));
       }
-
-pub reports-torn : (w : World) → sound standard w ≡ false → (text : List ℕ) → Reports w (record { number = 6; len = 0; text = text })
-reports-torn w e text =
-    record {
-      world = ap (λ (l : Left). l .world) (torn-call standard w Stats e);
-      answer = ap (λ (l : Left). told (l .answer)) (torn-call standard w Stats e);
-      text = sym (ap (λ (l : Left). textOf (l .answer)) (torn-call standard w Stats e));
-    }

@@ -4,7 +4,7 @@ use mathlib.Core.List.{List, []}
 use mathlib.Core.Path.{_≡_}
 use lib.ListN.{take}
 use Rattle.definition.specs.declared.Counters.{Counters}
-use Rattle.definition.specs.Board.{standard}
+use Rattle.definition.specs.Board.{Board}
 use Rattle.definition.specs.Calls.{Answer, Refused, Done, Text, Bytes, Stats}
 use Rattle.definition.specs.World.{World}
 use Rattle.definition.specs.Torn.{call}
@@ -23,8 +23,9 @@ textOf (Done a n) = []
 textOf (Text t) = t
 textOf (Bytes t) = []
 
--- the statistics leave the world as it is, and the report has the number, the length and the bytes of `call`'s answer
-pub record Reports (w : World) (r : Report) : Type 0 where
-  pub world : call standard w Stats .world ≡ w
-  pub answer : told (call standard w Stats .answer) ≡ record { number = r .number; address = 0; bytes = r .len }
-  pub text : take (r .len) (r .text) ≡ textOf (call standard w Stats .answer)
+module _ (board : Board) where
+  -- the statistics leave the world as it is, and the report has the number, the length and the bytes of `call`'s answer
+  pub record Reports (w : World) (r : Report) : Type 0 where
+    pub world : call board w Stats .world ≡ w
+    pub answer : told (call board w Stats .answer) ≡ record { number = r .number; address = 0; bytes = r .len }
+    pub text : take (r .len) (r .text) ≡ textOf (call board w Stats .answer)

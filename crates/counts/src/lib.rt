@@ -6,6 +6,7 @@ ghost use mathlib.Core.Path.{_≡_};
 ghost use Prim.Native.Nat.{_≤_};
 ghost use lib.ListN.{length};
 ghost use Rattle.definition.specs.Calls.{Lend, Back, Low};
+ghost use Rattle.words.specs.Words.{boardIn};
 ghost use Rattle.exam.specs.Promise.{stateWith, worldOf, Leaves};
 ghost use Rattle.counts.specs.Counting.{outstanding, Reports};
 
@@ -21,7 +22,7 @@ pub fn lend(
     count: usize,
 ) -> Outcome
     requires { ⌜ 92 ≤ length (now words) ⌝ }
-    ensures { λ r. ⌜ Leaves (worldOf (stateWith counters (now (words .entry))) (now (records .entry)) (now (memory .entry)) (now (queue .entry))) (Lend count) (worldOf (stateWith (r .counters) (now (words .entry))) (now (records .entry)) (now (memory .entry)) (now (queue .entry))) (r .answer) ⌝ }
+    ensures { λ r. ⌜ Leaves (boardIn (now (words .entry))) (worldOf (stateWith counters (now (words .entry))) (now (records .entry)) (now (memory .entry)) (now (queue .entry))) (Lend count) (worldOf (stateWith (r .counters) (now (words .entry))) (now (records .entry)) (now (memory .entry)) (now (queue .entry))) (r .answer) ⌝ }
 {
     if !exam::is_sound(counters, words, records, memory.len(), queue.len()) {
         return Outcome {
@@ -42,7 +43,7 @@ pub fn back(
     count: usize,
 ) -> Outcome
     requires { ⌜ 92 ≤ length (now words) ⌝ }
-    ensures { λ r. ⌜ Leaves (worldOf (stateWith counters (now (words .entry))) (now (records .entry)) (now (memory .entry)) (now (queue .entry))) (Back count) (worldOf (stateWith (r .counters) (now (words .entry))) (now (records .entry)) (now (memory .entry)) (now (queue .entry))) (r .answer) ⌝ }
+    ensures { λ r. ⌜ Leaves (boardIn (now (words .entry))) (worldOf (stateWith counters (now (words .entry))) (now (records .entry)) (now (memory .entry)) (now (queue .entry))) (Back count) (worldOf (stateWith (r .counters) (now (words .entry))) (now (records .entry)) (now (memory .entry)) (now (queue .entry))) (r .answer) ⌝ }
 {
     if !exam::is_sound(counters, words, records, memory.len(), queue.len()) {
         return Outcome {
@@ -78,12 +79,13 @@ pub fn low(
     queue: &[u64],
 ) -> Answer
     requires { ⌜ 92 ≤ length (now words) ⌝ }
-    ensures { λ r. ⌜ Leaves (worldOf (stateWith counters (now (words .entry))) (now (records .entry)) (now (memory .entry)) (now (queue .entry))) (Low) (worldOf (stateWith counters (now (words .entry))) (now (records .entry)) (now (memory .entry)) (now (queue .entry))) r ⌝ }
+    ensures { λ r. ⌜ Leaves (boardIn (now (words .entry))) (worldOf (stateWith counters (now (words .entry))) (now (records .entry)) (now (memory .entry)) (now (queue .entry))) (Low) (worldOf (stateWith counters (now (words .entry))) (now (records .entry)) (now (memory .entry)) (now (queue .entry))) r ⌝ }
 {
     if !exam::is_sound(counters, words, records, memory.len(), queue.len()) {
         return exam::refused(6);
     }
-    if tracker::should_reclaim(counters) {
+    let board = words::board_in(words);
+    if tracker::should_reclaim(board, counters) {
         return exam::done(0, 1);
     }
     exam::done(0, 0)
@@ -105,7 +107,7 @@ pub fn stats(
     queue: &[u64],
 ) -> Report
     requires { ⌜ 92 ≤ length (now words) ⌝ }
-    ensures { λ r. ⌜ Reports (worldOf (stateWith counters (now (words .entry))) (now (records .entry)) (now (memory .entry)) (now (queue .entry))) r ⌝ }
+    ensures { λ r. ⌜ Reports (boardIn (now (words .entry))) (worldOf (stateWith counters (now (words .entry))) (now (records .entry)) (now (memory .entry)) (now (queue .entry))) r ⌝ }
 {
     let mut text = [0u8; 368];
     if !exam::is_sound(counters, words, records, memory.len(), queue.len()) {

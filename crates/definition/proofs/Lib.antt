@@ -1,5 +1,8 @@
 pub mod Basics
+pub mod Boards
+pub mod Bytes
 pub mod Table
 pub mod Cases
 pub mod Departures
 pub mod Tests
+pub mod Passing

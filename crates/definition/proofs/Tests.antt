@@ -1,11 +1,12 @@
 -- Laws of tests: two that imply one another are one, and what a test of a whole range says of each number in it.
 use Prim.Native.Nat.{ℕ, zero, suc, _+_, _-_, _≤_, _<_}
-use mathlib.Core.Bool.{Bool, true, false, _&&_, false≢true}
+use mathlib.Core.Bool.{Bool, true, false, _&&_, _||_, false≢true}
+use mathlib.Core.List.{List, _∷_}
 use mathlib.Core.Logic.{⊎-elim}
 use mathlib.Core.Path.{_≡_, refl, sym, subst}
 use native.Mathlib.Nat.{eq-or-lt-of-le}
 use native.Mathlib.Omega.{arith}
-use Rattle.definition.specs.Basics.{all, range}
+use Rattle.definition.specs.Basics.{any, all, range}
 
 pub same-test : {a b : Bool} → (a ≡ true → b ≡ true) → (b ≡ true → a ≡ true) → a ≡ b
 same-test {a = true} {b = true} f g = refl
@@ -24,6 +25,18 @@ and-right false b e = absurd (false≢true e)
 pub and-true : {a b : Bool} → a ≡ true → b ≡ true → a && b ≡ true
 and-true {a = true} e f = f
 and-true {a = false} e f = e
+
+pub or-left : (a b : Bool) → (a || b) ≡ false → a ≡ false
+or-left true b e = e
+or-left false b e = refl
+
+pub or-right : (a b : Bool) → (a || b) ≡ false → b ≡ false
+or-right true b e = absurd (false≢true (sym e))
+or-right false b e = e
+
+pub any-head : {A : Type 0} (test : A → Bool) (x : A) (xs : List A) → any test (x ∷ xs) ≡ false → test x ≡ false
+unfolding any
+any-head test x xs e = or-left (test x) (any test xs) e
 
 module _ (test : ℕ → Bool) where
   pub range-in : (a n : ℕ) → all test (range a n) ≡ true → (q : ℕ) → a ≤ q → q < a + n → test q ≡ true

@@ -1,7 +1,7 @@
 -- The allocator over all regions, after frame.rs: which entries of the boot map are kept, how their pages are laid out, the two passes of a
 -- grant, and the lookup of a page.
 use Prim.Native.Nat.{ℕ, zero, suc, _+_, _-_, _*_, _/_}
-use mathlib.Core.Bool.{Bool, true, false, not, cond, _&&_, _||_}
+use mathlib.Core.Bool.{Bool, true, false, cond, _&&_, _||_}
 use mathlib.Core.List.{List, [], _∷_}
 use mathlib.Core.Option.{Option, none, some}
 use lib.Dec.{leb, ltb}
@@ -27,7 +27,7 @@ pub record PhysicalFrameAllocator : Type 0 where
 
 -- 285, array_pages: what the tables of so many pages take
 abbrev pub tablePages : Board → ℕ → ℕ
-tablePages b pages = (b .recordBytes * pages + (b .page - 1)) / b .page
+tablePages b pages = (b .«record_bytes» * pages + (b .page - 1)) / b .page
 
 -- 278, the start rounded up, in pages
 abbrev pub startPage : Board → MemoryRegion → ℕ
@@ -98,18 +98,18 @@ orNextRegion r rs a next =
     ]
 
 -- 596 and 602: the first region, in order, that has a frame
-unfoldable pub pass : ℕ → (tryZero onlyZero : Bool) → Frames → List AllocationRegion → Allocated
-pass l tryZero onlyZero fs [] = record { allocator = record { frames = fs; regions = [] }; page = none }
-pass l tryZero onlyZero fs (r ∷ rs) =
-    orNextRegion r rs (allocate l (levelsOf fs r) tryZero onlyZero) (pass l tryZero onlyZero fs rs)
+unfoldable pub pass : (ℕ → Bool) → ℕ → (tryZero onlyZero : Bool) → Frames → List AllocationRegion → Allocated
+pass among l tryZero onlyZero fs [] = record { allocator = record { frames = fs; regions = [] }; page = none }
+pass among l tryZero onlyZero fs (r ∷ rs) =
+    orNextRegion r rs (allocate among l (levelsOf fs r) tryZero onlyZero) (pass among l tryZero onlyZero fs rs)
 
 abbrev pub orSecondPass : Allocated → Allocated → Allocated
 orSecondPass a second = elim (a .page) [ some p ↦ a | none ↦ second ]
 
 -- 594, __do_alloc: zeroed only where that was asked, else dirty only; then either kind
-unfoldable pub doAlloc : ℕ → Bool → PhysicalFrameAllocator → Allocated
-doAlloc l needsZero a =
-    orSecondPass (pass l false needsZero (a .frames) (a .regions)) (pass l true false (a .frames) (a .regions))
+unfoldable pub doAlloc : (ℕ → Bool) → ℕ → Bool → PhysicalFrameAllocator → Allocated
+doAlloc among l needsZero a =
+    orSecondPass (pass among l false needsZero (a .frames) (a .regions)) (pass among l true false (a .frames) (a .regions))
 
 -- 691, FrameIndexer::contains
 abbrev pub contains : Board → AllocationRegion → ℕ → Bool
@@ -128,10 +128,6 @@ freeIn b p fs (r ∷ rs) =
 unfoldable pub isManaged : Board → List AllocationRegion → ℕ → Bool
 isManaged b rs p = any (λ r. contains b r p) rs
 
-abbrev pub isEmpty : List ℕ → Bool
-isEmpty [] = true
-isEmpty (x ∷ xs) = false
-
--- whether some list holds a frame of the level or above
-unfoldable pub isListed : ℕ → List AllocationRegion → Bool
-isListed l rs = any (λ r. any (λ k. not (isEmpty (r .free k))) (range (slot l false) (slot levels false - slot l false))) rs
+-- whether some list holds a frame of the level or above that a search may take
+unfoldable pub isListed : (ℕ → Bool) → ℕ → List AllocationRegion → Bool
+isListed among l rs = any (λ r. any (λ k. any among (r .free k)) (range (slot l false) (slot levels false - slot l false))) rs

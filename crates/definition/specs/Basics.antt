@@ -42,10 +42,20 @@ pub record Popped : Type 0 where
   pub rest : List ℕ
   pub last : ℕ
 
-abbrev pub behind : ℕ → Option Popped → Option Popped
-behind x none = some (record { rest = []; last = x })
-behind x (some p) = some (record { rest = x ∷ p .rest; last = p .last })
+-- the last behind x, or else x itself where that passes the test
+abbrev pub orThis : Bool → ℕ → List ℕ → Option Popped → Option Popped
+orThis test x xs (some e) = some (record { rest = x ∷ e .rest; last = e .last })
+orThis true x xs none = some (record { rest = xs; last = x })
+orThis false x xs none = none
 
-unfoldable pub popBack : List ℕ → Option Popped
-popBack [] = none
-popBack (x ∷ xs) = behind x (popBack xs)
+-- the last that passes the test, taken out
+unfoldable pub popLast : (ℕ → Bool) → List ℕ → Option Popped
+popLast among [] = none
+popLast among (x ∷ xs) = orThis (among x) x xs (popLast among xs)
+
+-- the test that each number passes
+abbrev pub everywhere : ℕ → Bool
+everywhere p = true
+
+abbrev pub popBack : List ℕ → Option Popped
+popBack xs = popLast everywhere xs

@@ -1,19 +1,25 @@
--- The numbers that a board fixes. Every definition takes them as an argument; `standard` has their present values.
-use Prim.Native.Nat.{ℕ}
+-- The numbers that a board fixes, and what must hold of them. Every definition takes a board as an argument, and every proof is of any board that is fit; `standard`
+-- has the Rust's numbers.
+use Prim.Native.Nat.{ℕ, _≤_}
+use mathlib.Core.Logic.{_⊎_}
+use mathlib.Core.Path.{_≡_}
+use Rattle.definition.specs.declared.Board.{Board as BoardOf}
 
-pub record Board : Type 0 where
-  -- arch/aarch64/memory/frame.rs 5, FRAME_SIZE: the bytes of a page
-  pub page : ℕ
-  -- frame.rs 284, size_of::<Frame>(): the table bytes that a page costs
-  pub recordBytes : ℕ
-  -- tracker.rs 169: memory is low where the idle pages are fewer than this many times the kernel's
-  pub kernelMultiple : ℕ
-  -- tracker.rs 176: or where the page data reach the idle pages divided by this
-  pub idleDivisor : ℕ
-  -- tracker.rs 415, MAX_PER_ROUND
-  pub perRound : ℕ
-  -- tracker.rs 414, MAX_RECLAIM_ROUNDS
-  pub maxRounds : ℕ
+abbrev pub Board : Type 0
+Board = BoardOf
 
 abbrev pub standard : Board
-standard = record { page = 4096; recordBytes = 32; kernelMultiple = 2; idleDivisor = 2; perRound = 100; maxRounds = 1000 }
+standard = record { page = 4096; «record_bytes» = 32; «kernel_multiple» = 2; «idle_divisor» = 2; «per_round» = 100; «max_rounds» = 1000 }
+
+-- the ranges of the five numbers are 02's, slip 5, and the page sizes 02's, slip 14
+pub record Fit (b : Board) : Type 0 where
+  pub sized : (b .page ≡ 4096) ⊎ ((b .page ≡ 16384) ⊎ (b .page ≡ 65536))
+  pub record-least : 1 ≤ b .«record_bytes»
+  pub record-most : b .«record_bytes» ≤ 8192
+  pub multiple-least : 1 ≤ b .«kernel_multiple»
+  pub multiple-most : b .«kernel_multiple» ≤ 16
+  pub divisor-least : 1 ≤ b .«idle_divisor»
+  pub divisor-most : b .«idle_divisor» ≤ 16
+  pub frees-least : 1 ≤ b .«per_round»
+  pub frees-most : b .«per_round» ≤ 1000
+  pub rounds-most : b .«max_rounds» ≤ 5000

@@ -10,6 +10,7 @@ use Rattle.definition.specs.declared.Refusal.{Refusal}
 use Rattle.definition.specs.Board.{Board}
 use Rattle.definition.specs.Basics.{sum, Popped, popBack}
 use Rattle.definition.specs.Frame.{size, childCount}
+use Rattle.definition.specs.Allocator.{AllocationRegion, total}
 use Rattle.definition.specs.Boot.{countersAtBoot}
 use Rattle.definition.specs.Tracker.{countAlloc, shouldReclaim}
 use Rattle.definition.specs.Calls.{
@@ -49,12 +50,20 @@ pub record Held : Type 0 where
 pub record Book : Type 0 where
   pub held : List Held
   pub queue : List ℕ
+  -- the kept regions in order, without their lists
+  pub regions : List AllocationRegion
 
-abbrev pub emptyBook : Book
-emptyBook = record { held = []; queue = [] }
+abbrev pub emptyBook : List AllocationRegion → Book
+emptyBook rs = record { held = []; queue = []; regions = rs }
 
 abbrev pub withHeld : Book → List Held → Book
-withHeld k held = record { held = held; queue = k .queue }
+withHeld k held = record { held = held; queue = k .queue; regions = k .regions }
+
+abbrev pub withWaiting : Book → List ℕ → Book
+withWaiting k queue = record { held = k .held; queue = queue; regions = k .regions }
+
+abbrev pub withRegions : Book → List AllocationRegion → Book
+withRegions k regions = record { held = k .held; queue = k .queue; regions = regions }
 
 -- so many pieces of a level, from a page on
 unfoldable pub pieces : ℕ → ℕ → ℕ → Bool → List Held
@@ -95,39 +104,39 @@ countersOf pages (h ∷ hs) = counted h (countersOf pages hs)
 
 abbrev pub freeNext : Board → (Book → Book) → Book → Option Popped → Book
 freeNext b next k none = k
-freeNext b next k (some e) = next (replaceAt b struck (e .last) (record { held = k .held; queue = e .rest }))
+freeNext b next k (some e) = next (replaceAt b struck (e .last) (withWaiting k (e .rest)))
 
 unfoldable pub freeUpTo : Board → ℕ → Book → Book
 freeUpTo b zero k = k
 freeUpTo b (suc n) k = freeNext b (freeUpTo b n) k (popBack (k .queue))
 
-abbrev pub roundOf : Board → ℕ → Book → Book
-roundOf b pages k = cond (shouldReclaim b (countersOf pages (k .held))) (freeUpTo b (b .perRound) k) k
+abbrev pub roundOf : Board → Book → Book
+roundOf b k = cond (shouldReclaim b (countersOf (total (k .regions)) (k .held))) (freeUpTo b (b .«per_round») k) k
 
--- what an accepted call makes of the book, of a map that keeps so many pages; `a` is the address that the call was answered
-abbrev pub note : Board → ℕ → Book → Call → ℕ → Book
-note b pages k (Alloc y) a = withHeld k (newlyHeld b y a ∷ k .held)
-note b pages k (Take y) a = withHeld k (broken (newlyHeld b y a) ++ k .held)
-note b pages k (Split x) a = replaceAt b broken x k
-note b pages k (Free x) a = replaceAt b struck x k
-note b pages k (Zero x) a = k
-note b pages k (Dirty x) a = k
-note b pages k (Find x) a = k
-note b pages k (Queue x) a = record { held = k .held; queue = k .queue ++ (x ∷ []) }
-note b pages k (Fill x off len byte) a = k
-note b pages k (Write x off bytes) a = k
-note b pages k (Read x off len) a = k
-note b pages k (Copy dst doff src soff len) a = k
-note b pages k (Pcopy dst doff src len) a = k
-note b pages k Round a = roundOf b pages k
-note b pages k (Lend n) a = k
-note b pages k (Back n) a = k
-note b pages k Low a = k
-note b pages k Stats a = k
+-- what an accepted call makes of the book; `a` is the address that the call was answered
+abbrev pub note : Board → Book → Call → ℕ → Book
+note b k (Alloc y) a = withHeld k (newlyHeld b y a ∷ k .held)
+note b k (Take y) a = withHeld k (broken (newlyHeld b y a) ++ k .held)
+note b k (Split x) a = replaceAt b broken x k
+note b k (Free x) a = replaceAt b struck x k
+note b k (Zero x) a = k
+note b k (Dirty x) a = k
+note b k (Find x) a = k
+note b k (Queue x) a = withWaiting k (k .queue ++ (x ∷ []))
+note b k (Fill x off len byte) a = k
+note b k (Write x off bytes) a = k
+note b k (Read x off len) a = k
+note b k (Copy dst doff src soff len) a = k
+note b k (Pcopy dst doff src len) a = k
+note b k Round a = roundOf b k
+note b k (Lend n) a = k
+note b k (Back n) a = k
+note b k Low a = k
+note b k Stats a = k
 
 -- "All else, and every refused call, changes nothing"
-abbrev pub noteAnswer : Board → ℕ → Book → Call → Answer → Book
-noteAnswer b pages k c (Refused r) = k
-noteAnswer b pages k c (Done a n) = note b pages k c a
-noteAnswer b pages k c (Text t) = k
-noteAnswer b pages k c (Bytes t) = k
+abbrev pub noteAnswer : Board → Book → Call → Answer → Book
+noteAnswer b k c (Refused r) = k
+noteAnswer b k c (Done a n) = note b k c a
+noteAnswer b k c (Text t) = k
+noteAnswer b k c (Bytes t) = k

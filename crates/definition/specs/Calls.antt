@@ -20,7 +20,7 @@ use Rattle.definition.specs.declared.Refusal.the-variants.{
   QueueFull,
 }
 use Rattle.definition.specs.Board.{Board}
-use Rattle.definition.specs.Basics.{any, range, bit}
+use Rattle.definition.specs.Basics.{any, range, bit, everywhere}
 use Rattle.definition.specs.Refusal.{numberOf, Test, _when_, lowest}
 use Rattle.definition.specs.Frame.{size, levels}
 use Rattle.definition.specs.Allocator.{AllocationRegion, contains, end, isManaged, isListed}
@@ -116,11 +116,25 @@ pub record Names : Type 0 where
 abbrev pub nothingNamed : Names
 nothingNamed = record { layouts = []; frames = []; places = []; returned = []; queued = [] }
 
+abbrev pub withLayouts : Names → List Layout → Names
+withLayouts n ys = record { layouts = ys; frames = n .frames; places = n .places; returned = n .returned; queued = n .queued }
+
+abbrev pub withRanges : Names → (frames places : List Range) → Names
+withRanges n fs ps = record { layouts = n .layouts; frames = fs; places = ps; returned = n .returned; queued = n .queued }
+
+abbrev pub withReturned : Names → List ℕ → Names
+withReturned n ns = record { layouts = n .layouts; frames = n .frames; places = n .places; returned = ns; queued = n .queued }
+
+abbrev pub withQueued : Names → List ℕ → Names
+withQueued n xs = record { layouts = n .layouts; frames = n .frames; places = n .places; returned = n .returned; queued = xs }
+
+-- what each call names is made of these, so that a further thing to name is written here and in its own call
+
 abbrev pub layoutNamed : Layout → Names
-layoutNamed y = record { layouts = y ∷ []; frames = []; places = []; returned = []; queued = [] }
+layoutNamed y = withLayouts nothingNamed (y ∷ [])
 
 abbrev pub rangesNamed : (frames places : List Range) → Names
-rangesNamed fs ps = record { layouts = []; frames = fs; places = ps; returned = []; queued = [] }
+rangesNamed fs ps = withRanges nothingNamed fs ps
 
 abbrev pub part : (address offset length : ℕ) → List Range
 part a off len = record { address = a; offset = off; length = len } ∷ []
@@ -136,7 +150,7 @@ names (Free a) = rangesNamed (whole a) []
 names (Zero a) = rangesNamed (whole a) []
 names (Dirty a) = rangesNamed (whole a) []
 names (Find a) = rangesNamed [] (whole a)
-names (Queue a) = record { layouts = []; frames = whole a; places = []; returned = []; queued = a ∷ [] }
+names (Queue a) = withQueued (rangesNamed (whole a) []) (a ∷ [])
 names (Fill a off len byte) = rangesNamed (part a off len) []
 names (Write a off bytes) = rangesNamed (part a off (length bytes)) []
 names (Read a off len) = rangesNamed (part a off len) []
@@ -144,7 +158,7 @@ names (Copy dst doff src soff len) = rangesNamed (part dst doff len ++ part src 
 names (Pcopy dst doff src len) = rangesNamed (part dst doff len) (part src 0 len)
 names Round = nothingNamed
 names (Lend n) = nothingNamed
-names (Back n) = record { layouts = []; frames = []; places = []; returned = n ∷ []; queued = [] }
+names (Back n) = withReturned nothingNamed (n ∷ [])
 names Low = nothingNamed
 names Stats = nothingNamed
 
@@ -177,9 +191,13 @@ levelFrom b (suc left) l y =
 abbrev pub findLevel : Board → Layout → ℕ
 findLevel b y = levelFrom b levels 0 y
 
+-- the pages that a grant may take
+unfoldable pub mine : Store → ℕ → Bool
+mine s = everywhere
+
 -- 9 and 10: "nothing listed at the level or above"
 abbrev pub wants : Board → Store → Layout → Bool
-wants b s y = not (isListed (findLevel b y) (s .allocator .regions))
+wants b s y = not (isListed (mine s) (findLevel b y) (s .allocator .regions))
 
 -- 11: "address not managed"
 abbrev pub outside : Board → Store → Range → Bool
@@ -229,8 +247,8 @@ abbrev pub reports : Reported → Outcome
 reports r = done (r .store) (r .pass .rounds) (r .pass .freed)
 
 unfoldable pub perform : Board → Store → Call → Outcome
-perform b s (Alloc y) = hands b (findLevel b y) (tryAllocFrame b (findLevel b y) (y .flags) s)
-perform b s (Take y) = hands b (findLevel b y) (tryAllocSplitFrames b (findLevel b y) (y .flags) s)
+perform b s (Alloc y) = hands b (findLevel b y) (tryAllocFrame b (mine s) (findLevel b y) (y .flags) s)
+perform b s (Take y) = hands b (findLevel b y) (tryAllocSplitFrames b (mine s) (findLevel b y) (y .flags) s)
 perform b s (Split a) = done (splitFrame s (a / b .page)) a (frameBytes b s (a / b .page))
 perform b s (Free a) = done (freeFrame b s (a / b .page)) a (frameBytes b s (a / b .page))
 perform b s (Zero a) = done (zeroFrame b s (a / b .page)) a (frameBytes b s (a / b .page))

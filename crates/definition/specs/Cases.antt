@@ -404,7 +404,7 @@ damaged =
 -- ---- a world with pages of 8 bytes, small enough to be compared whole: two regions, the later one lower, and bytes behind the loans' last
 
 abbrev pub tiny : Board
-tiny = record { page = 8; recordBytes = 1; kernelMultiple = 2; idleDivisor = 2; perRound = 100; maxRounds = 1000 }
+tiny = record { page = 8; «record_bytes» = 1; «kernel_multiple» = 2; «idle_divisor» = 2; «per_round» = 100; «max_rounds» = 1000 }
 
 abbrev pub tinyPage : Call
 tinyPage = Alloc (grant 8 8 false false)

@@ -16,7 +16,7 @@ use Rattle.definition.specs.Rust
 use Rattle.definition.specs.Script
 
 unfoldable pub basics : Unit {0}
-unfolding Basics.upd Basics.any Basics.all Basics.sum Basics.range Basics.member Basics.popBack
+unfolding Basics.upd Basics.any Basics.all Basics.sum Basics.range Basics.member Basics.popLast
 basics = tt
 
 unfoldable pub texts : Unit {0}
@@ -48,7 +48,7 @@ unfolding Boot.keptRegions Boot.overlap Boot.boot
 boots = tt
 
 unfoldable pub calls : Unit {0}
-unfolding Calls.levelFrom Calls.sheet Calls.perform Calls.step Calls.run
+unfolding Calls.levelFrom Calls.mine Calls.sheet Calls.perform Calls.step Calls.run
 calls = tt
 
 unfoldable pub worlds : Unit {0}

@@ -5,7 +5,7 @@ use mathlib.Core.Bool.{Bool, true, false, cond, _&&_}
 use mathlib.Core.List.{List, [], _∷_, _++_}
 use mathlib.Core.Option.{Option, none, some}
 use lib.Dec.{leb, eqb}
-use Rattle.definition.specs.Basics.{upd, Popped, popBack}
+use Rattle.definition.specs.Basics.{upd, Popped, popLast}
 
 -- 358, Frame: `some` at the first page of a frame, which is then ADMITTED; `none` at a page inside a larger frame
 pub record Frame : Type 0 where
@@ -88,15 +88,15 @@ abbrev pub popped : Levels → ℕ → Option Popped → Found
 popped s k none = nothing s
 popped s k (some e) = record { levels = record { frames = s .frames; free = upd (s .free) k (e .rest) }; page = some (e .last) }
 
--- pop_back of the list k
-unfoldable pub popFrom : Levels → ℕ → Found
-popFrom s k = popped s k (popBack (s .free k))
+-- pop_back of the list k, of the pages that the search may take: a search everywhere is the Rust's
+unfoldable pub popFrom : (ℕ → Bool) → Levels → ℕ → Found
+popFrom among s k = popped s k (popLast among (s .free k))
 
 -- 106, allocate: zeroed only; or dirty, then zeroed where that is allowed
-unfoldable pub levelAllocate : Levels → ℕ → (tryZero onlyZero : Bool) → Found
-levelAllocate s l tryZero onlyZero =
-    cond onlyZero (popFrom s (slot l true))
-    (orElse (popFrom s (slot l false)) (cond tryZero (popFrom s (slot l true)) (nothing s)))
+unfoldable pub levelAllocate : (ℕ → Bool) → Levels → ℕ → (tryZero onlyZero : Bool) → Found
+levelAllocate among s l tryZero onlyZero =
+    cond onlyZero (popFrom among s (slot l true))
+    (orElse (popFrom among s (slot l false)) (cond tryZero (popFrom among s (slot l true)) (nothing s)))
 
 -- 127, admit_one: a new frame, free, with no mark but the ZEROED that it is given
 abbrev pub admitOne : Levels → ℕ → ℕ → Bool → Levels
@@ -127,16 +127,16 @@ split s p l =
     let z = isZeroed (s .frames p) in
     admitOne (children (childCount - 1) s p l z) p l z
 
-abbrev pub thenSplit : ℕ → (tryZero onlyZero : Bool) → Found → Found
-thenSplit l tryZero onlyZero a =
-    elim (a .page) [ some p ↦ levelAllocate (split (a .levels) p l) l tryZero onlyZero | none ↦ a ]
+abbrev pub thenSplit : (ℕ → Bool) → ℕ → (tryZero onlyZero : Bool) → Found → Found
+thenSplit among l tryZero onlyZero a =
+    elim (a .page) [ some p ↦ levelAllocate among (split (a .levels) p l) l tryZero onlyZero | none ↦ a ]
 
 -- 182, do_allocate: calls itself for the next larger level, with so many levels left, and splits on return
-unfoldable pub doAllocate : (left l : ℕ) → Levels → (tryZero onlyZero : Bool) → Found
-doAllocate zero l s tryZero onlyZero = nothing s
-doAllocate (suc left) l s tryZero onlyZero =
-    orElse (levelAllocate s l tryZero onlyZero)
-    (thenSplit l tryZero onlyZero (doAllocate left (l + 1) s tryZero onlyZero))
+unfoldable pub doAllocate : (ℕ → Bool) → (left l : ℕ) → Levels → (tryZero onlyZero : Bool) → Found
+doAllocate among zero l s tryZero onlyZero = nothing s
+doAllocate among (suc left) l s tryZero onlyZero =
+    orElse (levelAllocate among s l tryZero onlyZero)
+    (thenSplit among l tryZero onlyZero (doAllocate among left (l + 1) s tryZero onlyZero))
 
 abbrev pub setAllocated : Found → Found
 setAllocated a =
@@ -146,8 +146,8 @@ setAllocated a =
     ]
 
 -- 195, allocate, at the level that find_level found
-unfoldable pub allocate : ℕ → Levels → (tryZero onlyZero : Bool) → Found
-allocate l s tryZero onlyZero = setAllocated (doAllocate (levels - l) l s tryZero onlyZero)
+unfoldable pub allocate : (ℕ → Bool) → ℕ → Levels → (tryZero onlyZero : Bool) → Found
+allocate among l s tryZero onlyZero = setAllocated (doAllocate among (levels - l) l s tryZero onlyZero)
 
 -- 215: the frame c at each of the children 1 to i of a page, of level l
 unfoldable pub kept : ℕ → Frames → ℕ → ℕ → Frame → Frames

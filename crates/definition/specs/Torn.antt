@@ -22,7 +22,23 @@ use Rattle.definition.specs.Allocator.{AllocationRegion, tablePages, fir
 use Rattle.definition.specs.Boot.{managedPages, overlap, mostRows, highestAddress, mostPages, recordSize, bootSheet, keptRegions, boot}
 use Rattle.definition.specs.Refusal.{lowest}
 use Rattle.definition.specs.Calls.{Call, Answer, Refused, Done, Outcome, step}
-use Rattle.definition.specs.World.{World, recordAt, isAdmitted, noLinks, pagesOf, usedRows, bareRegion, memoryOf, decode, encode}
+use Rattle.definition.specs.World.{
+  World,
+  recordAt,
+  allocatedIn,
+  zeroedBit,
+  kernelBit,
+  namedMarks,
+  levelIn,
+  isAdmitted,
+  noLinks,
+  pagesOf,
+  usedRows,
+  bareRegion,
+  memoryOf,
+  decode,
+  encode,
+}
 
 -- ---- "the rows' starts and pages are such as boot makes"
 
@@ -84,11 +100,11 @@ abbrev pub Records : Type 0
 Records = ℕ → Record
 
 abbrev pub isHeldRecord : Record → Bool
-isHeldRecord r = eqb (r .marks / 2 % 2) 1
+isHeldRecord r = allocatedIn (r .marks)
 
 -- a frame's pages by its record; of a level that is none, 1, so that the stepping goes on
 abbrev pub pagesOfRecord : Record → ℕ
-pagesOfRecord r = cond (ltb (r .level) levels) (size (r .level)) 1
+pagesOfRecord r = cond (ltb (levelIn (r .level)) levels) (size (levelIn (r .level))) 1
 
 -- ---- "stepping by frame size from each region's first managed page meets ADMITTED, aligned heads of level 0 to 2 with no mark bits but those
 -- named, ending at its end, zeros inside"
@@ -110,10 +126,10 @@ frameNumber b x h = first b (bareRegion b (x .row)) + (h - x .base)
 abbrev pub isHead : Board → Records → Placed → ℕ → Bool
 isHead b f x h =
     isAdmitted (f h)
-    && (ltb (f h .marks) 16
-    && (ltb (f h .level) levels
-    && (eqb (frameNumber b x h % size (f h .level)) 0
-    && (leb (h + size (f h .level)) (past b x) && all (λ q. isBlank (f q)) (range (h + 1) (size (f h .level) - 1))))))
+    && (ltb (f h .marks) namedMarks
+    && (ltb (levelIn (f h .level)) levels
+    && (eqb (frameNumber b x h % size (levelIn (f h .level))) 0
+    && (leb (h + size (levelIn (f h .level))) (past b x) && all (λ q. isBlank (f q)) (range (h + 1) (size (levelIn (f h .level)) - 1))))))
 
 unfoldable pub tiled : Board → Records → List Placed → Bool
 tiled b f xs = all (λ x. all (isHead b f x) (heads b f x)) xs
@@ -130,7 +146,7 @@ heldAlone b f xs = all (λ x. all (λ h. aloneIfHeld (f h)) (heads b f x)) xs
 
 -- the list that an unheld head belongs on
 abbrev pub classOf : Record → ℕ
-classOf r = r .level * 2 + r .marks / 4 % 2
+classOf r = levelIn (r .level) * 2 + zeroedBit (r .marks)
 
 -- the number x names an unheld frame of the region and the list k, whose earlier neighbour is prev
 abbrev pub isNode : Board → Records → Placed → ℕ → ℕ → ℕ → Bool
@@ -175,7 +191,7 @@ tablesOf b x = tablePages b (x .row .pages)
 
 -- the pages of a head where it is held, with KERNEL or without as asked
 abbrev pub heldAs : Bool → Record → ℕ
-heldAs kernel r = cond (isHeldRecord r && eqb (r .marks / 8 % 2) (bit kernel)) (pagesOfRecord r) 0
+heldAs kernel r = cond (isHeldRecord r && eqb (kernelBit (r .marks)) (bit kernel)) (pagesOfRecord r) 0
 
 unfoldable pub heldPages : Board → Records → Bool → List Placed → ℕ
 heldPages b f kernel xs = sum (λ x. sum (λ h. heldAs kernel (f h)) (heads b f x)) xs
@@ -205,7 +221,7 @@ abbrev pub queueWithin : (queued room : ℕ) → Bool
 queueWithin queued room = leb queued room
 
 abbrev pub passWithin : Board → Pass → Bool
-passWithin b p = leb (p .rounds) (b .maxRounds + 1) && leb (p .freed) (b .perRound * p .rounds)
+passWithin b p = leb (p .rounds) (b .«max_rounds» + 1) && leb (p .freed) (b .«per_round» * p .rounds)
 
 -- ---- the sheet
 

@@ -121,8 +121,8 @@ granted b pages flags s a =
     ]
 
 -- 55, try_alloc_frame, at the level that find_level found; 01: "Tracker counts follow the frame, not the layout's size"
-unfoldable pub tryAllocFrame : Board → ℕ → FrameAllocFlags → Store → Granted
-tryAllocFrame b l flags s = granted b (size l) flags s (doAlloc l (flags .zeroed) (s .allocator))
+unfoldable pub tryAllocFrame : Board → (ℕ → Bool) → ℕ → FrameAllocFlags → Store → Granted
+tryAllocFrame b among l flags s = granted b (size l) flags s (doAlloc among l (flags .zeroed) (s .allocator))
 
 -- frame.rs 753, split_frame
 unfoldable pub splitFrame : Store → ℕ → Store
@@ -132,16 +132,16 @@ abbrev pub thenSplitFrame : Granted → Granted
 thenSplitFrame g = elim (g .page) [ some p ↦ record { store = splitFrame (g .store) p; page = some p } | none ↦ g ]
 
 -- 98, try_alloc_split_frames
-unfoldable pub tryAllocSplitFrames : Board → ℕ → FrameAllocFlags → Store → Granted
-tryAllocSplitFrames b l flags s = thenSplitFrame (tryAllocFrame b l flags s)
+unfoldable pub tryAllocSplitFrames : Board → (ℕ → Bool) → ℕ → FrameAllocFlags → Store → Granted
+tryAllocSplitFrames b among l flags s = thenSplitFrame (tryAllocFrame b among l flags s)
 
 -- 173, page_cond
 abbrev pub pageCond : Board → Counters → Bool
-pageCond b c = leb (c .idle / b .idleDivisor) (c .«page_data»)
+pageCond b c = leb (c .idle / b .«idle_divisor») (c .«page_data»)
 
 -- 166, kern_cond
 abbrev pub kernCond : Board → Counters → Bool
-kernCond b c = ltb (c .idle) (b .kernelMultiple * c .«kernel_used»)
+kernCond b c = ltb (c .idle) (b .«kernel_multiple» * c .«kernel_used»)
 
 -- 180, should_reclaim: the store is low
 abbrev pub shouldReclaim : Board → Counters → Bool
@@ -214,9 +214,9 @@ worked p n = record { rounds = p .rounds + 1; freed = p .freed + n }
 
 -- 442: "rounds > MAX_RECLAIM_ROUNDS", of the rounds before this one
 abbrev pub afterRound : Board → Pass → Reclaimed → Reported
-afterRound b p r = cond (ltb (b .maxRounds) (p .rounds)) (endPass (r .store) (worked p (r .freed))) (goOn (r .store) (worked p (r .freed)))
+afterRound b p r = cond (ltb (b .«max_rounds») (p .rounds)) (endPass (r .store) (worked p (r .freed))) (goOn (r .store) (worked p (r .freed)))
 
 -- 419 to 457: one turn of the loop; a call that finds the store not low ends the pass
 unfoldable pub reclaimRound : Board → Store → Reported
 reclaimRound b s =
-    cond (shouldReclaim b (s .counters)) (afterRound b (s .pass) (reclaimUpTo b (b .perRound) s)) (endPass s (s .pass))
+    cond (shouldReclaim b (s .counters)) (afterRound b (s .pass) (reclaimUpTo b (b .«per_round») s)) (endPass s (s .pass))

@@ -48,23 +48,68 @@ wordBytes n = n % 256 ∷ n / 256 % 256 ∷ n / 65536 % 256 ∷ n / 16777216 % 2
 abbrev pub recordBytes : Record → List ℕ
 recordBytes r = wordBytes (r .marks) ++ (wordBytes (r .level) ++ (wordBytes (r .earlier) ++ wordBytes (r .later)))
 
--- "The marks are 1 ADMITTED, 2 ALLOCATED, 4 ZEROED, 8 KERNEL"
+-- ---- what the first two numbers of a record say, taken apart and put together by the names of this part and nowhere else: "The marks are 1 ADMITTED,
+-- 2 ALLOCATED, 4 ZEROED, 8 KERNEL"
+
+abbrev pub admittedBit : ℕ → ℕ
+admittedBit marks = marks % 2
+
+abbrev pub allocatedBit : ℕ → ℕ
+allocatedBit marks = marks / 2 % 2
+
+abbrev pub zeroedBit : ℕ → ℕ
+zeroedBit marks = marks / 4 % 2
+
+abbrev pub kernelBit : ℕ → ℕ
+kernelBit marks = marks / 8 % 2
+
+abbrev pub admittedIn : ℕ → Bool
+admittedIn marks = eqb (admittedBit marks) 1
+
+abbrev pub allocatedIn : ℕ → Bool
+allocatedIn marks = eqb (allocatedBit marks) 1
+
+abbrev pub zeroedIn : ℕ → Bool
+zeroedIn marks = eqb (zeroedBit marks) 1
+
+abbrev pub kernelIn : ℕ → Bool
+kernelIn marks = eqb (kernelBit marks) 1
+
+-- marks below this have no bits but those named
+abbrev pub namedMarks : ℕ
+namedMarks = 16
+
+abbrev pub marksWith : (allocated zeroed kernel : Bool) → ℕ
+marksWith allocated zeroed kernel = 1 + 2 * bit allocated + 4 * bit zeroed + 8 * bit kernel
+
+-- the marks of an unheld frame, once it is held
+abbrev pub allocatedMarks : ℕ → ℕ
+allocatedMarks marks = marks + 2
+
+-- the level that the second number has
+abbrev pub levelIn : ℕ → ℕ
+levelIn word = word
+
+-- the second number of a frame of the level
+abbrev pub levelWord : ℕ → ℕ
+levelWord level = level
+
 abbrev pub marksOf : Option Frame → ℕ
 marksOf none = 0
-marksOf (some f) = 1 + 2 * bit (f .allocated) + 4 * bit (f .zeroed) + 8 * bit (f .kernel)
+marksOf (some f) = marksWith (f .allocated) (f .zeroed) (f .kernel)
 
 abbrev pub levelOf : Option Frame → ℕ
 levelOf none = 0
-levelOf (some f) = f .level
+levelOf (some f) = levelWord (f .level)
 
 abbrev pub isAdmitted : Record → Bool
-isAdmitted r = eqb (r .marks % 2) 1
+isAdmitted r = admittedIn (r .marks)
 
 -- the frame that a record has
 unfoldable pub frameOf : Record → Option Frame
 frameOf r =
     cond (isAdmitted r)
-    (some (record { level = r .level; allocated = eqb (r .marks / 2 % 2) 1; zeroed = eqb (r .marks / 4 % 2) 1; kernel = eqb (r .marks / 8 % 2) 1 }))
+    (some (record { level = levelIn (r .level); allocated = allocatedIn (r .marks); zeroed = zeroedIn (r .marks); kernel = kernelIn (r .marks) }))
     none
 
 -- ---- lists in the records: "A neighbour is 0 for none, else its page number plus 1"

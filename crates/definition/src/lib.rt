@@ -1,6 +1,38 @@
-// The plain types that the definitions in specs/ and the code share: the boot map, the refusals, the records, the rows and the counters.
-// Nothing here computes; what the types mean stands in specs/.
+// The plain types that the definitions in specs/ and the code share: the numbers of a board, the boot map, the refusals, the records, the rows and the counters.
+// Nothing here computes but `standard`; what the types mean stands in specs/.
 use address::PhysAddr;
+ghost use mathlib.Core.Path.{_≡_};
+ghost use Rattle.definition.specs.Board.{standard as «standard_def»};
+
+// The numbers that a board fixes. They are kept in no other place of the code: what reads one is given a board.
+pub struct Board {
+    // arch/aarch64/memory/frame.rs 5, FRAME_SIZE: the bytes of a page
+    pub page: usize,
+    // frame.rs 284, size_of::<Frame>(): the table bytes that a page costs
+    pub record_bytes: usize,
+    // tracker.rs 169: memory is low where the idle pages are fewer than this many times the kernel's
+    pub kernel_multiple: usize,
+    // tracker.rs 176: or where the page data reach the idle pages divided by this
+    pub idle_divisor: usize,
+    // tracker.rs 415, MAX_PER_ROUND
+    pub per_round: usize,
+    // tracker.rs 414, MAX_RECLAIM_ROUNDS
+    pub max_rounds: usize,
+}
+
+// The numbers of the Rust.
+pub fn standard() -> Board
+    ensures { λ r. ⌜ r ≡ «standard_def» ⌝ }
+{
+    Board {
+        page: 4096,
+        record_bytes: 32,
+        kernel_multiple: 2,
+        idle_divisor: 2,
+        per_round: 100,
+        max_rounds: 1000,
+    }
+}
 
 // memory/mod.rs 21: what an entry of the boot map is for.
 pub enum MemoryRegionKind {

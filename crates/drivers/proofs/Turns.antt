@@ -4,13 +4,14 @@ use Prim.Native.Nat.{ℕ, suc, _+_, _-_, _<_}
 use mathlib.Core.Path.{_≡_, refl}
 use native.Mathlib.Omega.{arith}
 use borrow.Author.Tests.{eq-eqb, ne-eqb}
+use Rattle.definition.specs.Board.{standard}
 use Rattle.definition.specs.Calls.{Call}
 use Rattle.definition.specs.World.{World}
 use Rattle.exam.specs.declared.Answer.{Answer}
 use Rattle.exam.specs.Promise.{Leaves}
 use Rattle.drivers.specs.Driving.{Driven, Drives, Turn, turn, turns}
 
-pub leaves-turn : {w : World} {c : Call} {v : World} {y : Answer} → Leaves w c v y → turn c w ≡ record { world = v; answer = y }
+pub leaves-turn : {w : World} {c : Call} {v : World} {y : Answer} → Leaves standard w c v y → turn c w ≡ record { world = v; answer = y }
 unfolding turn
 leaves-turn L = rw (L .world, L .answer) refl
 

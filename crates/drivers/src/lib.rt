@@ -36,7 +36,17 @@ fn booted(
         length: bytes,
         kind: MemoryRegionKind::UsableRam,
     };
-    let outcome = boot::boot(boot::started(0), words, map, 1, records, memory, queue);
+    let board = definition::standard();
+    let outcome = boot::boot(
+        board,
+        boot::started(0),
+        words,
+        map,
+        1,
+        records,
+        memory,
+        queue,
+    );
     outcome.counters
 }
 

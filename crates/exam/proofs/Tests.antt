@@ -12,7 +12,7 @@ use Rattle.definition.specs.declared.Record.{Record}
 use Rattle.definition.specs.declared.Row.{Row}
 use Rattle.definition.specs.declared.Refusal.the-variants.{Outside, NoFrameStart, NotHeld, PastTheEnd}
 use Rattle.definition.specs.Basics.{isSome}
-use Rattle.definition.specs.Board.{standard}
+use Rattle.definition.specs.Board.{Board}
 use Rattle.definition.specs.Frame.{Frame, isAllocated, size}
 use Rattle.definition.specs.Contents.{sizeOf}
 use Rattle.definition.specs.Refusal.{_when_, lowest}
@@ -60,90 +60,92 @@ admitted-frame : (r : Record) → eqb (r .marks % 2) 1 ≡ true
 unfolding frameOf
 admitted-frame r e = rw e refl
 
-size-frame : (r : Record) → standard .page * sizeOf (frameOf r) ≡ cond (eqb (r .marks % 2) 1) (standard .page * size (r .level)) 0
-unfolding frameOf
-size-frame r = go (eqb (r .marks % 2) 1)
-  where
-    go : (b : Bool) → standard .page * sizeOf (cond b (some (of-record r)) none) ≡ cond b (standard .page * size (r .level)) 0
-    go true = refl
-    go false = omega arith
+module _ (board : Board) where
+  size-frame : (r : Record) → board .page * sizeOf (frameOf r) ≡ cond (eqb (r .marks % 2) 1) (board .page * size (r .level)) 0
+  unfolding frameOf
+  size-frame r = go (eqb (r .marks % 2) 1)
+    where
+      go : (b : Bool) → board .page * sizeOf (cond b (some (of-record r)) none) ≡ cond b (board .page * size (r .level)) 0
+      go true = refl
+      go false = omega arith
 
 -- ---- the refusal
 
-module _ {f : ℕ → Record} {rows : List Row} (s : Store) (a off len : ℕ) (r : Seen) (S : Sees standard f rows (a / 4096) (s .allocator) r) where
-  seen-marks : r .managed ≡ true → s .allocator .frames (a / 4096) ≡ frameOf (record { marks = r .marks; level = r .level; earlier = f (r .spot .page) .earlier; later = f (r .spot .page) .later })
-  seen-marks m = S .frame m ∙ rw (S .marks m, S .level m) refl
+module _ {board : Board} where
+  module _ {f : ℕ → Record} {rows : List Row} (s : Store) (a off len : ℕ) (r : Seen) (S : Sees board f rows (a / board .page) (s .allocator) r) where
+    seen-marks : r .managed ≡ true → s .allocator .frames (a / board .page) ≡ frameOf (record { marks = r .marks; level = r .level; earlier = f (r .spot .page) .earlier; later = f (r .spot .page) .later })
+    seen-marks m = S .frame m ∙ rw (S .marks m, S .level m) refl
 
-  pub bytes-seen : r .managed ≡ true → standard .page * sizeOf (s .allocator .frames (a / 4096)) ≡ bytesIf r
-  bytes-seen m = rw (seen-marks m) (size-frame (record { marks = r .marks; level = r .level; earlier = f (r .spot .page) .earlier; later = f (r .spot .page) .later }))
+    pub bytes-seen : r .managed ≡ true → board .page * sizeOf (s .allocator .frames (a / board .page)) ≡ bytesIf board r
+    bytes-seen m = rw (seen-marks m) (size-frame board (record { marks = r .marks; level = r .level; earlier = f (r .spot .page) .earlier; later = f (r .spot .page) .later }))
 
-  starts-seen : r .managed ≡ true → isSome (s .allocator .frames (a / 4096)) ≡ eqb (r .marks % 2) 1
-  starts-seen m = rw (seen-marks m) (some-frame (record { marks = r .marks; level = r .level; earlier = f (r .spot .page) .earlier; later = f (r .spot .page) .later }))
+    starts-seen : r .managed ≡ true → isSome (s .allocator .frames (a / board .page)) ≡ eqb (r .marks % 2) 1
+    starts-seen m = rw (seen-marks m) (some-frame (record { marks = r .marks; level = r .level; earlier = f (r .spot .page) .earlier; later = f (r .spot .page) .later }))
 
-  held-seen : r .managed ≡ true → eqb (r .marks % 2) 1 ≡ true → isAllocated (s .allocator .frames (a / 4096)) ≡ eqb (r .marks / 2 % 2) 1
-  held-seen m e = rw (seen-marks m, admitted-frame (record { marks = r .marks; level = r .level; earlier = f (r .spot .page) .earlier; later = f (r .spot .page) .later }) e) refl
+    held-seen : r .managed ≡ true → eqb (r .marks % 2) 1 ≡ true → isAllocated (s .allocator .frames (a / board .page)) ≡ eqb (r .marks / 2 % 2) 1
+    held-seen m e = rw (seen-marks m, admitted-frame (record { marks = r .marks; level = r .level; earlier = f (r .spot .page) .earlier; later = f (r .spot .page) .later }) e) refl
 
-  abbrev rest : ℕ
-  rest = cond (not (startsFrame standard s a)) 12 (cond (not (isHeld standard s a)) 13 (cond (leavesFrame standard s (rangeOf a off len)) 14 0))
+    abbrev rest : ℕ
+    rest = cond (not (startsFrame board s a)) 12 (cond (not (isHeld board s a)) 13 (cond (leavesFrame board s (rangeOf a off len)) 14 0))
 
-  abbrev by-record : ℕ
-  by-record =
-      cond (not (eqb (a % 4096) 0 && eqb (r .marks % 2) 1)) 12 (cond (not (eqb (r .marks / 2 % 2) 1)) 13 (cond (ltb (bytesIf r) (off + len)) 14 0))
+    abbrev by-record : ℕ
+    by-record =
+        cond (not (eqb (a % board .page) 0 && eqb (r .marks % 2) 1)) 12 (cond (not (eqb (r .marks / 2 % 2) 1)) 13 (cond (ltb (bytesIf board r) (off + len)) 14 0))
 
-  admitted : r .managed ≡ true → (b c : Bool) → eqb (a % 4096) 0 ≡ b → eqb (r .marks % 2) 1 ≡ c → rest ≡ by-record
-  admitted m false c e d = rw (starts-seen m, e) refl
-  admitted m true false e d = rw (starts-seen m, e, d) refl
-  admitted m true true e d = rw (bytes-seen m, starts-seen m, held-seen m d, e, d) refl
+    admitted : r .managed ≡ true → (b c : Bool) → eqb (a % board .page) 0 ≡ b → eqb (r .marks % 2) 1 ≡ c → rest ≡ by-record
+    admitted m false c e d = rw (starts-seen m, e) refl
+    admitted m true false e d = rw (starts-seen m, e, d) refl
+    admitted m true true e d = rw (bytes-seen m, starts-seen m, held-seen m d, e, d) refl
 
-  managed-or : (m : Bool) → r .managed ≡ m → cond (not (r .managed)) 11 rest ≡ cond (not (r .managed)) 11 by-record
-  managed-or false m = ap (λ (t : Bool). cond (not t) 11 rest) m ∙ ap (λ (t : Bool). cond (not t) 11 by-record) (sym m)
-  managed-or true m = ap (λ (t : ℕ). cond (not (r .managed)) 11 t) (admitted m (eqb (a % 4096) 0) (eqb (r .marks % 2) 1) refl refl)
+    managed-or : (m : Bool) → r .managed ≡ m → cond (not (r .managed)) 11 rest ≡ cond (not (r .managed)) 11 by-record
+    managed-or false m = ap (λ (t : Bool). cond (not t) 11 rest) m ∙ ap (λ (t : Bool). cond (not t) 11 by-record) (sym m)
+    managed-or true m = ap (λ (t : ℕ). cond (not (r .managed)) 11 t) (admitted m (eqb (a % board .page) 0) (eqb (r .marks % 2) 1) refl refl)
 
-  pub frame-seen : frameRefusal standard s (rangeOf a off len) ≡ seenRefusal r a off len
-  frame-seen =
-      by-tests (isManaged standard (s .allocator .regions) (a / 4096)) (startsFrame standard s a) (isHeld standard s a) (leavesFrame standard s (rangeOf a off len))
-      ∙ ap (λ (t : Bool). cond (not t) 11 rest) (sym (S .managed))
-      ∙ managed-or (r .managed) refl
+    pub frame-seen : frameRefusal board s (rangeOf a off len) ≡ seenRefusal board r a off len
+    frame-seen =
+        by-tests (isManaged board (s .allocator .regions) (a / board .page)) (startsFrame board s a) (isHeld board s a) (leavesFrame board s (rangeOf a off len))
+        ∙ ap (λ (t : Bool). cond (not t) 11 rest) (sym (S .managed))
+        ∙ managed-or (r .managed) refl
 
-  -- where nothing is refused, a held frame starts there and the range lies in it
-  module _ (leveled : Leveled r) (n : ℕ) (e : n ≡ seenRefusal r a off len) (z : n ≡ 0) where
-    abbrev Good : Bool → Bool → Bool → Bool → Type 0
-    Good m b c d = (m ≡ true) × (b ≡ true) × (c ≡ true) × (d ≡ false)
+    -- where nothing is refused, a held frame starts there and the range lies in it
+    module _ (leveled : Leveled r) (n : ℕ) (e : n ≡ seenRefusal board r a off len) (z : n ≡ 0) where
+      abbrev Good : Bool → Bool → Bool → Bool → Type 0
+      Good m b c d = (m ≡ true) × (b ≡ true) × (c ≡ true) × (d ≡ false)
 
-    all-good : (m b c d : Bool) → _≡_ {A = ℕ} 0 (cond (not m) 11 (cond (not b) 12 (cond (not c) 13 (cond d 14 0)))) → Good m b c d
-    all-good false b c d h = absurd (omega arith)
-    all-good true false c d h = absurd (omega arith)
-    all-good true true false d h = absurd (omega arith)
-    all-good true true true true h = absurd (omega arith)
-    all-good true true true false h = (refl, refl, refl, refl)
+      all-good : (m b c d : Bool) → _≡_ {A = ℕ} 0 (cond (not m) 11 (cond (not b) 12 (cond (not c) 13 (cond d 14 0)))) → Good m b c d
+      all-good false b c d h = absurd (omega arith)
+      all-good true false c d h = absurd (omega arith)
+      all-good true true false d h = absurd (omega arith)
+      all-good true true true true h = absurd (omega arith)
+      all-good true true true false h = (refl, refl, refl, refl)
 
-    tests : Good (r .managed) (eqb (a % 4096) 0 && eqb (r .marks % 2) 1) (eqb (r .marks / 2 % 2) 1) (ltb (bytesIf r) (off + len))
-    tests = all-good (r .managed) (eqb (a % 4096) 0 && eqb (r .marks % 2) 1) (eqb (r .marks / 2 % 2) 1) (ltb (bytesIf r) (off + len)) (sym z ∙ e)
+      tests : Good (r .managed) (eqb (a % board .page) 0 && eqb (r .marks % 2) 1) (eqb (r .marks / 2 % 2) 1) (ltb (bytesIf board r) (off + len))
+      tests = all-good (r .managed) (eqb (a % board .page) 0 && eqb (r .marks % 2) 1) (eqb (r .marks / 2 % 2) 1) (ltb (bytesIf board r) (off + len)) (sym z ∙ e)
 
-    pub seen-managed : r .managed ≡ true
-    seen-managed = tests .0
+      pub seen-managed : r .managed ≡ true
+      seen-managed = tests .0
 
-    pub seen-edge : a % 4096 ≡ 0
-    seen-edge = eqb-true (a % 4096) 0 (and-left _ _ (tests .1))
+      pub seen-edge : a % board .page ≡ 0
+      seen-edge = eqb-true (a % board .page) 0 (and-left _ _ (tests .1))
 
-    pub seen-admitted : r .marks % 2 ≡ 1
-    seen-admitted = eqb-true (r .marks % 2) 1 (and-right (eqb (a % 4096) 0) _ (tests .1))
+      pub seen-admitted : r .marks % 2 ≡ 1
+      seen-admitted = eqb-true (r .marks % 2) 1 (and-right (eqb (a % board .page) 0) _ (tests .1))
 
-    pub seen-bytes : bytesIf r ≡ standard .page * size (r .level)
-    seen-bytes = rw (and-right (eqb (a % 4096) 0) _ (tests .1)) refl
+      pub seen-bytes : bytesIf board r ≡ board .page * size (r .level)
+      seen-bytes = rw (and-right (eqb (a % board .page) 0) _ (tests .1)) refl
 
-    pub seen-range : off + len ≤ standard .page * size (r .level)
-    seen-range = omega (arith, ltb-false (bytesIf r) (off + len) (tests .3), seen-bytes)
+      pub seen-range : off + len ≤ board .page * size (r .level)
+      seen-range = omega (arith, ltb-false (bytesIf board r) (off + len) (tests .3), seen-bytes)
 
-    pub seen-held : HeldSeen f rows r
-    seen-held =
-        let h = sees-held S seen-managed seen-admitted (eqb-true (r .marks / 2 % 2) 1 (tests .2)) in
-        record { inside = h .0; held = h .1; leveled = leveled seen-managed seen-admitted; marks = S .marks seen-managed; level = S .level seen-managed }
+      pub seen-held : HeldSeen board f rows r
+      seen-held =
+          let h = sees-held S seen-managed seen-admitted (eqb-true (r .marks / 2 % 2) 1 (tests .2)) in
+          record { inside = h .0; held = h .1; leveled = leveled seen-managed seen-admitted; marks = S .marks seen-managed; level = S .level seen-managed }
 
--- the frames of a sane table have one of the three levels
-pub sees-leveled : {f : ℕ → Record} {n p : ℕ} {rows : List Row} {a : PhysicalFrameAllocator} {r : Seen} → Sane standard f n rows → Sees standard f rows p a r → Leveled r
-unfolding stateOf
-sees-leveled {f = f} {rows = rows} {r = r} N S m d =
-    let G = spot-good N (sees-in S m) in
-    let e : frameOf (f (r .spot .page)) ≡ some (of-record (f (r .spot .page))) = admitted-frame (f (r .spot .page)) (eq-eqb _ 1 (sym (ap (λ (x : ℕ). x % 2) (S .marks m)) ∙ d)) in
-    omega (arith, S .level m, G .whole .tile (r .spot .page) (of-record (f (r .spot .page))) (S .spot m .inside) e .level)
+  -- the frames of a sane table have one of the three levels
+  pub sees-leveled : {f : ℕ → Record} {n p : ℕ} {rows : List Row} {a : PhysicalFrameAllocator} {r : Seen} → Sane board f n rows → Sees board f rows p a r → Leveled r
+  unfolding stateOf
+  sees-leveled {f = f} {rows = rows} {r = r} N S m d =
+      let G = spot-good N (sees-in S m) in
+      let e : frameOf (f (r .spot .page)) ≡ some (of-record (f (r .spot .page))) = admitted-frame (f (r .spot .page)) (eq-eqb _ 1 (sym (ap (λ (x : ℕ). x % 2) (S .marks m)) ∙ d)) in
+      omega (arith, S .level m, G .whole .tile (r .spot .page) (of-record (f (r .spot .page))) (S .spot m .inside) e .level)

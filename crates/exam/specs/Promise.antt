@@ -10,7 +10,7 @@ use Rattle.definition.specs.declared.Record.{Record}
 use Rattle.definition.specs.declared.Row.{Row}
 use Rattle.definition.specs.declared.Counters.{Counters}
 use Rattle.definition.specs.declared.Pass.{Pass}
-use Rattle.definition.specs.Board.{standard}
+use Rattle.definition.specs.Board.{Board}
 use Rattle.definition.specs.Frame.{size}
 use Rattle.definition.specs.Allocator.{PhysicalFrameAllocator}
 use Rattle.definition.specs.Refusal.{numberOf}
@@ -64,56 +64,57 @@ pub record Outcome : Type 0 where
   pub state : State
   pub answer : Answer
 
-pub record Leaves (w : World) (c : Call) (v : World) (y : Answer) : Type 0 where
-  pub world : call standard w c .world ≡ v
-  pub answer : told (call standard w c .answer) ≡ y
-
 -- ---- the tests of a call
 
--- the audit's answer is the sheet's, whatever the bytes of the memory and the places of the queue
-abbrev pub Tests : State → List ℕ → (memoryLen queueLen : ℕ) → Bool → Type 0
-Tests s records memoryLen queueLen r =
-    (memory queue : List ℕ) → length memory ≡ memoryLen → length queue ≡ queueLen → r ≡ sound standard (worldOf s records memory queue)
-
 -- the frame of a record has one of the three levels
-abbrev pub Fit : Seen → Type 0
-Fit r = r .marks % 2 ≡ 1 → r .level < 3
+abbrev pub LevelKnown : Seen → Type 0
+LevelKnown r = r .marks % 2 ≡ 1 → r .level < 3
 
 abbrev pub Leveled : Seen → Type 0
-Leveled r = r .managed ≡ true → Fit r
+Leveled r = r .managed ≡ true → LevelKnown r
 
--- the bytes of the frame that starts at a page, 0 where none does
-abbrev pub bytesIf : Seen → ℕ
-bytesIf r = cond (eqb (r .marks % 2) 1) (standard .page * size (r .level)) 0
+module _ (board : Board) where
+  pub record Leaves (w : World) (c : Call) (v : World) (y : Answer) : Type 0 where
+    pub world : call board w c .world ≡ v
+    pub answer : told (call board w c .answer) ≡ y
 
--- 11 to 14 of a frame that must be held, by what was seen at the address a
-abbrev pub seenRefusal : Seen → (a off len : ℕ) → ℕ
-seenRefusal r a off len =
-    cond (not (r .managed)) 11
-    (cond (not (eqb (a % 4096) 0 && eqb (r .marks % 2) 1)) 12
-    (cond (not (eqb (r .marks / 2 % 2) 1)) 13 (cond (ltb (bytesIf r) (off + len)) 14 0)))
+  -- the audit's answer is the sheet's, whatever the bytes of the memory and the places of the queue
+  abbrev pub Tests : State → List ℕ → (memoryLen queueLen : ℕ) → Bool → Type 0
+  Tests s records memoryLen queueLen r =
+      (memory queue : List ℕ) → length memory ≡ memoryLen → length queue ≡ queueLen → r ≡ sound board (worldOf s records memory queue)
 
--- what was found of a range: its refusal, and what stands at its address, for every allocator that the table stands for
-pub record Looks (f : ℕ → Record) (n : ℕ) (rows : List Row) (a off len : ℕ) (r : Exam) : Type 0 where
-  pub number : r .number ≡ seenRefusal (r .seen) a off len
-  pub leveled : Leveled (r .seen)
-  pub sees : (x : PhysicalFrameAllocator) → Table standard f n rows x → Sees standard f rows (a / 4096) x (r .seen)
+  -- the bytes of the frame that starts at a page, 0 where none does
+  abbrev pub bytesIf : Seen → ℕ
+  bytesIf r = cond (eqb (r .marks % 2) 1) (board .page * size (r .level)) 0
 
--- the same with the audit before it: 6 on a torn world
-pub record Examined (w : World) (a off len : ℕ) (r : Exam) : Type 0 where
-  pub torn : sound standard w ≡ false → r .number ≡ 6
-  pub number : sound standard w ≡ true → r .number ≡ frameRefusal standard (decode standard w) (rangeOf a off len)
-  pub sees : sound standard w ≡ true → Sees standard (recordAt (w .records)) (w .rows) (a / 4096) (decode standard w .allocator) (r .seen)
-  pub leveled : sound standard w ≡ true → Leveled (r .seen)
+  -- 11 to 14 of a frame that must be held, by what was seen at the address a
+  abbrev pub seenRefusal : Seen → (a off len : ℕ) → ℕ
+  seenRefusal r a off len =
+      cond (not (r .managed)) 11
+      (cond (not (eqb (a % board .page) 0 && eqb (r .marks % 2) 1)) 12
+      (cond (not (eqb (r .marks / 2 % 2) 1)) 13 (cond (ltb (bytesIf r) (off + len)) 14 0)))
 
-abbrev pub Exams : State → List ℕ → (memoryLen queueLen a off len : ℕ) → Exam → Type 0
-Exams s records memoryLen queueLen a off len r =
-    (memory queue : List ℕ) → length memory ≡ memoryLen → length queue ≡ queueLen → Examined (worldOf s records memory queue) a off len r
+  -- what was found of a range: its refusal, and what stands at its address, for every allocator that the table stands for
+  pub record Looks (f : ℕ → Record) (n : ℕ) (rows : List Row) (a off len : ℕ) (r : Exam) : Type 0 where
+    pub number : r .number ≡ seenRefusal (r .seen) a off len
+    pub leveled : Leveled (r .seen)
+    pub sees : (x : PhysicalFrameAllocator) → Table board f n rows x → Sees board f rows (a / board .page) x (r .seen)
 
--- a held frame was seen, and its record is the one that was read
-pub record HeldSeen (f : ℕ → Record) (rows : List Row) (r : Seen) : Type 0 where
-  pub inside : InRows standard rows (r .spot)
-  pub held : HeldAt standard f rows (r .spot)
-  pub leveled : r .level < 3
-  pub marks : r .marks ≡ f (r .spot .page) .marks
-  pub level : r .level ≡ f (r .spot .page) .level
+  -- the same with the audit before it: 6 on a torn world
+  pub record Examined (w : World) (a off len : ℕ) (r : Exam) : Type 0 where
+    pub torn : sound board w ≡ false → r .number ≡ 6
+    pub number : sound board w ≡ true → r .number ≡ frameRefusal board (decode board w) (rangeOf a off len)
+    pub sees : sound board w ≡ true → Sees board (recordAt (w .records)) (w .rows) (a / board .page) (decode board w .allocator) (r .seen)
+    pub leveled : sound board w ≡ true → Leveled (r .seen)
+
+  abbrev pub Exams : State → List ℕ → (memoryLen queueLen a off len : ℕ) → Exam → Type 0
+  Exams s records memoryLen queueLen a off len r =
+      (memory queue : List ℕ) → length memory ≡ memoryLen → length queue ≡ queueLen → Examined (worldOf s records memory queue) a off len r
+
+  -- a held frame was seen, and its record is the one that was read
+  pub record HeldSeen (f : ℕ → Record) (rows : List Row) (r : Seen) : Type 0 where
+    pub inside : InRows board rows (r .spot)
+    pub held : HeldAt board f rows (r .spot)
+    pub leveled : r .level < 3
+    pub marks : r .marks ≡ f (r .spot .page) .marks
+    pub level : r .level ≡ f (r .spot .page) .level

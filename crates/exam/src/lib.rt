@@ -2,20 +2,21 @@
 // and is given the counters. It promises `Leaves`: what it leaves and answers is definition's `call` of what it was given, where there are 92 words or more.
 use address::PhysAddr;
 use allocator::Seen;
+use definition::Board;
 use definition::Counters;
 ghost use mathlib.Core.Path.{_≡_};
-ghost use Prim.Native.Nat.{ℕ, _+_, _/_, _%_, _<_, _≤_, _^_};
+ghost use Prim.Native.Nat.{ℕ, _+_, _*_, _/_, _%_, _<_, _≤_, _^_};
 ghost use lib.ListN.{length};
-ghost use Rattle.definition.specs.Board.{standard};
+ghost use Rattle.definition.specs.Board.{Fit};
 ghost use Rattle.definition.specs.World.{recordAt};
 ghost use Rattle.record.specs.Records.{pagesIn};
-ghost use Rattle.words.specs.Words.{rowsIn};
+ghost use Rattle.words.specs.Words.{boardIn, rowsIn};
 ghost use Rattle.world.specs.Refusals.{lower as «lower_def»};
-ghost use Rattle.world.specs.Tables.{Sane};
+ghost use Rattle.allocator.specs.Spots.{SaneIn};
 ghost use Rattle.exam.specs.Promise.{
   stateWith,
   Tests,
-  Fit,
+  LevelKnown,
   Leveled,
   bytesIf,
   seenRefusal,
@@ -66,32 +67,34 @@ pub fn is_sound(
     queue_len: usize,
 ) -> bool
     requires { ⌜ 92 ≤ length (now words) ⌝ }
-    ensures { λ r. ⌜ Tests (stateWith counters (now (words .entry))) (now (records .entry)) «memory_len» «queue_len» r ⌝ }
+    ensures { λ r. ⌜ Tests (boardIn (now (words .entry))) (stateWith counters (now (words .entry))) (now (records .entry)) «memory_len» «queue_len» r ⌝ }
 {
     audit::audit(counters, words, records, memory_len, queue_len)
 }
 
 // The bytes of the frame that starts at a page that was seen, 0 where none does.
-pub fn frame_bytes(seen: Seen) -> u64
-    requires { ⌜ Fit seen ⌝ }
-    ensures { λ r. ⌜ r ≡ bytesIf seen ⌝ }
+pub fn frame_bytes(board: Board, seen: Seen) -> u64
+    requires { ⌜ Fit board ⌝ }
+    requires { ⌜ LevelKnown seen ⌝ }
+    ensures { λ r. ⌜ r ≡ bytesIf board seen ⌝ }
 {
     if !record::is_admitted(seen.marks) {
         return 0;
     }
-    let pages = level::pages_at(seen.level as usize);
-    4096 * (pages as u64)
+    let pages = level::pages_at(record::level_of(seen.level));
+    (board.page * pages) as u64
 }
 
 // Refusals 11 to 14 of a frame that must be held, with a range of it.
-fn refusal(seen: Seen, pa: PhysAddr, offset: u64, len: u64) -> u32
+fn refusal(board: Board, seen: Seen, pa: PhysAddr, offset: u64, len: u64) -> u32
+    requires { ⌜ Fit board ⌝ }
     requires { ⌜ Leveled seen ⌝ }
-    ensures { λ r. ⌜ r ≡ seenRefusal seen (pa .0) offset len ⌝ }
+    ensures { λ r. ⌜ r ≡ seenRefusal board seen (pa .0) offset len ⌝ }
 {
     if !seen.managed {
         return 11;
     }
-    if !pa.is_aligned_to(4096) {
+    if !pa.is_aligned_to(board.page as u64) {
         return 12;
     }
     if !record::is_admitted(seen.marks) {
@@ -100,7 +103,7 @@ fn refusal(seen: Seen, pa: PhysAddr, offset: u64, len: u64) -> u32
     if !record::is_allocated(seen.marks) {
         return 13;
     }
-    let bytes = frame_bytes(seen);
+    let bytes = frame_bytes(board, seen);
     if bytes < offset {
         return 14;
     }
@@ -117,12 +120,13 @@ pub struct Exam {
 }
 
 pub fn look(words: &[u64], records: &[u8], pa: PhysAddr, offset: u64, len: u64) -> Exam
-    requires { ⌜ (92 ≤ length (now words)) × Sane standard (recordAt (now records)) (pagesIn (now records)) (rowsIn (now words)) ⌝ }
-    ensures { λ r. ⌜ Looks (recordAt (now (records .entry))) (pagesIn (now (records .entry))) (rowsIn (now (words .entry))) (pa .0) offset len r ⌝ }
+    requires { ⌜ (92 ≤ length (now words)) × SaneIn (now records) (now words) ⌝ }
+    ensures { λ r. ⌜ Looks (boardIn (now (words .entry))) (recordAt (now (records .entry))) (pagesIn (now (records .entry))) (rowsIn (now (words .entry))) (pa .0) offset len r ⌝ }
 {
+    let board = words::board_in(words);
     let seen = allocator::see(words, records, pa);
     Exam {
-        number: refusal(seen, pa, offset, len),
+        number: refusal(board, seen, pa, offset, len),
         seen,
     }
 }
@@ -139,7 +143,7 @@ pub fn examine(
     len: u64,
 ) -> Exam
     requires { ⌜ 92 ≤ length (now words) ⌝ }
-    ensures { λ r. ⌜ Exams (stateWith counters (now (words .entry))) (now (records .entry)) «memory_len» «queue_len» (pa .0) offset len r ⌝ }
+    ensures { λ r. ⌜ Exams (boardIn (now (words .entry))) (stateWith counters (now (words .entry))) (now (records .entry)) «memory_len» «queue_len» (pa .0) offset len r ⌝ }
 {
     if !is_sound(counters, words, records, memory_len, queue_len) {
         return Exam {
@@ -148,6 +152,15 @@ pub fn examine(
         };
     }
     look(words, records, pa, offset, len)
+}
+
+// Where a byte of a page stands in the lent memory.
+pub fn place(words: &[u64], page: usize, offset: u64) -> usize
+    requires { ⌜ boardIn (now words) .page * page + offset < 2 ^ 64 ⌝ }
+    ensures { λ r. ⌜ r ≡ boardIn (now (words .entry)) .page * page + offset ⌝ }
+{
+    let board = words::board_in(words);
+    board.page * page + offset as usize
 }
 
 // Of two refusals the lower number, where 0 is none.

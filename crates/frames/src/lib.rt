@@ -6,12 +6,11 @@ use exam::Answer;
 use exam::Outcome;
 ghost use Prim.Native.Nat.{_≤_, _<_, _^_};
 ghost use lib.ListN.{length};
-ghost use Rattle.definition.specs.Board.{standard};
 ghost use Rattle.definition.specs.Calls.{Find, Split, Free};
 ghost use Rattle.definition.specs.World.{recordAt};
 ghost use Rattle.record.specs.Records.{pagesIn};
-ghost use Rattle.words.specs.Words.{rowsIn, Beside};
-ghost use Rattle.world.specs.Tables.{Sane};
+ghost use Rattle.words.specs.Words.{boardIn, rowsIn, Beside};
+ghost use Rattle.allocator.specs.Spots.{SaneIn};
 ghost use Rattle.exam.specs.Promise.{stateWith, worldOf, Leaves, HeldSeen};
 ghost use Rattle.frames.specs.Freeing.{Released};
 
@@ -27,7 +26,7 @@ pub fn find(
     pa: PhysAddr,
 ) -> Answer
     requires { ⌜ 92 ≤ length (now words) ⌝ }
-    ensures { λ r. ⌜ Leaves (worldOf (stateWith counters (now (words .entry))) (now (records .entry)) (now (memory .entry)) (now (queue .entry))) (Find (pa .0)) (worldOf (stateWith counters (now (words .entry))) (now (records .entry)) (now (memory .entry)) (now (queue .entry))) r ⌝ }
+    ensures { λ r. ⌜ Leaves (boardIn (now (words .entry))) (worldOf (stateWith counters (now (words .entry))) (now (records .entry)) (now (memory .entry)) (now (queue .entry))) (Find (pa .0)) (worldOf (stateWith counters (now (words .entry))) (now (records .entry)) (now (memory .entry)) (now (queue .entry))) r ⌝ }
 {
     if !exam::is_sound(counters, words, records, memory.len(), queue.len()) {
         return exam::refused(6);
@@ -36,8 +35,10 @@ pub fn find(
     if !seen.managed {
         return exam::refused(11);
     }
-    let number = pa.raw() / 4096;
-    exam::done(4096 * number, exam::frame_bytes(seen))
+    let board = words::board_in(words);
+    let page = board.page as u64;
+    let number = pa.raw() / page;
+    exam::done(page * number, exam::frame_bytes(board, seen))
 }
 
 // ---- split
@@ -52,7 +53,7 @@ pub fn split(
     pa: PhysAddr,
 ) -> Answer
     requires { ⌜ 92 ≤ length (now words) ⌝ }
-    ensures { λ r. ⌜ Leaves (worldOf (stateWith counters (now (words .entry))) (now (records .entry)) (now (memory .entry)) (now (queue .entry))) (Split (pa .0)) (worldOf (stateWith counters (now (words .entry))) (now (records .exit)) (now (memory .entry)) (now (queue .entry))) r ⌝ }
+    ensures { λ r. ⌜ Leaves (boardIn (now (words .entry))) (worldOf (stateWith counters (now (words .entry))) (now (records .entry)) (now (memory .entry)) (now (queue .entry))) (Split (pa .0)) (worldOf (stateWith counters (now (words .entry))) (now (records .exit)) (now (memory .entry)) (now (queue .entry))) r ⌝ }
 {
     let exam = exam::examine(
         counters,
@@ -69,20 +70,21 @@ pub fn split(
         return exam::refused(number);
     }
     let seen = exam.seen;
+    let board = words::board_in(words);
     allocator::split_frame(words, records, seen.spot);
-    exam::done(pa.raw(), exam::frame_bytes(seen))
+    exam::done(pa.raw(), exam::frame_bytes(board, seen))
 }
 
 // ---- free
 
 // free_frame, but for its tests: the held frame that was seen goes back on its list, and its pages are idle.
 pub fn release(counters: Counters, words: &mut [u64], records: &mut [u8], seen: Seen) -> Counters
-    requires { ⌜ (92 ≤ length (now words)) × Sane standard (recordAt (now records)) (pagesIn (now records)) (rowsIn (now words)) ⌝ }
-    requires { ⌜ HeldSeen (recordAt (now records)) (rowsIn (now words)) seen × (counters .idle < 2 ^ 63) ⌝ }
-    ensures { λ r. ⌜ Released (recordAt (now (records .entry))) (stateWith counters (now (words .entry))) seen (recordAt (now (records .exit))) (pagesIn (now (records .exit))) (stateWith r (now (words .exit))) ⌝ }
+    requires { ⌜ (92 ≤ length (now words)) × SaneIn (now records) (now words) ⌝ }
+    requires { ⌜ HeldSeen (boardIn (now words)) (recordAt (now records)) (rowsIn (now words)) seen × (counters .idle < 2 ^ 63) ⌝ }
+    ensures { λ r. ⌜ Released (boardIn (now (words .entry))) (recordAt (now (records .entry))) (stateWith counters (now (words .entry))) seen (recordAt (now (records .exit))) (pagesIn (now (records .exit))) (stateWith r (now (words .exit))) ⌝ }
     ensures { λ _. ⌜ Beside (now (words .entry)) (now (words .exit)) ⌝ }
 {
-    let pages = level::pages_at(seen.level as usize);
+    let pages = level::pages_at(record::level_of(seen.level));
     let kernel = record::is_kernel(seen.marks);
     allocator::free(words, records, seen.spot);
     tracker::count_free(counters, pages, kernel)
@@ -98,7 +100,7 @@ pub fn free(
     pa: PhysAddr,
 ) -> Outcome
     requires { ⌜ 92 ≤ length (now words) ⌝ }
-    ensures { λ r. ⌜ Leaves (worldOf (stateWith counters (now (words .entry))) (now (records .entry)) (now (memory .entry)) (now (queue .entry))) (Free (pa .0)) (worldOf (stateWith (r .counters) (now (words .exit))) (now (records .exit)) (now (memory .entry)) (now (queue .entry))) (r .answer) ⌝ }
+    ensures { λ r. ⌜ Leaves (boardIn (now (words .entry))) (worldOf (stateWith counters (now (words .entry))) (now (records .entry)) (now (memory .entry)) (now (queue .entry))) (Free (pa .0)) (worldOf (stateWith (r .counters) (now (words .exit))) (now (records .exit)) (now (memory .entry)) (now (queue .entry))) (r .answer) ⌝ }
     ensures { λ _. ⌜ Beside (now (words .entry)) (now (words .exit)) ⌝ }
 {
     let exam = exam::examine(
@@ -119,9 +121,10 @@ pub fn free(
         };
     }
     let seen = exam.seen;
+    let board = words::board_in(words);
     let next = release(counters, words, records, seen);
     Outcome {
         counters: next,
-        answer: exam::done(pa.raw(), exam::frame_bytes(seen)),
+        answer: exam::done(pa.raw(), exam::frame_bytes(board, seen)),
     }
 }

@@ -1,5 +1,7 @@
 -- What a grant makes of a table and of the memory's bytes, from what its parts promise: the search, the zeros, the marks and the count (`gives-none`, `gives-some`),
 -- and the split behind them (`gives-split`). Where a frame was found it is held, so that a later part may change it.
+use Rattle.definition.proofs.Bytes.{pages-order}
+use Rattle.definition.specs.Basics.{everywhere}
 use Prim.Native.Nat.{ℕ, _+_, _*_, _/_, _%_, _≤_, _<_}
 use mathlib.Core.Bool.{Bool, true, false, not, cond, _&&_, false≢true}
 use mathlib.Core.List.{List}
@@ -12,7 +14,7 @@ use Rattle.definition.specs.declared.Counters.{Counters}
 use Rattle.definition.specs.declared.FrameAllocFlags.{FrameAllocFlags}
 use Rattle.definition.specs.declared.Record.{Record}
 use Rattle.definition.specs.declared.Row.{Row}
-use Rattle.definition.specs.Board.{standard}
+use Rattle.definition.specs.Board.{Board}
 use Rattle.definition.specs.Boot.{managedPages, overlap}
 use Rattle.definition.specs.Contents.{filled, sizeOf}
 use Rattle.definition.specs.Frame.{Frame, isAllocated, isZeroed, size}
@@ -23,7 +25,7 @@ use Rattle.definition.specs.Torn.{regionsOf}
 use Rattle.definition.specs.World.{frameOf}
 use Rattle.definition.proofs.Basics.{upd-same}
 use Rattle.record.specs.Records.{withBytes}
-use Rattle.region.specs.Rep.{fromOf, managed, marked, stateOf}
+use Rattle.region.specs.Rep.{marked, stateOf}
 use Rattle.words.specs.Words.{RowsBeside, rowsIn}
 use Rattle.world.specs.Stands.{StandsRow, regionAt, rowAt}
 use Rattle.world.specs.Tables.{Sane, Table, Turned}
@@ -57,194 +59,190 @@ held-still : (zeroed kernel : Bool) (o : Option Frame) → isAllocated o ≡ tru
 held-still zeroed kernel none e = e
 held-still zeroed kernel (some f) e = e
 
-is-held : (f : ℕ → Record) (rows : List Row) (s : Spot) → HeldAt standard f rows s → isAllocated (frameOf (f (s .page))) ≡ true
-unfolding stateOf
-is-held f rows s H = H .held
-
-module _ {f : ℕ → Record} {n : ℕ} {rows : List Row} {s : Spot} (I : InRows standard rows s) where
-  table-frame : {a : PhysicalFrameAllocator} → Table standard f n rows a → a .frames (numberAt standard rows s) ≡ frameOf (f (s .page))
+module _ {board : Board} where
+  is-held : (f : ℕ → Record) (rows : List Row) (s : Spot) → HeldAt board f rows s → isAllocated (frameOf (f (s .page))) ≡ true
   unfolding stateOf
-  table-frame {a} T =
-      let S : StandsRow standard f n (s .base) (rowAt rows (s .index)) (a .frames) (regionAt (a .regions) (s .index))
-      = rw (I .based, ← used-row rows (s .index) (I .used)) (stands-at (T .stands) (s .index) (I .used))
-      in
-      S .same .frames (s .page) (I .inside)
+  is-held f rows s H = H .held
 
-  module _ (S : Sane standard f n rows) where
-    pub near : Near rows s
-    unfolding fromOf managed
-    near =
-        let G = spot-good S I in
-        record {
-          index = spot-index S I;
-          pages = omega (arith, G .bounded);
-          inside = I .inside;
-          ends = omega (arith, G .bounded, G .tables);
-        }
+  module _ {f : ℕ → Record} {n : ℕ} {rows : List Row} {s : Spot} (I : InRows board rows s) where
+    table-frame : {a : PhysicalFrameAllocator} → Table board f n rows a → a .frames (numberAt board rows s) ≡ frameOf (f (s .page))
+    unfolding stateOf
+    table-frame {a} T =
+        let S : StandsRow board f n (s .base) (rowAt rows (s .index)) (a .frames) (regionAt (a .regions) (s .index))
+        = rw (I .based, ← used-row rows (s .index) (I .used)) (stands-at (T .stands) (s .index) (I .used))
+        in
+        S .same .frames (s .page) (I .inside)
 
-    pub page-in : s .page < n
-    page-in = omega (arith, spot-good S I .sound .fits, I .inside .high)
+    module _ (S : Sane board f n rows) where
+      pub near : Near board rows s
+      near = record { index = spot-index S I; inside = I .inside; bounded = spot-good S I .bounded }
 
-    module _ (H : HeldAt standard f rows s) where
-      held-frame : frameOf (f (s .page)) ≡ some (frameIn (f (s .page)))
-      held-frame = held-record (f (s .page)) (is-held f rows s H)
+      pub page-in : s .page < n
+      page-in = omega (arith, spot-good S I .sound .fits, I .inside .high)
 
-      pub held-level : f (s .page) .level < 3
-      unfolding stateOf
-      held-level = spot-good S I .whole .tile (s .page) (frameIn (f (s .page))) (I .inside) held-frame .level
+      module _ (H : HeldAt board f rows s) where
+        held-frame : frameOf (f (s .page)) ≡ some (frameIn (f (s .page)))
+        held-frame = held-record (f (s .page)) (is-held f rows s H)
 
-      held-runs : Runs standard (regionsOf standard rows) (numberAt standard rows s) (s .page) (size (f (s .page) .level))
-      held-runs = frame-runs I S (frameIn (f (s .page))) held-frame
+        pub held-level : f (s .page) .level < 3
+        unfolding stateOf
+        held-level = spot-good S I .whole .tile (s .page) (frameIn (f (s .page))) (I .inside) held-frame .level
 
-      -- the frame's bytes lie among the managed ones
-      pub held-room : {long : ℕ} → standard .page * managedPages standard (regionsOf standard rows) ≤ long → 4096 * s .page + 4096 * size (f (s .page) .level) ≤ long
-      held-room h = omega (arith, runs-end standard held-runs)
+        held-runs : Runs board (regionsOf board rows) (numberAt board rows s) (s .page) (size (f (s .page) .level))
+        held-runs = frame-runs I S (frameIn (f (s .page))) held-frame
+
+        -- the frame's bytes lie among the managed ones
+        pub held-room : {long : ℕ} → board .page * managedPages board (regionsOf board rows) ≤ long → board .page * s .page + board .page * size (f (s .page) .level) ≤ long
+        held-room h = omega (arith, pages-order (board .page) (runs-end board held-runs))
 
 -- ---- its zeros
 
-module _ {rs : List AllocationRegion} (m : Memory) (bs : List ℕ) (fits : managedBytes standard rs ≤ length bs) (apart : overlap standard rs ≡ false) (same : Fronts standard rs m bs) where
-  zeros-written
-      : (zeroed : Bool) (r : Record) (o : Option Frame) (p q : ℕ) → o ≡ some (frameIn r) → Lies standard rs (4096 * p) (4096 * q) (4096 * size (r .level))
-      → Rewritten standard rs bs (cond (zeroed && not (isZeroed o)) (filled (4096 * p) (4096 * sizeOf o) 0 m) m) (zeroedBytes zeroed r q bs)
-  zeros-written zeroed r o p q e L = rw e (go (zeroed && not (eqb (r .marks / 4 % 2) 1)))
-    where
-      go : (b : Bool)
-          → Rewritten standard rs bs (cond b (filled (4096 * p) (4096 * size (r .level)) 0 m) m) (cond b (withBytes bs (4096 * q) (replicate (4096 * size (r .level)) 0)) bs)
-      go true = memory-filled standard L m bs fits apart same 0
-      go false = record { memory = same; as-long = refl; beyond = refl }
+module _ {board : Board} where
+  module _ {rs : List AllocationRegion} (m : Memory) (bs : List ℕ) (fits : managedBytes board rs ≤ length bs) (apart : overlap board rs ≡ false) (same : Fronts board rs m bs) where
+    zeros-written
+        : (zeroed : Bool) (r : Record) (o : Option Frame) (p q : ℕ) → o ≡ some (frameIn r) → Lies board rs (board .page * p) (board .page * q) (board .page * size (r .level))
+        → Rewritten board rs bs (cond (zeroed && not (isZeroed o)) (filled (board .page * p) (board .page * sizeOf o) 0 m) m) (zeroedBytes board zeroed r q bs)
+    zeros-written zeroed r o p q e L = rw e (go (zeroed && not (eqb (r .marks / 4 % 2) 1)))
+      where
+        go : (b : Bool)
+            → Rewritten board rs bs (cond b (filled (board .page * p) (board .page * size (r .level)) 0 m) m) (cond b (withBytes bs (board .page * q) (replicate (board .page * size (r .level)) 0)) bs)
+        go true = memory-filled board L m bs fits apart same 0
+        go false = record { memory = same; as-long = refl; beyond = refl }
 
 -- ---- a grant
 
--- the search turns the words ws into vs: it changes their rows, and nothing else of the state
-module _
-    {f g : ℕ → Record} {n : ℕ} {found : Bool} {spot : Spot} (counters : Counters) (ws vs : List ℕ) (l : ℕ) (flags : FrameAllocFlags)
-    (P : PicksBy standard (doAlloc l (flags .zeroed)) f (rowsIn ws) g n (record { rows = rowsIn vs; found = found; spot = spot }))
-  where
-    abbrev st : State
-    st = stateWith counters ws
+module _ {board : Board} where
+  -- the search turns the words ws into vs: it changes their rows, and nothing else of the state
+  module _
+      {f g : ℕ → Record} {n : ℕ} {found : Bool} {spot : Spot} (counters : Counters) (ws vs : List ℕ) (l : ℕ) (flags : FrameAllocFlags)
+      (P : PicksBy board (doAlloc everywhere l (flags .zeroed)) f (rowsIn ws) g n (record { rows = rowsIn vs; found = found; spot = spot }))
+    where
+      abbrev st : State
+      st = stateWith counters ws
 
-    picked-turned : (S : Sane standard f n (rowsIn ws)) → Turned standard f (rowsIn ws) g n (rowsIn vs) (doAlloc l (flags .zeroed) (standing standard f (rowsIn ws)) .allocator)
-    picked-turned S = P (standing standard f (rowsIn ws)) (sane-table S) .turned
+      picked-turned : (S : Sane board f n (rowsIn ws)) → Turned board f (rowsIn ws) g n (rowsIn vs) (doAlloc everywhere l (flags .zeroed) (standing board f (rowsIn ws)) .allocator)
+      picked-turned S = P (standing board f (rowsIn ws)) (sane-table S) .turned
 
-    pub picked-sane : Sane standard f n (rowsIn ws) → Sane standard g n (rowsIn vs)
-    picked-sane S = picked-turned S .table .sane
+      pub picked-sane : Sane board f n (rowsIn ws) → Sane board g n (rowsIn vs)
+      picked-sane S = picked-turned S .table .sane
 
-    pub picked-ready : {long : ℕ} → Ready f n st long → Ready g n (stateWith counters vs) long
-    picked-ready R =
-        record {
-          sane = picked-sane (R .sane);
-          memory = rw (picked-turned (R .sane) .spans) (R .memory);
-          kernel = R .kernel;
-          page = R .page;
-        }
+      pub picked-ready : {long : ℕ} → Ready board f n st long → Ready board g n (stateWith counters vs) long
+      picked-ready R =
+          record {
+            sane = picked-sane (R .sane);
+            memory = rw (picked-turned (R .sane) .spans) (R .memory);
+            kernel = R .kernel;
+            page = R .page;
+          }
 
-    -- nothing is found
-    abbrev nothing : Granted
-    nothing = record { state = stateWith counters vs; found = false; spot = spot; address = 0 }
+      -- nothing is found
+      abbrev nothing : Granted
+      nothing = record { state = stateWith counters vs; found = false; spot = spot; address = 0 }
 
-    pub finds-none : RowsBeside ws vs → Finds st nothing
-    finds-none B = record { queued = B .queued; pass = B .pass; address = λ z. absurd (false≢true z) }
+      pub finds-none : RowsBeside ws vs → Finds board st nothing
+      finds-none B = record { queued = B .queued; pass = B .pass; address = λ z. absurd (false≢true z) }
 
-    pub holds-none : Sane standard f n (rowsIn ws) → Holds g n nothing
-    holds-none S = record { sane = picked-sane S; spot = λ z. absurd (false≢true z); held = λ z. absurd (false≢true z) }
+      pub holds-none : Sane board f n (rowsIn ws) → Holds board g n nothing
+      holds-none S = record { sane = picked-sane S; spot = λ z. absurd (false≢true z); held = λ z. absurd (false≢true z) }
 
-    pub gives-none : (bytes : List ℕ) → found ≡ false → GivesBy (tryAllocFrame standard l flags) f st bytes g n bytes nothing
-    gives-none bytes e s L =
-        let p = P (s .allocator) (L .table) in
-        let d = p .none-found e in
-        rw (try-none l flags s d)
-        (record {
-          turned = rw (none-left l (flags .zeroed) (s .allocator) d) at (p .turned);
-          memory = L .memory;
-          as-long = refl;
-          beyond = refl;
-          counters = L .counters;
-          none-found = λ z. refl;
-          page = λ z. absurd (false≢true z);
-        })
+      pub gives-none : (bytes : List ℕ) → found ≡ false → GivesBy board (tryAllocFrame board everywhere l flags) f st bytes g n bytes nothing
+      gives-none bytes e s L =
+          let p = P (s .allocator) (L .table) in
+          let d = p .none-found e in
+          rw (try-none board l flags s d)
+          (record {
+            turned = rw (none-left l (flags .zeroed) (s .allocator) d) at (p .turned);
+            memory = L .memory;
+            as-long = refl;
+            beyond = refl;
+            counters = L .counters;
+            none-found = λ z. refl;
+            page = λ z. absurd (false≢true z);
+          })
 
-    -- a frame is found
-    module _ (e : found ≡ true) where
-      pub picked-spot : Sane standard f n (rowsIn ws) → InRows standard (rowsIn vs) spot
-      picked-spot S = P (standing standard f (rowsIn ws)) (sane-table S) .spot e
+      -- a frame is found
+      module _ (e : found ≡ true) where
+        pub picked-spot : Sane board f n (rowsIn ws) → InRows board (rowsIn vs) spot
+        picked-spot S = P (standing board f (rowsIn ws)) (sane-table S) .spot e
 
-      pub picked-held : Sane standard f n (rowsIn ws) → HeldAt standard g (rowsIn vs) spot
-      picked-held S = P (standing standard f (rowsIn ws)) (sane-table S) .held e
+        pub picked-held : Sane board f n (rowsIn ws) → HeldAt board g (rowsIn vs) spot
+        picked-held S = P (standing board f (rowsIn ws)) (sane-table S) .held e
 
-      module _
-          {h : ℕ → Record} {after : Counters} (c : after ≡ countAlloc (size l) (flags .kernel) counters)
-          (T : TurnsBy standard (markAt false (flags .kernel) (numberAt standard (rowsIn vs) spot)) g (rowsIn vs) h n (rowsIn vs)) (address : ℕ)
-        where
-          abbrev frame : Granted
-          frame = record { state = stateWith after vs; found = true; spot = spot; address = address }
+        module _
+            {h : ℕ → Record} {after : Counters} (c : after ≡ countAlloc (size l) (flags .kernel) counters)
+            (T : TurnsBy board (markAt false (flags .kernel) (numberAt board (rowsIn vs) spot)) g (rowsIn vs) h n (rowsIn vs)) (address : ℕ)
+          where
+            abbrev frame : Granted
+            frame = record { state = stateWith after vs; found = true; spot = spot; address = address }
 
-          pub finds-some : RowsBeside ws vs → address ≡ 4096 * numberAt standard (rowsIn vs) spot → Finds st frame
-          finds-some B d = record { queued = B .queued; pass = B .pass; address = λ z. d }
+            pub finds-some : RowsBeside ws vs → address ≡ board .page * numberAt board (rowsIn vs) spot → Finds board st frame
+            finds-some B d = record { queued = B .queued; pass = B .pass; address = λ z. d }
 
-          pub holds-some : Sane standard f n (rowsIn ws) → Holds h n frame
-          holds-some S =
-              let U = picked-turned S .table in
-              let a = doAlloc l (flags .zeroed) (standing standard f (rowsIn ws)) .allocator in
-              let N = T a U .table in
-              let p = numberAt standard (rowsIn vs) spot in
-              let I = picked-spot S in
-              let held : isAllocated (a .frames p) ≡ true = rw (table-frame I U) (is-held g (rowsIn vs) spot (picked-held S)) in
-              record {
-                sane = N .sane;
-                spot = λ z. I;
-                held = λ z. table-held N spot I (rw (upd-same (a .frames) p (marked false (flags .kernel) (a .frames p))) (held-still false (flags .kernel) (a .frames p) held));
-              }
+            pub holds-some : Sane board f n (rowsIn ws) → Holds board h n frame
+            holds-some S =
+                let U = picked-turned S .table in
+                let a = doAlloc everywhere l (flags .zeroed) (standing board f (rowsIn ws)) .allocator in
+                let N = T a U .table in
+                let p = numberAt board (rowsIn vs) spot in
+                let I = picked-spot S in
+                let held : isAllocated (a .frames p) ≡ true = rw (table-frame I U) (is-held g (rowsIn vs) spot (picked-held S)) in
+                record {
+                  sane = N .sane;
+                  spot = λ z. I;
+                  held = λ z. table-held N spot I (rw (upd-same (a .frames) p (marked false (flags .kernel) (a .frames p))) (held-still false (flags .kernel) (a .frames p) held));
+                }
 
-          pub gives-some
-              : (bytes bytes2 : List ℕ) → bytes2 ≡ zeroedBytes (flags .zeroed) (g (spot .page)) (spot .page) bytes
-              → GivesBy (tryAllocFrame standard l flags) f st bytes h n bytes2 frame
-          gives-some bytes bytes2 b s L =
-              let S = L .table .sane in
-              let p = P (s .allocator) (L .table) in
-              let a = doAlloc l (flags .zeroed) (s .allocator) .allocator in
-              let q = spot .page in
-              let I = p .spot e in
-              let H = p .held e in
-              let N = p .turned .table .sane in
-              let R = runs-bare (L .table .stands) (rw (p .turned .spans) at (held-runs I N H)) in
-              let lies = runs-lies standard R 0 (4096 * size (g q .level)) (omega arith) {a = 4096 * numberAt standard (rowsIn vs) spot} {b = 4096 * q} (omega arith) (omega arith) in
-              let W
-              = zeros-written (s .memory) bytes (L .fits) (L .apart) (L .memory) (flags .zeroed) (g q) (a .frames (numberAt standard (rowsIn vs) spot))
-              (numberAt standard (rowsIn vs) spot) q (table-frame I (p .turned .table) ∙ held-frame I N H) lies
-              in
-              rw (try-some l flags s (numberAt standard (rowsIn vs) spot) (p .page e), c, b)
-              (record {
-                turned = turned-then (p .turned) (T a (p .turned .table));
-                memory = W .memory;
-                as-long = W .as-long;
-                beyond = W .beyond;
-                counters = rw (L .counters) refl;
-                none-found = λ z. absurd (false≢true (sym z));
-                page = λ z. refl;
-              })
+            pub gives-some
+                : (bytes bytes2 : List ℕ) → bytes2 ≡ zeroedBytes board (flags .zeroed) (g (spot .page)) (spot .page) bytes
+                → GivesBy board (tryAllocFrame board everywhere l flags) f st bytes h n bytes2 frame
+            gives-some bytes bytes2 b s L =
+                let S = L .table .sane in
+                let p = P (s .allocator) (L .table) in
+                let a = doAlloc everywhere l (flags .zeroed) (s .allocator) .allocator in
+                let q = spot .page in
+                let I = p .spot e in
+                let H = p .held e in
+                let N = p .turned .table .sane in
+                let R = runs-bare (L .table .stands) (rw (p .turned .spans) at (held-runs I N H)) in
+                let lies = runs-lies board R 0 (board .page * size (g q .level)) (omega arith) {a = board .page * numberAt board (rowsIn vs) spot} {b = board .page * q} (omega arith) (omega arith) in
+                let W
+                = zeros-written (s .memory) bytes (L .fits) (L .apart) (L .memory) (flags .zeroed) (g q) (a .frames (numberAt board (rowsIn vs) spot))
+                (numberAt board (rowsIn vs) spot) q (table-frame I (p .turned .table) ∙ held-frame I N H) lies
+                in
+                rw (try-some board l flags s (numberAt board (rowsIn vs) spot) (p .page e), c, b)
+                (record {
+                  turned = turned-then (p .turned) (T a (p .turned .table));
+                  memory = W .memory;
+                  as-long = W .as-long;
+                  beyond = W .beyond;
+                  counters = rw (L .counters) refl;
+                  none-found = λ z. absurd (false≢true (sym z));
+                  page = λ z. refl;
+                })
 
 -- ---- its split
 
-module _
-    {f g : ℕ → Record} {n : ℕ} {st : State} {bytes bytes2 : List ℕ} {r : Granted} (l : ℕ) (flags : FrameAllocFlags)
-    (G : GivesBy (tryAllocFrame standard l flags) f st bytes g n bytes2 r)
-  where
-    pub gives-whole : r .found ≡ false → GivesBy (tryAllocSplitFrames standard l flags) f st bytes g n bytes2 r
-    gives-whole e s L = rw (split-none l flags s (G s L .none-found e)) (G s L)
+module _ {board : Board} where
+  module _
+      {f g : ℕ → Record} {n : ℕ} {st : State} {bytes bytes2 : List ℕ} {r : Granted} (l : ℕ) (flags : FrameAllocFlags)
+      (G : GivesBy board (tryAllocFrame board everywhere l flags) f st bytes g n bytes2 r)
+    where
+      pub gives-whole : r .found ≡ false → GivesBy board (tryAllocSplitFrames board everywhere l flags) f st bytes g n bytes2 r
+      gives-whole e s L = rw (split-none board l flags s (G s L .none-found e)) (G s L)
 
-    pub gives-split
-        : r .found ≡ true → {h : ℕ → Record} → TurnsBy standard (splitAt (numberAt standard (r .state .rows) (r .spot))) g (r .state .rows) h n (r .state .rows)
-        → GivesBy (tryAllocSplitFrames standard l flags) f st bytes h n bytes2 r
-    gives-split e T s L =
-        let x = G s L in
-        let a = tryAllocFrame standard l flags s .store .allocator in
-        rw (split-some l flags s (numberAt standard (r .state .rows) (r .spot)) (x .page e))
-        (record {
-          turned = turned-then (x .turned) (T a (x .turned .table));
-          memory = x .memory;
-          as-long = x .as-long;
-          beyond = x .beyond;
-          counters = x .counters;
-          none-found = λ z. absurd (false≢true (sym z ∙ e));
-          page = λ z. refl;
-        })
+      pub gives-split
+          : r .found ≡ true → {h : ℕ → Record} → TurnsBy board (splitAt (numberAt board (r .state .rows) (r .spot))) g (r .state .rows) h n (r .state .rows)
+          → GivesBy board (tryAllocSplitFrames board everywhere l flags) f st bytes h n bytes2 r
+      gives-split e T s L =
+          let x = G s L in
+          let a = tryAllocFrame board everywhere l flags s .store .allocator in
+          rw (split-some board l flags s (numberAt board (r .state .rows) (r .spot)) (x .page e))
+          (record {
+            turned = turned-then (x .turned) (T a (x .turned .table));
+            memory = x .memory;
+            as-long = x .as-long;
+            beyond = x .beyond;
+            counters = x .counters;
+            none-found = λ z. absurd (false≢true (sym z ∙ e));
+            page = λ z. refl;
+          })

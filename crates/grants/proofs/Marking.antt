@@ -7,8 +7,8 @@ use mathlib.Core.Option.{Option, none, some}
 use mathlib.Core.Path.{_≡_, refl, sym, ap, _∙_}
 use native.Mathlib.Omega.{arith}
 use Rattle.definition.specs.declared.FrameAllocFlags.{FrameAllocFlags}
-use Rattle.definition.specs.Basics.{upd}
-use Rattle.definition.specs.Board.{standard}
+use Rattle.definition.specs.Basics.{everywhere, upd}
+use Rattle.definition.specs.Board.{Board}
 use Rattle.definition.specs.Contents.{filled, frameBytes, isZeroedAt, setNotZero, zeroFrame}
 use Rattle.definition.specs.Frame.{Found, Frame, Frames, allocate, change, changed, size, withKernel, withZeroed}
 use Rattle.definition.specs.Allocator.{
@@ -52,47 +52,48 @@ marks-twice fs p = change-twice (withZeroed false) (withZeroed true) fs p ∙ ap
 
 -- ---- a frame that is handed over
 
-abbrev pub handedStore : (pages : ℕ) → FrameAllocFlags → Store → ℕ → Store
-handedStore pages flags s p =
-    record {
-      allocator = markAt false (flags .kernel) p (s .allocator);
-      memory = cond (flags .zeroed && not (isZeroedAt s p)) (filled (standard .page * p) (frameBytes standard s p) 0 (s .memory)) (s .memory);
-      counters = countAlloc pages (flags .kernel) (s .counters);
-      queue = s .queue;
-      room = s .room;
-      pass = s .pass;
-    }
+module _ (board : Board) where
+  abbrev pub handedStore : (pages : ℕ) → FrameAllocFlags → Store → ℕ → Store
+  handedStore pages flags s p =
+      record {
+        allocator = markAt false (flags .kernel) p (s .allocator);
+        memory = cond (flags .zeroed && not (isZeroedAt s p)) (filled (board .page * p) (frameBytes board s p) 0 (s .memory)) (s .memory);
+        counters = countAlloc pages (flags .kernel) (s .counters);
+        queue = s .queue;
+        room = s .room;
+        pass = s .pass;
+      }
 
-hand-over : (pages : ℕ) (flags : FrameAllocFlags) (s : Store) (p : ℕ) → handOver standard pages flags s p ≡ handedStore pages flags s p
-unfolding setNotZero zeroFrame
-hand-over pages flags s p = go (flags .zeroed && not (isZeroedAt s p))
-  where
-    kernel : Bool
-    kernel = flags .kernel
+  hand-over : (pages : ℕ) (flags : FrameAllocFlags) (s : Store) (p : ℕ) → handOver board pages flags s p ≡ handedStore pages flags s p
+  unfolding setNotZero zeroFrame
+  hand-over pages flags s p = go (flags .zeroed && not (isZeroedAt s p))
+    where
+      kernel : Bool
+      kernel = flags .kernel
 
-    fs : Frames
-    fs = s .allocator .frames
+      fs : Frames
+      fs = s .allocator .frames
 
-    zeroed : Memory
-    zeroed = filled (standard .page * p) (frameBytes standard s p) 0 (s .memory)
+      zeroed : Memory
+      zeroed = filled (board .page * p) (frameBytes board s p) 0 (s .memory)
 
-    with : Frames → Memory → Store
-    with x m =
-        record {
-          allocator = record { frames = x; regions = s .allocator .regions };
-          memory = m;
-          counters = countAlloc pages kernel (s .counters);
-          queue = s .queue;
-          room = s .room;
-          pass = s .pass;
-        }
+      with : Frames → Memory → Store
+      with x m =
+          record {
+            allocator = record { frames = x; regions = s .allocator .regions };
+            memory = m;
+            counters = countAlloc pages kernel (s .counters);
+            queue = s .queue;
+            room = s .room;
+            pass = s .pass;
+          }
 
-    go : (b : Bool)
-        → withCounters (mark (withKernel kernel) (setNotZero (cond b (zeroFrame standard s p) s) p) p) (countAlloc pages kernel (s .counters))
-        ≡ with (upd fs p (marked false kernel (fs p))) (cond b zeroed (s .memory))
-    go true =
-        ap (λ (x : Frames). with x zeroed) (ap (λ (x : Frames). change (withKernel kernel) x p) (marks-twice fs p) ∙ marks-once kernel fs p)
-    go false = ap (λ (x : Frames). with x (s .memory)) (marks-once kernel fs p)
+      go : (b : Bool)
+          → withCounters (mark (withKernel kernel) (setNotZero (cond b (zeroFrame board s p) s) p) p) (countAlloc pages kernel (s .counters))
+          ≡ with (upd fs p (marked false kernel (fs p))) (cond b zeroed (s .memory))
+      go true =
+          ap (λ (x : Frames). with x zeroed) (ap (λ (x : Frames). change (withKernel kernel) x p) (marks-twice fs p) ∙ marks-once kernel fs p)
+      go false = ap (λ (x : Frames). with x (s .memory)) (marks-once kernel fs p)
 
 -- ---- a search that finds nothing
 
@@ -105,13 +106,13 @@ next-none : (r : AllocationRegion) (rs : List AllocationRegion) (a : Found) (nex
 next-none r rs a next e = rw e refl
 
 pass-nothing
-    : (l : ℕ) (t o : Bool) (fs : Frames) (rs : List AllocationRegion) → pass l t o fs rs .page ≡ none → pass l t o fs rs .allocator ≡ record { frames = fs; regions = rs }
+    : (l : ℕ) (t o : Bool) (fs : Frames) (rs : List AllocationRegion) → pass everywhere l t o fs rs .page ≡ none → pass everywhere l t o fs rs .allocator ≡ record { frames = fs; regions = rs }
 unfolding pass
 pass-nothing l t o fs [] e = refl
-pass-nothing l t o fs (r ∷ rs) e = go (allocate l (levelsOf fs r) t o) (allocate l (levelsOf fs r) t o .page) refl e (pass-nothing l t o fs rs)
+pass-nothing l t o fs (r ∷ rs) e = go (allocate everywhere l (levelsOf fs r) t o) (allocate everywhere l (levelsOf fs r) t o .page) refl e (pass-nothing l t o fs rs)
   where
     next : Allocated
-    next = pass l t o fs rs
+    next = pass everywhere l t o fs rs
 
     go : (a : Found) (x : Option ℕ) → a .page ≡ x → orNextRegion r rs a next .page ≡ none → (next .page ≡ none → next .allocator ≡ record { frames = fs; regions = rs })
         → orNextRegion r rs a next .allocator ≡ record { frames = fs; regions = r ∷ rs }
@@ -127,12 +128,12 @@ second-is a b e = rw e refl
 first-is : (a b : Allocated) (p : ℕ) → a .page ≡ some p → orSecondPass a b ≡ a
 first-is a b p e = rw e refl
 
-pub none-left : (l : ℕ) (z : Bool) (a : PhysicalFrameAllocator) → doAlloc l z a .page ≡ none → doAlloc l z a .allocator ≡ a
+pub none-left : (l : ℕ) (z : Bool) (a : PhysicalFrameAllocator) → doAlloc everywhere l z a .page ≡ none → doAlloc everywhere l z a .allocator ≡ a
 unfolding doAlloc
-none-left l z a e = go (pass l false z (a .frames) (a .regions)) (pass l false z (a .frames) (a .regions) .page) refl e
+none-left l z a e = go (pass everywhere l false z (a .frames) (a .regions)) (pass everywhere l false z (a .frames) (a .regions) .page) refl e
   where
     second : Allocated
-    second = pass l true false (a .frames) (a .regions)
+    second = pass everywhere l true false (a .frames) (a .regions)
 
     go : (b : Allocated) (x : Option ℕ) → b .page ≡ x → orSecondPass b second .page ≡ none → orSecondPass b second .allocator ≡ a
     go b none d e =
@@ -144,48 +145,50 @@ none-left l z a e = go (pass l false z (a .frames) (a .regions)) (pass l false z
 
 -- ---- a grant
 
-module _ (l : ℕ) (flags : FrameAllocFlags) (s : Store) where
-  abbrev found : Allocated
-  found = doAlloc l (flags .zeroed) (s .allocator)
+module _ (board : Board) where
+  module _ (l : ℕ) (flags : FrameAllocFlags) (s : Store) where
+    abbrev found : Allocated
+    found = doAlloc everywhere l (flags .zeroed) (s .allocator)
 
-  granted-none : (pages : ℕ) (a : Allocated) → a .page ≡ none → granted standard pages flags s a ≡ record { store = s; page = none }
-  granted-none pages a e = rw e refl
+    granted-none : (pages : ℕ) (a : Allocated) → a .page ≡ none → granted board pages flags s a ≡ record { store = s; page = none }
+    granted-none pages a e = rw e refl
 
-  granted-some : (pages : ℕ) (a : Allocated) (p : ℕ) → a .page ≡ some p
-      → granted standard pages flags s a ≡ record { store = handOver standard pages flags (withAllocator s (a .allocator)) p; page = some p }
-  granted-some pages a p e = rw e refl
+    granted-some : (pages : ℕ) (a : Allocated) (p : ℕ) → a .page ≡ some p
+        → granted board pages flags s a ≡ record { store = handOver board pages flags (withAllocator s (a .allocator)) p; page = some p }
+    granted-some pages a p e = rw e refl
 
-  pub try-none : found .page ≡ none → tryAllocFrame standard l flags s ≡ record { store = s; page = none }
-  unfolding tryAllocFrame
-  try-none e = granted-none (size l) found e
+    pub try-none : found .page ≡ none → tryAllocFrame board everywhere l flags s ≡ record { store = s; page = none }
+    unfolding tryAllocFrame
+    try-none e = granted-none (size l) found e
 
-  pub try-some : (p : ℕ) → found .page ≡ some p
-      → tryAllocFrame standard l flags s ≡ record { store = handedStore (size l) flags (withAllocator s (found .allocator)) p; page = some p }
-  unfolding tryAllocFrame
-  try-some p e =
-      granted-some (size l) found p e
-      ∙ ap (λ (t : Store). record { store = t; page = some p }) (hand-over (size l) flags (withAllocator s (found .allocator)) p)
+    pub try-some : (p : ℕ) → found .page ≡ some p
+        → tryAllocFrame board everywhere l flags s ≡ record { store = handedStore board (size l) flags (withAllocator s (found .allocator)) p; page = some p }
+    unfolding tryAllocFrame
+    try-some p e =
+        granted-some (size l) found p e
+        ∙ ap (λ (t : Store). record { store = t; page = some p }) (hand-over board (size l) flags (withAllocator s (found .allocator)) p)
 
 -- ---- its split
 
 abbrev pub splitStore : Store → ℕ → Store
 splitStore s p = withAllocator s (splitAt p (s .allocator))
 
-module _ (l : ℕ) (flags : FrameAllocFlags) (s : Store) where
-  abbrev whole : Granted
-  whole = tryAllocFrame standard l flags s
+module _ (board : Board) where
+  module _ (l : ℕ) (flags : FrameAllocFlags) (s : Store) where
+    abbrev whole : Granted
+    whole = tryAllocFrame board everywhere l flags s
 
-  then-none : (g : Granted) → g .page ≡ none → thenSplitFrame g ≡ g
-  then-none g e = rw e refl
+    then-none : (g : Granted) → g .page ≡ none → thenSplitFrame g ≡ g
+    then-none g e = rw e refl
 
-  then-some : (g : Granted) (p : ℕ) → g .page ≡ some p → thenSplitFrame g ≡ record { store = splitStore (g .store) p; page = some p }
-  unfolding splitFrame
-  then-some g p e = rw e refl
+    then-some : (g : Granted) (p : ℕ) → g .page ≡ some p → thenSplitFrame g ≡ record { store = splitStore (g .store) p; page = some p }
+    unfolding splitFrame
+    then-some g p e = rw e refl
 
-  pub split-none : whole .page ≡ none → tryAllocSplitFrames standard l flags s ≡ whole
-  unfolding tryAllocSplitFrames
-  split-none e = then-none whole e
+    pub split-none : whole .page ≡ none → tryAllocSplitFrames board everywhere l flags s ≡ whole
+    unfolding tryAllocSplitFrames
+    split-none e = then-none whole e
 
-  pub split-some : (p : ℕ) → whole .page ≡ some p → tryAllocSplitFrames standard l flags s ≡ record { store = splitStore (whole .store) p; page = some p }
-  unfolding tryAllocSplitFrames
-  split-some p e = then-some whole p e
+    pub split-some : (p : ℕ) → whole .page ≡ some p → tryAllocSplitFrames board everywhere l flags s ≡ record { store = splitStore (whole .store) p; page = some p }
+    unfolding tryAllocSplitFrames
+    split-some p e = then-some whole p e

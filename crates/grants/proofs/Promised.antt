@@ -1,5 +1,7 @@
 -- The promise of a grant. A sound world is what a grant asks for (`ready`, `lends`), and what it gives is what `encode` writes, so that the call leaves and answers
 -- what definition's `call` does (`leaves-alloc`, `leaves-take`); where a refusal was met, the world stays (`leaves-wanted`).
+use Rattle.definition.proofs.Bytes.{pages-same}
+use Rattle.definition.specs.Basics.{everywhere}
 use Prim.Native.Nat.{ℕ, _*_, _<_}
 use mathlib.Core.Bool.{Bool, true, false}
 use mathlib.Core.List.{List}
@@ -8,16 +10,15 @@ use mathlib.Core.Path.{_≡_, refl, sym, ap, _∙_}
 use native.Mathlib.Omega.{arith}
 use lib.ListN.{length, getD, take}
 use Rattle.definition.specs.declared.FrameAllocFlags.{FrameAllocFlags}
-use Rattle.definition.specs.Board.{standard}
+use Rattle.definition.specs.Board.{Board}
 use Rattle.definition.specs.Allocator.{doAlloc}
 use Rattle.definition.specs.Store.{Store}
 use Rattle.definition.specs.Tracker.{Granted as GrantedOf, tryAllocFrame, tryAllocSplitFrames}
-use Rattle.definition.specs.Calls.{Alloc, Call, Layout, Take, bytesOfLevel, done, findLevel, hands, perform}
+use Rattle.definition.specs.Calls.{Alloc, Call, Layout, Take, bytesOfLevel, done, findLevel, hands, mine, perform}
 use Rattle.definition.specs.World.{World, decode, encode, recordAt}
 use Rattle.definition.specs.Torn.{Sound, sound}
 use Rattle.record.specs.Records.{pagesIn}
 use Rattle.audit.proofs.Sheets.{sound-is}
-use Rattle.world.specs.Fit.{standard-fit}
 use Rattle.world.specs.Refusals.{refusalOf}
 use Rattle.world.specs.Stands.{Stands}
 use Rattle.world.proofs.Leaving.{left-by, sound-sane, sound-table}
@@ -39,133 +40,137 @@ record Kept (s t : Store) : Type 0 where
   pub room : t .room ≡ s .room
   pub pass : t .pass ≡ s .pass
 
-module _ (l : ℕ) (flags : FrameAllocFlags) (s : Store) where
-  try-keeps : Kept s (tryAllocFrame standard l flags s .store)
-  try-keeps = go (doAlloc l (flags .zeroed) (s .allocator) .page) refl
-    where
-      go : (o : Option ℕ) → doAlloc l (flags .zeroed) (s .allocator) .page ≡ o → Kept s (tryAllocFrame standard l flags s .store)
-      go none e = rw (try-none l flags s e) (record { queue = refl; room = refl; pass = refl })
-      go (some p) e = rw (try-some l flags s p e) (record { queue = refl; room = refl; pass = refl })
+module _ (board : Board) where
+  module _ (l : ℕ) (flags : FrameAllocFlags) (s : Store) where
+    try-keeps : Kept s (tryAllocFrame board everywhere l flags s .store)
+    try-keeps = go (doAlloc everywhere l (flags .zeroed) (s .allocator) .page) refl
+      where
+        go : (o : Option ℕ) → doAlloc everywhere l (flags .zeroed) (s .allocator) .page ≡ o → Kept s (tryAllocFrame board everywhere l flags s .store)
+        go none e = rw (try-none board l flags s e) (record { queue = refl; room = refl; pass = refl })
+        go (some p) e = rw (try-some board l flags s p e) (record { queue = refl; room = refl; pass = refl })
 
-  split-keeps : Kept s (tryAllocSplitFrames standard l flags s .store)
-  split-keeps = go (tryAllocFrame standard l flags s .page) refl
-    where
-      go : (o : Option ℕ) → tryAllocFrame standard l flags s .page ≡ o → Kept s (tryAllocSplitFrames standard l flags s .store)
-      go none e = rw (split-none l flags s e) try-keeps
-      go (some p) e = rw (split-some l flags s p e) (record { queue = try-keeps .queue; room = try-keeps .room; pass = try-keeps .pass })
+    split-keeps : Kept s (tryAllocSplitFrames board everywhere l flags s .store)
+    split-keeps = go (tryAllocFrame board everywhere l flags s .page) refl
+      where
+        go : (o : Option ℕ) → tryAllocFrame board everywhere l flags s .page ≡ o → Kept s (tryAllocSplitFrames board everywhere l flags s .store)
+        go none e = rw (split-none board l flags s e) try-keeps
+        go (some p) e = rw (split-some board l flags s p e) (record { queue = try-keeps .queue; room = try-keeps .room; pass = try-keeps .pass })
 
 -- ---- a refusal
 
-module _ {w : World} {y : Layout} {r : Asked} (W : Wants w y r) where
-  pub wanted-sound : r .number ≡ 0 → sound standard w ≡ true
-  wanted-sound z = go (sound standard w) refl
-    where
-      go : (b : Bool) → sound standard w ≡ b → b ≡ true
-      go true e = refl
-      go false e = absurd (omega (arith, W .torn e))
+module _ {board : Board} where
+  module _ {w : World} {y : Layout} {r : Asked} (W : Wants board w y r) where
+    pub wanted-sound : r .number ≡ 0 → sound board w ≡ true
+    wanted-sound z = go (sound board w) refl
+      where
+        go : (b : Bool) → sound board w ≡ b → b ≡ true
+        go true e = refl
+        go false e = absurd (omega (arith, W .torn e))
 
-  pub wanted-none : r .number ≡ 0 → refusalOf standard (decode standard w) (Alloc y) ≡ 0
-  wanted-none z = sym (W .number (wanted-sound z)) ∙ z
+    pub wanted-none : r .number ≡ 0 → refusalOf board (decode board w) (Alloc y) ≡ 0
+    wanted-none z = sym (W .number (wanted-sound z)) ∙ z
 
-  pub leaves-wanted
-      : (c : Call) → refusalOf standard (decode standard w) c ≡ refusalOf standard (decode standard w) (Alloc y) → Small w → (r .number ≡ 0 → ⊥) → Leaves w c w (refusedBy (r .number))
-  leaves-wanted c same small d = go (sound standard w) refl
-    where
-      go : (b : Bool) → sound standard w ≡ b → Leaves w c w (refusedBy (r .number))
-      go false e = rw (W .torn e) (leaves-torn w c e)
-      go true e = leaves-refused w c small e (r .number) (same ∙ sym (W .number e)) d
+    pub leaves-wanted
+        : (c : Call) → refusalOf board (decode board w) c ≡ refusalOf board (decode board w) (Alloc y) → Small w → (r .number ≡ 0 → ⊥) → Leaves board w c w (refusedBy (r .number))
+    leaves-wanted c same small d = go (sound board w) refl
+      where
+        go : (b : Bool) → sound board w ≡ b → Leaves board w c w (refusedBy (r .number))
+        go false e = rw (W .torn e) (leaves-torn w c e)
+        go true e = leaves-refused w c small e (r .number) (same ∙ sym (W .number e)) d
 
 -- ---- what a grant hands out
 
-module _ (l : ℕ) (x : GrantedOf) where
-  hands-some : (p : ℕ) → x .page ≡ some p → hands standard l x ≡ done (x .store) (standard .page * p) (bytesOfLevel standard l)
-  hands-some p e = rw e refl
+module _ (board : Board) where
+  module _ (l : ℕ) (x : GrantedOf) where
+    hands-some : (p : ℕ) → x .page ≡ some p → hands board l x ≡ done (x .store) (board .page * p) (bytesOfLevel board l)
+    hands-some p e = rw e refl
 
-  hands-none : x .page ≡ none → hands standard l x ≡ done (x .store) 0 0
-  hands-none e = rw e refl
+    hands-none : x .page ≡ none → hands board l x ≡ done (x .store) 0 0
+    hands-none e = rw e refl
 
-module _ (s : Store) (y : Layout) {l : ℕ} (e : l ≡ findLevel standard y) where
-  performs-alloc : perform standard s (Alloc y) ≡ hands standard l (tryAllocFrame standard l (y .flags) s)
-  unfolding perform
-  performs-alloc = ap (λ (k : ℕ). hands standard k (tryAllocFrame standard k (y .flags) s)) (sym e)
+  module _ (s : Store) (y : Layout) {l : ℕ} (e : l ≡ findLevel board y) where
+    performs-alloc : perform board s (Alloc y) ≡ hands board l (tryAllocFrame board everywhere l (y .flags) s)
+    unfolding perform mine
+    performs-alloc = ap (λ (k : ℕ). hands board k (tryAllocFrame board everywhere k (y .flags) s)) (sym e)
 
-  performs-take : perform standard s (Take y) ≡ hands standard l (tryAllocSplitFrames standard l (y .flags) s)
-  unfolding perform
-  performs-take = ap (λ (k : ℕ). hands standard k (tryAllocSplitFrames standard k (y .flags) s)) (sym e)
+    performs-take : perform board s (Take y) ≡ hands board l (tryAllocSplitFrames board everywhere l (y .flags) s)
+    unfolding perform mine
+    performs-take = ap (λ (k : ℕ). hands board k (tryAllocSplitFrames board everywhere k (y .flags) s)) (sym e)
 
 -- ---- what a grant asks for
 
-module _ (st : State) (records memory queue : List ℕ) where
-  abbrev w : World
-  w = worldOf st records memory queue
+module _ (board : Board) where
+  module _ (st : State) (records memory queue : List ℕ) where
+    abbrev w : World
+    w = worldOf st records memory queue
 
-  module _ (t : sound standard w ≡ true) where
-    S : Sound standard w
-    S = sound-is standard w t
+    module _ (t : sound board w ≡ true) where
+      S : Sound board w
+      S = sound-is board w t
 
-    D : Stands standard w (decode standard w)
-    D = decode-stands standard-fit w S
+      D : Stands board w (decode board w)
+      D = decode-stands w S
 
-    pub ready : Ready (recordAt records) (pagesIn records) st (length memory)
-    ready =
-        record {
-          sane = sound-sane standard-fit w S;
-          memory = omega (arith, D .fits, spans-bare (managed-spans standard) (D .rows));
-          kernel = kernel-small w S;
-          page = page-small w S;
-        }
+      pub ready : Ready board (recordAt records) (pagesIn records) st (length memory)
+      ready =
+          record {
+            sane = sound-sane w S;
+            memory = omega (arith, D .fits, pages-same (board .page) (spans-bare (managed-spans board) (D .rows)));
+            kernel = kernel-small w S;
+            page = page-small w S;
+          }
 
-    pub lends : Lends (recordAt records) (pagesIn records) st memory (decode standard w)
-    lends =
-        record {
-          table = sound-table standard-fit w S;
-          apart = spans-bare (overlap-spans standard) (D .rows) ∙ as-boot (st .rows) (S .rows) .apart;
-          fits = D .fits;
-          memory = D .memory;
-          counters = D .counters;
-        }
+      pub lends : Lends board (recordAt records) (pagesIn records) st memory (decode board w)
+      lends =
+          record {
+            table = sound-table w S;
+            apart = spans-bare (overlap-spans board) (D .rows) ∙ as-boot (st .rows) (S .rows) .apart;
+            fits = D .fits;
+            memory = D .memory;
+            counters = D .counters;
+          }
 
-    -- ---- what it leaves
+      -- ---- what it leaves
 
-    module _
-        (records2 memory2 : List ℕ) (as-long : length records2 ≡ length records) (small : (i : ℕ) → getD records i 0 < 256)
-        (small2 : (i : ℕ) → getD records2 i 0 < 256)
-      where
-        abbrev Given : GrantedOf → Granted → Type 0
-        Given x r = Gives (recordAt records) st memory (decode standard w) x (recordAt records2) (pagesIn records2) memory2 r
+      module _
+          (records2 memory2 : List ℕ) (as-long : length records2 ≡ length records) (small : (i : ℕ) → getD records i 0 < 256)
+          (small2 : (i : ℕ) → getD records2 i 0 < 256)
+        where
+          abbrev Given : GrantedOf → Granted → Type 0
+          Given x r = Gives board (recordAt records) st memory (decode board w) x (recordAt records2) (pagesIn records2) memory2 r
 
-        left : {x : GrantedOf} {r : Granted} → Given x r → Finds st r → Kept (decode standard w) (x .store) → encode standard (x .store) w ≡ worldOf (r .state) records2 memory2 queue
-        left {x} {r} G F K =
-            left-by standard-fit w S (x .store) (worldOf (r .state) records2 memory2 queue) (G .turned) as-long small small2
-            (record { memory = G .memory; as-long = G .as-long; beyond = G .beyond })
-            (G .counters)
-            (K .pass ∙ D .pass ∙ sym (F .pass))
-            (K .queue ∙ D .queue ∙ ap (λ (n : ℕ). take n queue) (sym (F .queued)))
-            (rw (F .queued) (D .queued))
-            (K .room ∙ D .room)
-            refl
+          left : {x : GrantedOf} {r : Granted} → Given x r → Finds board st r → Kept (decode board w) (x .store) → encode board (x .store) w ≡ worldOf (r .state) records2 memory2 queue
+          left {x} {r} G F K =
+              left-by w S (x .store) (worldOf (r .state) records2 memory2 queue) (G .turned) as-long small small2
+              (record { memory = G .memory; as-long = G .as-long; beyond = G .beyond })
+              (G .counters)
+              (K .pass ∙ D .pass ∙ sym (F .pass))
+              (K .queue ∙ D .queue ∙ ap (λ (n : ℕ). take n queue) (sym (F .queued)))
+              (rw (F .queued) (D .queued))
+              (K .room ∙ D .room)
+              refl
 
-        -- the call that hands out what was granted
-        leaves-handed
-            : (c : Call) (l : ℕ) {x : GrantedOf} {r : Granted} → refusalOf standard (decode standard w) c ≡ 0 → perform standard (decode standard w) c ≡ hands standard l x
-            → Given x r → Finds st r → Kept (decode standard w) (x .store) → Leaves w c (worldOf (r .state) records2 memory2 queue) (handed (r .found) (r .address) l)
-        leaves-handed c l {x} {r} z e G F K = go (r .found) refl
-          where
-            go : (b : Bool) → r .found ≡ b → Leaves w c (worldOf (r .state) records2 memory2 queue) (handed b (r .address) l)
-            go true d =
-                let p = numberAt standard (r .state .rows) (r .spot) in
-                let o = done (x .store) (standard .page * p) (bytesOfLevel standard l) in
-                rw (F .address d) (leaves-done w c t z o (worldOf (r .state) records2 memory2 queue) (e ∙ hands-some l x p (G .page d)) (left G F K))
-            go false d =
-                leaves-done w c t z (done (x .store) 0 0) (worldOf (r .state) records2 memory2 queue) (e ∙ hands-none l x (G .none-found d)) (left G F K)
+          -- the call that hands out what was granted
+          leaves-handed
+              : (c : Call) (l : ℕ) {x : GrantedOf} {r : Granted} → refusalOf board (decode board w) c ≡ 0 → perform board (decode board w) c ≡ hands board l x
+              → Given x r → Finds board st r → Kept (decode board w) (x .store) → Leaves board w c (worldOf (r .state) records2 memory2 queue) (handed board (r .found) (r .address) l)
+          leaves-handed c l {x} {r} z e G F K = go (r .found) refl
+            where
+              go : (b : Bool) → r .found ≡ b → Leaves board w c (worldOf (r .state) records2 memory2 queue) (handed board b (r .address) l)
+              go true d =
+                  let p = numberAt board (r .state .rows) (r .spot) in
+                  let o = done (x .store) (board .page * p) (bytesOfLevel board l) in
+                  rw (F .address d) (leaves-done w c t z o (worldOf (r .state) records2 memory2 queue) (e ∙ hands-some board l x p (G .page d)) (left G F K))
+              go false d =
+                  leaves-done w c t z (done (x .store) 0 0) (worldOf (r .state) records2 memory2 queue) (e ∙ hands-none board l x (G .none-found d)) (left G F K)
 
-        module _ (y : Layout) {l : ℕ} (e : l ≡ findLevel standard y) (z : refusalOf standard (decode standard w) (Alloc y) ≡ 0) {r : Granted} (F : Finds st r) where
-          pub leaves-alloc
-              : Given (tryAllocFrame standard l (y .flags) (decode standard w)) r
-              → Leaves w (Alloc y) (worldOf (r .state) records2 memory2 queue) (handed (r .found) (r .address) l)
-          leaves-alloc G = leaves-handed (Alloc y) l z (performs-alloc (decode standard w) y e) G F (try-keeps l (y .flags) (decode standard w))
+          module _ (y : Layout) {l : ℕ} (e : l ≡ findLevel board y) (z : refusalOf board (decode board w) (Alloc y) ≡ 0) {r : Granted} (F : Finds board st r) where
+            pub leaves-alloc
+                : Given (tryAllocFrame board everywhere l (y .flags) (decode board w)) r
+                → Leaves board w (Alloc y) (worldOf (r .state) records2 memory2 queue) (handed board (r .found) (r .address) l)
+            leaves-alloc G = leaves-handed (Alloc y) l z (performs-alloc board (decode board w) y e) G F (try-keeps board l (y .flags) (decode board w))
 
-          pub leaves-take
-              : Given (tryAllocSplitFrames standard l (y .flags) (decode standard w)) r
-              → Leaves w (Take y) (worldOf (r .state) records2 memory2 queue) (handed (r .found) (r .address) l)
-          leaves-take G = leaves-handed (Take y) l z (performs-take (decode standard w) y e) G F (split-keeps l (y .flags) (decode standard w))
+            pub leaves-take
+                : Given (tryAllocSplitFrames board everywhere l (y .flags) (decode board w)) r
+                → Leaves board w (Take y) (worldOf (r .state) records2 memory2 queue) (handed board (r .found) (r .address) l)
+            leaves-take G = leaves-handed (Take y) l z (performs-take board (decode board w) y e) G F (split-keeps board l (y .flags) (decode board w))

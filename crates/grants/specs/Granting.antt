@@ -9,7 +9,7 @@ use lib.Dec.{eqb}
 use lib.ListN.{length, take, drop, replicate}
 use Rattle.definition.specs.declared.Record.{Record}
 use Rattle.definition.specs.declared.Row.{Row}
-use Rattle.definition.specs.Board.{standard}
+use Rattle.definition.specs.Board.{Board}
 use Rattle.definition.specs.Boot.{managedPages, overlap}
 use Rattle.definition.specs.Frame.{size}
 use Rattle.definition.specs.Store.{Store}
@@ -18,7 +18,7 @@ use Rattle.definition.specs.Calls.{Alloc, Layout, findLevel}
 use Rattle.definition.specs.World.{World, decode, memoryBytes}
 use Rattle.definition.specs.Torn.{regionsOf, sound}
 use Rattle.record.specs.Records.{withBytes}
-use Rattle.region.specs.Rep.{Inside, fromOf, managed}
+use Rattle.region.specs.Rep.{Inside}
 use Rattle.world.specs.Refusals.{refusalOf}
 use Rattle.world.specs.Stands.{rowAt}
 use Rattle.world.specs.Tables.{Sane, Table, Turned}
@@ -30,54 +30,13 @@ use Rattle.grants.specs.declared.Asked.{Asked}
 
 -- ---- which refusal a layout meets
 
--- the refusal that a layout meets, and where it meets none the level that it gets
-pub record Wants (w : World) (y : Layout) (r : Asked) : Type 0 where
-  pub torn : sound standard w ≡ false → r .number ≡ 6
-  pub number : sound standard w ≡ true → r .number ≡ refusalOf standard (decode standard w) (Alloc y)
-  pub level : r .number ≡ 0 → r .level ≡ findLevel standard y
-  pub small : r .number ≡ 0 → r .level < 3
-
-abbrev pub WantsAll : State → List ℕ → (memoryLen queueLen : ℕ) → Layout → Asked → Type 0
-WantsAll s records memoryLen queueLen y r =
-    (memory queue : List ℕ) → length memory ≡ memoryLen → length queue ≡ queueLen → Wants (worldOf s records memory queue) y r
-
 -- ---- what a grant is given
-
--- what the parts of a grant ask of the state, the records f of n pages and a memory of so many bytes
-pub record Ready (f : ℕ → Record) (n : ℕ) (st : State) (long : ℕ) : Type 0 where
-  pub sane : Sane standard f n (st .rows)
-  pub memory : standard .page * managedPages standard (regionsOf standard (st .rows)) ≤ long
-  pub kernel : st .counters .«kernel_used» < 2 ^ 57
-  pub page : st .counters .«page_data» < 2 ^ 57
-
--- the state, the records and the memory's bytes stand for the store s, but for its queue and its pass
-pub record Lends (f : ℕ → Record) (n : ℕ) (st : State) (bytes : List ℕ) (s : Store) : Type 0 where
-  pub table : Table standard f n (st .rows) (s .allocator)
-  pub apart : overlap standard (s .allocator .regions) ≡ false
-  pub fits : standard .page * managedPages standard (s .allocator .regions) ≤ length bytes
-  pub memory : memoryBytes standard (s .memory) (s .allocator .regions) ≡ take (standard .page * managedPages standard (s .allocator .regions)) bytes
-  pub counters : s .counters ≡ st .counters
 
 -- ---- the parts of a grant
 
 -- the frame of a record is zeroed where that was asked and it isn't marked so
 abbrev pub zeroes : Bool → Record → Bool
 zeroes zeroed r = zeroed && not (eqb (r .marks / 4 % 2) 1)
-
-abbrev pub zeroedBytes : Bool → Record → ℕ → List ℕ → List ℕ
-zeroedBytes zeroed r q bytes = cond (zeroes zeroed r) (withBytes bytes (4096 * q) (replicate (4096 * size (r .level)) 0)) bytes
-
--- the addresses of a row's pages fit
-pub record Near (rows : List Row) (s : Spot) : Type 0 where
-  pub index : s .index < 8
-  pub pages : rowAt rows (s .index) .pages ≤ 2 ^ 32
-  pub inside : Inside standard (s .base) (rowAt rows (s .index) .pages) (s .page)
-  pub ends : fromOf standard (rowAt rows (s .index)) + managed standard (rowAt rows (s .index) .pages) ≤ 2 ^ 52
-
--- the answer to a grant
-abbrev pub handed : (found : Bool) → (address level : ℕ) → Answer
-handed found address level =
-    cond found (record { number = 0; address = address; bytes = 4096 * size level }) (record { number = 0; address = 0; bytes = 0 })
 
 -- ---- what a grant leaves
 
@@ -88,29 +47,70 @@ pub record Granted : Type 0 where
   pub spot : Spot
   pub address : ℕ
 
--- of the store s, by what the definition's grant makes of it
-pub record Gives (f : ℕ → Record) (st : State) (bytes : List ℕ) (s : Store) (x : GrantedOf) (g : ℕ → Record) (n : ℕ) (bytes2 : List ℕ) (r : Granted) : Type 0 where
-  pub turned : Turned standard f (st .rows) g n (r .state .rows) (x .store .allocator)
-  pub memory
-      : memoryBytes standard (x .store .memory) (s .allocator .regions) ≡ take (standard .page * managedPages standard (s .allocator .regions)) bytes2
-  pub as-long : length bytes2 ≡ length bytes
-  pub beyond
-      : drop (standard .page * managedPages standard (s .allocator .regions)) bytes2 ≡ drop (standard .page * managedPages standard (s .allocator .regions)) bytes
-  pub counters : x .store .counters ≡ r .state .counters
-  pub none-found : r .found ≡ false → x .page ≡ none
-  pub page : r .found ≡ true → x .page ≡ some (numberAt standard (r .state .rows) (r .spot))
+module _ (board : Board) where
+  -- the refusal that a layout meets, and where it meets none the level that it gets
+  pub record Wants (w : World) (y : Layout) (r : Asked) : Type 0 where
+    pub torn : sound board w ≡ false → r .number ≡ 6
+    pub number : sound board w ≡ true → r .number ≡ refusalOf board (decode board w) (Alloc y)
+    pub level : r .number ≡ 0 → r .level ≡ findLevel board y
+    pub small : r .number ≡ 0 → r .level < 3
 
-abbrev pub GivesBy : (Store → GrantedOf) → (ℕ → Record) → State → List ℕ → (ℕ → Record) → ℕ → List ℕ → Granted → Type 0
-GivesBy op f st bytes g n bytes2 r = (s : Store) → Lends f n st bytes s → Gives f st bytes s (op s) g n bytes2 r
+  abbrev pub WantsAll : State → List ℕ → (memoryLen queueLen : ℕ) → Layout → Asked → Type 0
+  WantsAll s records memoryLen queueLen y r =
+      (memory queue : List ℕ) → length memory ≡ memoryLen → length queue ≡ queueLen → Wants (worldOf s records memory queue) y r
 
--- what a grant leaves of the state and finds, whatever the store
-pub record Finds (st : State) (r : Granted) : Type 0 where
-  pub queued : r .state .queued ≡ st .queued
-  pub pass : r .state .pass ≡ st .pass
-  pub address : r .found ≡ true → r .address ≡ 4096 * numberAt standard (r .state .rows) (r .spot)
+  -- what the parts of a grant ask of the state, the records f of n pages and a memory of so many bytes
+  pub record Ready (f : ℕ → Record) (n : ℕ) (st : State) (long : ℕ) : Type 0 where
+    pub sane : Sane board f n (st .rows)
+    pub memory : board .page * managedPages board (regionsOf board (st .rows)) ≤ long
+    pub kernel : st .counters .«kernel_used» < 2 ^ 57
+    pub page : st .counters .«page_data» < 2 ^ 57
 
--- the frame that was found is held
-pub record Holds (g : ℕ → Record) (n : ℕ) (r : Granted) : Type 0 where
-  pub sane : Sane standard g n (r .state .rows)
-  pub spot : r .found ≡ true → InRows standard (r .state .rows) (r .spot)
-  pub held : r .found ≡ true → HeldAt standard g (r .state .rows) (r .spot)
+  -- the state, the records and the memory's bytes stand for the store s, but for its queue and its pass
+  pub record Lends (f : ℕ → Record) (n : ℕ) (st : State) (bytes : List ℕ) (s : Store) : Type 0 where
+    pub table : Table board f n (st .rows) (s .allocator)
+    pub apart : overlap board (s .allocator .regions) ≡ false
+    pub fits : board .page * managedPages board (s .allocator .regions) ≤ length bytes
+    pub memory : memoryBytes board (s .memory) (s .allocator .regions) ≡ take (board .page * managedPages board (s .allocator .regions)) bytes
+    pub counters : s .counters ≡ st .counters
+
+  abbrev pub zeroedBytes : Bool → Record → ℕ → List ℕ → List ℕ
+  zeroedBytes zeroed r q bytes = cond (zeroes zeroed r) (withBytes bytes (board .page * q) (replicate (board .page * size (r .level)) 0)) bytes
+
+  -- the addresses of a row's pages fit
+  pub record Near (rows : List Row) (s : Spot) : Type 0 where
+    pub index : s .index < 8
+    pub inside : Inside board (s .base) (rowAt rows (s .index) .pages) (s .page)
+    pub bounded : board .page * (rowAt rows (s .index) .start .0 / board .page + rowAt rows (s .index) .pages) ≤ 2 ^ 40
+
+  -- the answer to a grant
+  abbrev pub handed : (found : Bool) → (address level : ℕ) → Answer
+  handed found address level =
+      cond found (record { number = 0; address = address; bytes = board .page * size level }) (record { number = 0; address = 0; bytes = 0 })
+
+  -- of the store s, by what the definition's grant makes of it
+  pub record Gives (f : ℕ → Record) (st : State) (bytes : List ℕ) (s : Store) (x : GrantedOf) (g : ℕ → Record) (n : ℕ) (bytes2 : List ℕ) (r : Granted) : Type 0 where
+    pub turned : Turned board f (st .rows) g n (r .state .rows) (x .store .allocator)
+    pub memory
+        : memoryBytes board (x .store .memory) (s .allocator .regions) ≡ take (board .page * managedPages board (s .allocator .regions)) bytes2
+    pub as-long : length bytes2 ≡ length bytes
+    pub beyond
+        : drop (board .page * managedPages board (s .allocator .regions)) bytes2 ≡ drop (board .page * managedPages board (s .allocator .regions)) bytes
+    pub counters : x .store .counters ≡ r .state .counters
+    pub none-found : r .found ≡ false → x .page ≡ none
+    pub page : r .found ≡ true → x .page ≡ some (numberAt board (r .state .rows) (r .spot))
+
+  abbrev pub GivesBy : (Store → GrantedOf) → (ℕ → Record) → State → List ℕ → (ℕ → Record) → ℕ → List ℕ → Granted → Type 0
+  GivesBy op f st bytes g n bytes2 r = (s : Store) → Lends f n st bytes s → Gives f st bytes s (op s) g n bytes2 r
+
+  -- what a grant leaves of the state and finds, whatever the store
+  pub record Finds (st : State) (r : Granted) : Type 0 where
+    pub queued : r .state .queued ≡ st .queued
+    pub pass : r .state .pass ≡ st .pass
+    pub address : r .found ≡ true → r .address ≡ board .page * numberAt board (r .state .rows) (r .spot)
+
+  -- the frame that was found is held
+  pub record Holds (g : ℕ → Record) (n : ℕ) (r : Granted) : Type 0 where
+    pub sane : Sane board g n (r .state .rows)
+    pub spot : r .found ≡ true → InRows board (r .state .rows) (r .spot)
+    pub held : r .found ≡ true → HeldAt board g (r .state .rows) (r .spot)

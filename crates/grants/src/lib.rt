@@ -1,5 +1,7 @@
 // Grants: try_alloc_frame and try_alloc_split_frames. Each promises definition's `call` of the words and loans that it is given.
+ghost use Rattle.definition.specs.Basics.{everywhere};
 use allocator::Spot;
+use definition::Board;
 use definition::Counters;
 use definition::FrameAllocFlags;
 use definition::Refusal;
@@ -10,15 +12,15 @@ ghost use mathlib.Core.Bool.{false};
 ghost use mathlib.Core.Path.{_≡_};
 ghost use Prim.Native.Nat.{_+_, _*_, _<_, _≤_};
 ghost use lib.ListN.{length};
-ghost use Rattle.definition.specs.Board.{standard};
+ghost use Rattle.definition.specs.Board.{Fit};
 ghost use Rattle.definition.specs.Frame.{size as pagesOf};
 ghost use Rattle.definition.specs.Tracker.{countAlloc, tryAllocFrame, tryAllocSplitFrames};
 ghost use Rattle.definition.specs.Calls.{Alloc, Take};
 ghost use Rattle.definition.specs.Refusal.{numberOf};
 ghost use Rattle.definition.specs.World.{recordAt};
 ghost use Rattle.record.specs.Records.{pagesIn};
-ghost use Rattle.words.specs.Words.{rowsIn, Beside};
-ghost use Rattle.allocator.specs.Spots.{InRows, HeldAt, TurnsBy, markAt, numberAt};
+ghost use Rattle.words.specs.Words.{boardIn, rowsIn, Beside};
+ghost use Rattle.allocator.specs.Spots.{HeldIn, TurnsIn, markAt, numberIn};
 ghost use Rattle.exam.specs.Promise.{stateWith, worldOf, Leaves};
 ghost use Rattle.grants.specs.Granting.{
   WantsAll,
@@ -76,7 +78,7 @@ fn wanted(
     flags: FrameAllocFlags,
 ) -> Asked
     requires { ⌜ 92 ≤ length (now words) ⌝ }
-    ensures { λ r. ⌜ WantsAll (stateWith counters (now (words .entry))) (now (records .entry)) «memory_len» «queue_len» (record { size = size; align = align; flags = flags }) r ⌝ }
+    ensures { λ r. ⌜ WantsAll (boardIn (now (words .entry))) (stateWith counters (now (words .entry))) (now (records .entry)) «memory_len» «queue_len» (record { size = size; align = align; flags = flags }) r ⌝ }
 {
     if !exam::is_sound(counters, words, records, memory_len, queue_len) {
         return Asked {
@@ -84,7 +86,8 @@ fn wanted(
             level: 0,
         };
     }
-    match level::find_level(size, align) {
+    let board = words::board_in(words);
+    match level::find_level(board, size, align) {
         FoundLevel::At(level) => {
             let index = level.index();
             if allocator::is_listed(words, records, index) {
@@ -108,10 +111,10 @@ fn wanted(
 // ---- the parts of a grant
 
 // frame.rs 586, alloc: a ZEROED grant trusts a frame marked ZEROED and zeroes any other.
-fn zero_if_asked(records: &[u8], memory: &mut [u8], page: usize, zeroed: bool)
+fn zero_if_asked(board: Board, records: &[u8], memory: &mut [u8], page: usize, zeroed: bool)
     requires { ⌜ (page < pagesIn (now records)) × (recordAt (now records) page .level < 3) ⌝ }
-    requires { ⌜ 4096 * page + 4096 * pagesOf (recordAt (now records) page .level) ≤ length (now memory) ⌝ }
-    ensures { λ _. ⌜ now (memory .exit) ≡ zeroedBytes zeroed (recordAt (now (records .entry)) page) page (now (memory .entry)) ⌝ }
+    requires { ⌜ board .page * page + board .page * pagesOf (recordAt (now records) page .level) ≤ length (now memory) ⌝ }
+    ensures { λ _. ⌜ now (memory .exit) ≡ zeroedBytes board zeroed (recordAt (now (records .entry)) page) page (now (memory .entry)) ⌝ }
 {
     if !zeroed {
         return;
@@ -119,8 +122,8 @@ fn zero_if_asked(records: &[u8], memory: &mut [u8], page: usize, zeroed: bool)
     if record::is_zeroed(record::marks(records, page)) {
         return;
     }
-    let pages = level::pages_at(record::level(records, page) as usize);
-    contents::fill(memory, 4096 * page, 4096 * pages, 0);
+    let pages = level::pages_at(record::level_of(record::level(records, page)));
+    contents::fill(memory, board.page * page, board.page * pages, 0);
 }
 
 // frame.rs 715 clears the ZEROED mark; tracker.rs 73 to 80 set KERNEL as asked, and count the pages of the level that was asked for.
@@ -133,14 +136,15 @@ fn hand_over(
     level: usize,
     flags: FrameAllocFlags,
 ) -> Counters
-    requires { ⌜ (92 ≤ length (now words)) × Ready (recordAt (now records)) (pagesIn (now records)) (stateWith counters (now words)) (length (now memory)) × (level < 3) ⌝ }
-    requires { ⌜ InRows standard (rowsIn (now words)) spot × HeldAt standard (recordAt (now records)) (rowsIn (now words)) spot ⌝ }
+    requires { ⌜ (92 ≤ length (now words)) × Ready (boardIn (now words)) (recordAt (now records)) (pagesIn (now records)) (stateWith counters (now words)) (length (now memory)) × (level < 3) ⌝ }
+    requires { ⌜ HeldIn (now records) (now words) spot ⌝ }
     ensures { λ r. ⌜ r ≡ countAlloc (pagesOf level) (flags .kernel) counters ⌝ }
-    ensures { λ _. ⌜ now (memory .exit) ≡ zeroedBytes (flags .zeroed) (recordAt (now (records .entry)) (spot .page)) (spot .page) (now (memory .entry)) ⌝ }
-    ensures { λ _. ⌜ TurnsBy standard (markAt false (flags .kernel) (numberAt standard (rowsIn (now (words .entry))) spot)) (recordAt (now (records .entry))) (rowsIn (now (words .entry))) (recordAt (now (records .exit))) (pagesIn (now (records .exit))) (rowsIn (now (words .entry))) ⌝ }
+    ensures { λ _. ⌜ now (memory .exit) ≡ zeroedBytes (boardIn (now (words .entry))) (flags .zeroed) (recordAt (now (records .entry)) (spot .page)) (spot .page) (now (memory .entry)) ⌝ }
+    ensures { λ _. ⌜ TurnsIn (markAt false (flags .kernel) (numberIn (now (words .entry)) spot)) (now (records .entry)) (now (words .entry)) (now (records .exit)) (now (words .entry)) ⌝ }
 {
+    let board = words::board_in(words);
     let page = spot.page;
-    zero_if_asked(records, memory, page, flags.zeroed);
+    zero_if_asked(board, records, memory, page, flags.zeroed);
     allocator::set_marks(words, records, spot, false, flags.kernel);
     let pages = level::pages_at(level);
     tracker::count_alloc(counters, pages, flags.kernel)
@@ -148,11 +152,12 @@ fn hand_over(
 
 // The first address of a page of a row.
 fn address_of(words: &[u64], spot: Spot) -> u64
-    requires { ⌜ (92 ≤ length (now words)) × Near (rowsIn (now words)) spot ⌝ }
-    ensures { λ r. ⌜ r ≡ 4096 * numberAt standard (rowsIn (now (words .entry))) spot ⌝ }
+    requires { ⌜ (92 ≤ length (now words)) × Near (boardIn (now words)) (rowsIn (now words)) spot ⌝ }
+    ensures { λ r. ⌜ r ≡ boardIn (now (words .entry)) .page * numberIn (now (words .entry)) spot ⌝ }
 {
+    let board = words::board_in(words);
     let row = words::row_at(words, spot.index);
-    region::start_address(row, spot.base, spot.page).raw()
+    region::start_address(board, row, spot.base, spot.page).raw()
 }
 
 // ---- a grant
@@ -174,9 +179,9 @@ fn grant(
     level: usize,
     flags: FrameAllocFlags,
 ) -> Granted
-    requires { ⌜ (92 ≤ length (now words)) × Ready (recordAt (now records)) (pagesIn (now records)) (stateWith counters (now words)) (length (now memory)) × (level < 3) ⌝ }
-    ensures { λ r. ⌜ Finds (stateWith counters (now (words .entry))) (record { state = stateWith (r .counters) (now (words .exit)); found = r .found; spot = r .spot; address = r .address }) × Holds (recordAt (now (records .exit))) (pagesIn (now (records .exit))) (record { state = stateWith (r .counters) (now (words .exit)); found = r .found; spot = r .spot; address = r .address }) ⌝ }
-    ensures { λ r. ⌜ GivesBy (tryAllocFrame standard level flags) (recordAt (now (records .entry))) (stateWith counters (now (words .entry))) (now (memory .entry)) (recordAt (now (records .exit))) (pagesIn (now (records .exit))) (now (memory .exit)) (record { state = stateWith (r .counters) (now (words .exit)); found = r .found; spot = r .spot; address = r .address }) ⌝ }
+    requires { ⌜ (92 ≤ length (now words)) × Ready (boardIn (now words)) (recordAt (now records)) (pagesIn (now records)) (stateWith counters (now words)) (length (now memory)) × (level < 3) ⌝ }
+    ensures { λ r. ⌜ Finds (boardIn (now (words .entry))) (stateWith counters (now (words .entry))) (record { state = stateWith (r .counters) (now (words .exit)); found = r .found; spot = r .spot; address = r .address }) × Holds (boardIn (now (words .entry))) (recordAt (now (records .exit))) (pagesIn (now (records .exit))) (record { state = stateWith (r .counters) (now (words .exit)); found = r .found; spot = r .spot; address = r .address }) ⌝ }
+    ensures { λ r. ⌜ GivesBy (boardIn (now (words .entry))) (tryAllocFrame (boardIn (now (words .entry))) everywhere level flags) (recordAt (now (records .entry))) (stateWith counters (now (words .entry))) (now (memory .entry)) (recordAt (now (records .exit))) (pagesIn (now (records .exit))) (now (memory .exit)) (record { state = stateWith (r .counters) (now (words .exit)); found = r .found; spot = r .spot; address = r .address }) ⌝ }
     ensures { λ _. ⌜ Beside (now (words .entry)) (now (words .exit)) ⌝ }
 {
     let picked = allocator::do_alloc(words, records, level, flags.zeroed);
@@ -208,9 +213,9 @@ fn grant_split(
     level: usize,
     flags: FrameAllocFlags,
 ) -> Granted
-    requires { ⌜ (92 ≤ length (now words)) × Ready (recordAt (now records)) (pagesIn (now records)) (stateWith counters (now words)) (length (now memory)) × (level < 3) ⌝ }
-    ensures { λ r. ⌜ Finds (stateWith counters (now (words .entry))) (record { state = stateWith (r .counters) (now (words .exit)); found = r .found; spot = r .spot; address = r .address }) ⌝ }
-    ensures { λ r. ⌜ GivesBy (tryAllocSplitFrames standard level flags) (recordAt (now (records .entry))) (stateWith counters (now (words .entry))) (now (memory .entry)) (recordAt (now (records .exit))) (pagesIn (now (records .exit))) (now (memory .exit)) (record { state = stateWith (r .counters) (now (words .exit)); found = r .found; spot = r .spot; address = r .address }) ⌝ }
+    requires { ⌜ (92 ≤ length (now words)) × Ready (boardIn (now words)) (recordAt (now records)) (pagesIn (now records)) (stateWith counters (now words)) (length (now memory)) × (level < 3) ⌝ }
+    ensures { λ r. ⌜ Finds (boardIn (now (words .entry))) (stateWith counters (now (words .entry))) (record { state = stateWith (r .counters) (now (words .exit)); found = r .found; spot = r .spot; address = r .address }) ⌝ }
+    ensures { λ r. ⌜ GivesBy (boardIn (now (words .entry))) (tryAllocSplitFrames (boardIn (now (words .entry))) everywhere level flags) (recordAt (now (records .entry))) (stateWith counters (now (words .entry))) (now (memory .entry)) (recordAt (now (records .exit))) (pagesIn (now (records .exit))) (now (memory .exit)) (record { state = stateWith (r .counters) (now (words .exit)); found = r .found; spot = r .spot; address = r .address }) ⌝ }
     ensures { λ _. ⌜ Beside (now (words .entry)) (now (words .exit)) ⌝ }
 {
     let granted = grant(counters, words, records, memory, level, flags);
@@ -222,15 +227,16 @@ fn grant_split(
 }
 
 // The answer to a grant: the frame's address and bytes.
-fn handed(found: bool, address: u64, level: usize) -> Answer
+fn handed(board: Board, found: bool, address: u64, level: usize) -> Answer
+    requires { ⌜ Fit board ⌝ }
     requires { ⌜ level < 3 ⌝ }
-    ensures { λ r. ⌜ r ≡ «handed_def» found address level ⌝ }
+    ensures { λ r. ⌜ r ≡ «handed_def» board found address level ⌝ }
 {
     if !found {
         return exam::done(0, 0);
     }
     let pages = level::pages_at(level);
-    exam::done(address, 4096 * (pages as u64))
+    exam::done(address, (board.page * pages) as u64)
 }
 
 // ---- the calls
@@ -247,7 +253,7 @@ pub fn alloc(
     flags: FrameAllocFlags,
 ) -> Outcome
     requires { ⌜ 92 ≤ length (now words) ⌝ }
-    ensures { λ r. ⌜ Leaves (worldOf (stateWith counters (now (words .entry))) (now (records .entry)) (now (memory .entry)) (now (queue .entry))) (Alloc (record { size = size; align = align; flags = flags })) (worldOf (stateWith (r .counters) (now (words .exit))) (now (records .exit)) (now (memory .exit)) (now (queue .entry))) (r .answer) ⌝ }
+    ensures { λ r. ⌜ Leaves (boardIn (now (words .entry))) (worldOf (stateWith counters (now (words .entry))) (now (records .entry)) (now (memory .entry)) (now (queue .entry))) (Alloc (record { size = size; align = align; flags = flags })) (worldOf (stateWith (r .counters) (now (words .exit))) (now (records .exit)) (now (memory .exit)) (now (queue .entry))) (r .answer) ⌝ }
     ensures { λ _. ⌜ Beside (now (words .entry)) (now (words .exit)) ⌝ }
 {
     let asked = wanted(
@@ -268,11 +274,12 @@ pub fn alloc(
         };
     }
     let level = asked.level;
+    let board = words::board_in(words);
     let granted = grant(counters, words, records, memory, level, flags);
     let next = granted.counters;
     Outcome {
         counters: next,
-        answer: handed(granted.found, granted.address, level),
+        answer: handed(board, granted.found, granted.address, level),
     }
 }
 
@@ -288,7 +295,7 @@ pub fn take(
     flags: FrameAllocFlags,
 ) -> Outcome
     requires { ⌜ 92 ≤ length (now words) ⌝ }
-    ensures { λ r. ⌜ Leaves (worldOf (stateWith counters (now (words .entry))) (now (records .entry)) (now (memory .entry)) (now (queue .entry))) (Take (record { size = size; align = align; flags = flags })) (worldOf (stateWith (r .counters) (now (words .exit))) (now (records .exit)) (now (memory .exit)) (now (queue .entry))) (r .answer) ⌝ }
+    ensures { λ r. ⌜ Leaves (boardIn (now (words .entry))) (worldOf (stateWith counters (now (words .entry))) (now (records .entry)) (now (memory .entry)) (now (queue .entry))) (Take (record { size = size; align = align; flags = flags })) (worldOf (stateWith (r .counters) (now (words .exit))) (now (records .exit)) (now (memory .exit)) (now (queue .entry))) (r .answer) ⌝ }
     ensures { λ _. ⌜ Beside (now (words .entry)) (now (words .exit)) ⌝ }
 {
     let asked = wanted(
@@ -309,10 +316,11 @@ pub fn take(
         };
     }
     let level = asked.level;
+    let board = words::board_in(words);
     let granted = grant_split(counters, words, records, memory, level, flags);
     let next = granted.counters;
     Outcome {
         counters: next,
-        answer: handed(granted.found, granted.address, level),
+        answer: handed(board, granted.found, granted.address, level),
     }
 }

@@ -1,6 +1,7 @@
 // What bench/ times: loops over the records, the lists, the allocator of one region and the contents of memory, exported on slices and numbers. Nothing else
 // calls them. Each tests what it was lent and answers 0 where the loan does not fit; a loan of records that fits has one for each page, and at most 1,048,576.
 use address::PhysAddr;
+use definition::Board;
 use definition::Links;
 use definition::Pass;
 use definition::Record;
@@ -11,7 +12,6 @@ ghost use Prim.Native.Nat.{_+_, _≤_, _<_, _^_};
 ghost use mathlib.Core.Bool.{_&&_};
 ghost use lib.Dec.{leb};
 ghost use lib.ListN.{length};
-ghost use Rattle.definition.specs.Board.{standard};
 ghost use Rattle.definition.specs.World.{recordAt};
 ghost use Rattle.record.specs.Records.{pagesIn};
 ghost use Rattle.list.specs.Linked.{Sound};
@@ -178,14 +178,20 @@ fn keep(words: &mut [u64], row: Row)
     );
 }
 
-fn grant_all(records: &mut [u8], words: &mut [u64], level: usize, times: usize) -> usize
-    requires { ⌜ SoundAt standard (now records) 0 (now words) 0 ⌝ }
-    requires { ⌜ (WholeAt standard (now records) 0 (now words) 0) × (level < 3) ⌝ }
+fn grant_all(
+    board: Board,
+    records: &mut [u8],
+    words: &mut [u64],
+    level: usize,
+    times: usize,
+) -> usize
+    requires { ⌜ SoundAt board (now records) 0 (now words) 0 ⌝ }
+    requires { ⌜ (WholeAt board (now records) 0 (now words) 0) × (level < 3) ⌝ }
     ensures { λ r. ⌜ r ≤ times ⌝ }
 {
     let mut i: usize = 0;
     while i < times {
-        let got = region::allocate(records, 0, words, 0, level, false, false);
+        let got = region::allocate(board, records, 0, words, 0, level, false, false);
         if !got.found {
             return i;
         }
@@ -206,6 +212,7 @@ pub extern "C" fn leaves_grants(
 ) -> usize
     ensures { λ r. ⌜ r ≤ times ⌝ }
 {
+    let board = definition::standard();
     if 2 < level {
         return 0;
     }
@@ -213,32 +220,33 @@ pub extern "C" fn leaves_grants(
         return 0;
     }
     let most = records.len() / 16;
-    if most < pages - region::table_pages(pages) {
+    if most < pages - region::table_pages(board, pages) {
         return 0;
     }
     if 1048576 < most {
         return 0;
     }
-    let row = region::new(records, 0, PhysAddr::new(start), pages);
+    let row = region::new(board, records, 0, PhysAddr::new(start), pages);
     let mut words = [0u64; 92];
     keep(&mut words, row);
-    grant_all(records, &mut words, level, times)
+    grant_all(board, records, &mut words, level, times)
 }
 
 // Lays a region out, and answers how many of its frames are small.
 #[no_mangle]
 pub extern "C" fn leaves_new(records: &mut [u8], start: u64, pages: usize) -> usize {
+    let board = definition::standard();
     if 1048576 < pages {
         return 0;
     }
     let most = records.len() / 16;
-    if most < pages - region::table_pages(pages) {
+    if most < pages - region::table_pages(board, pages) {
         return 0;
     }
     if 1048576 < most {
         return 0;
     }
-    let row = region::new(records, 0, PhysAddr::new(start), pages);
+    let row = region::new(board, records, 0, PhysAddr::new(start), pages);
     let small = row.lists[0];
     small.count as usize
 }

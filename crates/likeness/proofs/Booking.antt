@@ -7,11 +7,12 @@ use mathlib.Core.Path.{_≡_, refl, ap, ap₂, _∙_}
 use native.Mathlib.Omega.{arith}
 use lib.Dec.{eqb}
 use borrow.Author.Tests.{eqb-true}
+use Rattle.definition.proofs.Tests.{or-left, or-right}
 use Rattle.definition.specs.Basics.{any, sum, member}
 use Rattle.definition.specs.Frame.{Frames}
 use Rattle.definition.specs.Rust.{allOnce}
 use Rattle.likeness.specs.Likeness.{pagesHeld}
-use Rattle.likeness.proofs.Lists.{or-left, or-right, absent, once-tail}
+use Rattle.likeness.proofs.Lists.{absent, once-tail}
 
 -- ---- sums
 

@@ -8,13 +8,14 @@ use native.Mathlib.Nat.{div-mul-le-self, mul-div-cancel-left}
 use native.Mathlib.Omega.{arith}
 use lib.Dec.{leb, eqb, lit<}
 use borrow.Author.Tests.{eqb-true, leb-true, le-leb, lt-leb, le-ltb, not-true}
+use Rattle.definition.proofs.Boards.{page-most, page-positive}
 use Rattle.definition.proofs.Basics.{upd-same}
 use Rattle.definition.proofs.Tests.{and-left, and-right}
 use Rattle.definition.specs.declared.FrameAllocFlags.{FrameAllocFlags}
 use Rattle.definition.specs.declared.Refusal.{Refusal}
 use Rattle.definition.specs.declared.Refusal.the-variants.{BadLayout, NoLevel, NoFrame, MustWait}
-use Rattle.definition.specs.Board.{Board}
-use Rattle.definition.specs.Basics.{any, range, isSome}
+use Rattle.definition.specs.Board.{Board, Fit}
+use Rattle.definition.specs.Basics.{any, range, isSome, everywhere}
 use Rattle.definition.specs.Refusal.{lowest, orLater, _when_}
 use Rattle.definition.specs.Frame.{Frame, size, levels, changed, withKernel, withZeroed}
 use Rattle.definition.specs.Allocator.{Allocated, doAlloc, isListed}
@@ -22,6 +23,7 @@ use Rattle.definition.specs.Store.{Store, withAllocator}
 use Rattle.definition.specs.Tracker.{Granted, granted, handOver, zeroIfAsked, tryAllocFrame, splitFrame, thenSplitFrame, tryAllocSplitFrames}
 use Rattle.definition.specs.Contents.{isZeroedAt, zeroFrame, setNotZero}
 use Rattle.definition.specs.Calls.{
+  mine,
   Layout,
   Alloc,
   Take,
@@ -45,7 +47,7 @@ use Rattle.definition.specs.Calls.{
 }
 use Rattle.definition.specs.Rust as Rust
 use Rattle.definition.specs.Rust.{groundLayout, isKernel, layoutPages, orNone}
-use Rattle.likeness.specs.Likeness.{Sane, Workable, hasLevel}
+use Rattle.likeness.specs.Likeness.{Sane, hasLevel}
 use Rattle.likeness.proofs.Search.{found-exactly}
 use Rattle.likeness.proofs.Leveled.{found-fits, level-kept}
 use Rattle.likeness.proofs.Splits.{split-plain, split-page}
@@ -113,7 +115,7 @@ unfolding lowest sheet any
 sheet-of-grant b s y = refl
 
 -- a layout on common ground, and what follows of it
-module _ (b : Board) (W : Workable b) (y : Layout) (ground : groundLayout b y ≡ true) where
+module _ (b : Board) (fit : Fit b) (y : Layout) (ground : groundLayout b y ≡ true) where
   of-level : any (λ l. eqb (y .size) (bytesOfLevel b l)) (range 0 levels) ≡ true
   of-level = and-left _ _ ground
 
@@ -138,7 +140,7 @@ module _ (b : Board) (W : Workable b) (y : Layout) (ground : groundLayout b y �
   good-layout : badLayout y ≡ false
   good-layout =
       let up = div-mul-le-self (y .size + (y .align - 1)) (y .align) in
-      ap₂ _||_ (ap not power) (le-ltb (2 ^ 63 - 1) (roundUp (y .size) (y .align)) (omega (arith, up, aligned, size-most)))
+      ap₂ _||_ (ap not power) (le-ltb (2 ^ 63 - 1) (roundUp (y .size) (y .align)) (omega (arith, up, aligned, size-most, page-most fit)))
 
   some-level : noLevel b y ≡ false
   some-level =
@@ -146,7 +148,7 @@ module _ (b : Board) (W : Workable b) (y : Layout) (ground : groundLayout b y �
       (le-ltb (bytesOfLevel b (levels - 1)) (y .align) (omega (arith, aligned, size-most)))
 
   level-is : findLevel b y ≡ sized b y of-level .0
-  level-is = let w = sized b y of-level in found-level b (W .least) y (w .0) (w .1) (w .2) aligned
+  level-is = let w = sized b y of-level in found-level b (page-positive fit) y (w .0) (w .1) (w .2) aligned
 
   level-below : findLevel b y < levels
   level-below = let w = sized b y of-level in omega (arith, level-is, w .1)
@@ -155,10 +157,11 @@ module _ (b : Board) (W : Workable b) (y : Layout) (ground : groundLayout b y �
   pages-are : layoutPages b y ≡ size (findLevel b y)
   pages-are =
       let w = sized b y of-level in
-      ap (λ (n : ℕ). n / b .page) (w .2) ∙ mul-div-cancel-left (size (w .0)) (W .least) ∙ sym (ap size level-is)
+      ap (λ (n : ℕ). n / b .page) (w .2) ∙ mul-div-cancel-left (size (w .0)) (page-positive fit) ∙ sym (ap size level-is)
 
-  listed-sheet : (s : Store) (t : Bool) → isListed (findLevel b y) (s .allocator .regions) ≡ t
+  listed-sheet : (s : Store) (t : Bool) → isListed everywhere (findLevel b y) (s .allocator .regions) ≡ t
       → lowest (sheet b s (layoutNamed y)) ≡ cond t none (some NoFrame)
+  unfolding mine
   listed-sheet s t h =
       sheet-of-grant b s y
       ∙ ap₂ (λ (bad large : Bool). grantSheet bad large (wants b s y) (y .flags .«wait_ok»)) good-layout some-level
@@ -194,7 +197,7 @@ granted-none b n flags s a h = go (a .page) h
     go (some p) e = absurd (false≢true (sym e))
     go none e = refl
 
-module _ (b : Board) (W : Workable b) (s : Store) (y : Layout) (ground : groundLayout b y ≡ true) where
+module _ (b : Board) (fit : Fit b) (s : Store) (y : Layout) (ground : groundLayout b y ≡ true) where
   abbrev level : ℕ
   level = findLevel b y
 
@@ -203,33 +206,33 @@ module _ (b : Board) (W : Workable b) (s : Store) (y : Layout) (ground : groundL
   refused = record { store = s; page = none }
 
   abbrev given : Granted
-  given = tryAllocFrame b level (y .flags) s
+  given = tryAllocFrame b everywhere level (y .flags) s
 
-  same-grant : granted b (layoutPages b y) (y .flags) s (doAlloc level (y .flags .zeroed) (s .allocator)) ≡ given
+  same-grant : granted b (layoutPages b y) (y .flags) s (doAlloc everywhere level (y .flags .zeroed) (s .allocator)) ≡ given
   unfolding tryAllocFrame
-  same-grant = ap (λ (n : ℕ). granted b n (y .flags) s (doAlloc level (y .flags .zeroed) (s .allocator))) (pages-are b W y ground)
+  same-grant = ap (λ (n : ℕ). granted b n (y .flags) s (doAlloc everywhere level (y .flags .zeroed) (s .allocator))) (pages-are b fit y ground)
 
-  given-some : isSome (given .page) ≡ isListed level (s .allocator .regions)
+  given-some : isSome (given .page) ≡ isListed everywhere level (s .allocator .regions)
   unfolding tryAllocFrame
   given-some =
-      granted-some b (size level) (y .flags) s (doAlloc level (y .flags .zeroed) (s .allocator))
+      granted-some b (size level) (y .flags) s (doAlloc everywhere level (y .flags .zeroed) (s .allocator))
       ∙ found-exactly level (y .flags .zeroed) (s .allocator)
 
   -- something is listed, so enough pages are idle
-  rust-grants : Sane s → isListed level (s .allocator .regions) ≡ true → Rust.tryAllocFrame b y s ≡ given
+  rust-grants : Sane s → isListed everywhere level (s .allocator .regions) ≡ true → Rust.tryAllocFrame b y s ≡ given
   unfolding Rust.tryAllocFrame
   rust-grants S h =
-      let enough : layoutPages b y ≤ s .counters .idle = rw (pages-are b W y ground) (S .idle level h) in
-      ap (λ (t : Bool). cond t (granted b (layoutPages b y) (y .flags) s (doAlloc level (y .flags .zeroed) (s .allocator))) refused)
+      let enough : layoutPages b y ≤ s .counters .idle = rw (pages-are b fit y ground) (S .idle level h) in
+      ap (λ (t : Bool). cond t (granted b (layoutPages b y) (y .flags) s (doAlloc everywhere level (y .flags .zeroed) (s .allocator))) refused)
       (le-leb (layoutPages b y) (s .counters .idle) enough)
       ∙ same-grant
 
   -- nothing is listed, so nothing is found, searched for or not
-  rust-finds-none : isListed level (s .allocator .regions) ≡ false → Rust.tryAllocFrame b y s ≡ refused
+  rust-finds-none : isListed everywhere level (s .allocator .regions) ≡ false → Rust.tryAllocFrame b y s ≡ refused
   unfolding Rust.tryAllocFrame
   rust-finds-none h =
       ap (λ (g : Granted). cond (leb (layoutPages b y) (s .counters .idle)) g refused)
-      (granted-none b (layoutPages b y) (y .flags) s (doAlloc level (y .flags .zeroed) (s .allocator))
+      (granted-none b (layoutPages b y) (y .flags) s (doAlloc everywhere level (y .flags .zeroed) (s .allocator))
       (found-exactly level (y .flags .zeroed) (s .allocator) ∙ h))
       ∙ go (leb (layoutPages b y) (s .counters .idle))
     where
@@ -252,35 +255,35 @@ module _ (b : Board) (W : Workable b) (s : Store) (y : Layout) (ground : groundL
 
   grant-like : (rust own : Granted → Granted) → Sane s
       → rust refused ≡ refused
-      → (isListed level (s .allocator .regions) ≡ true → rust given ≡ own given)
+      → (isListed everywhere level (s .allocator .regions) ≡ true → rust given ≡ own given)
       → ((g : Granted) → isSome (own g .page) ≡ isSome (g .page))
       → Like rust own
-  grant-like rust own S nil same kept = go (isListed level (s .allocator .regions)) refl
+  grant-like rust own S nil same kept = go (isListed everywhere level (s .allocator .regions)) refl
     where
       willing : (o : Outcome) → Rust.unlessNone (not (y .flags .«wait_ok»)) o ≡ some o
-      willing o = ap (λ (t : Bool). Rust.unlessNone (not t) o) (no-wait b W y ground)
+      willing o = ap (λ (t : Bool). Rust.unlessNone (not t) o) (no-wait b fit y ground)
 
-      go : (t : Bool) → isListed level (s .allocator .regions) ≡ t → Like rust own
+      go : (t : Bool) → isListed everywhere level (s .allocator .regions) ≡ t → Like rust own
       go true h =
           willing (orNone b y (rust (Rust.tryAllocFrame b y s)))
           ∙ ap {B = Option Outcome} some
           (ap (λ (g : Granted). orNone b y (rust g)) (rust-grants S h)
           ∙ ap (orNone b y) (same h)
           ∙ handed (own given) (kept given ∙ given-some ∙ h)
-          ∙ sym (ap (λ (r : Option Refusal). unlessRefused s r (hands b level (own given))) (listed-sheet b W y ground s true h)))
+          ∙ sym (ap (λ (r : Option Refusal). unlessRefused s r (hands b level (own given))) (listed-sheet b fit y ground s true h)))
       go false h =
           willing (orNone b y (rust (Rust.tryAllocFrame b y s)))
           ∙ ap {B = Option Outcome} some
           (ap (λ (g : Granted). orNone b y (rust g)) (rust-finds-none h)
           ∙ ap (orNone b y) nil
-          ∙ sym (ap (λ (r : Option Refusal). unlessRefused s r (hands b level (own given))) (listed-sheet b W y ground s false h)))
+          ∙ sym (ap (λ (r : Option Refusal). unlessRefused s r (hands b level (own given))) (listed-sheet b fit y ground s false h)))
 
 -- ---- 55, try_alloc_frame
 
-pub alloc-like : (b : Board) → Workable b → (s : Store) → Sane s → (y : Layout) → groundLayout b y ≡ true
+pub alloc-like : (b : Board) → Fit b → (s : Store) → Sane s → (y : Layout) → groundLayout b y ≡ true
     → Rust.step b s (Alloc y) ≡ some (step b s (Alloc y))
-unfolding Rust.step step perform
-alloc-like b W s S y ground = grant-like b W s y ground (λ g. g) (λ g. g) S refl (λ h. refl) (λ g. refl)
+unfolding Rust.step step perform mine
+alloc-like b fit s S y ground = grant-like b fit s y ground (λ g. g) (λ g. g) S refl (λ h. refl) (λ g. refl)
 
 -- ---- 98, try_alloc_split_frames
 
@@ -318,12 +321,12 @@ module _ (b : Board) (flags : FrameAllocFlags) (s : Store) where
       (level-kept l (withZeroed false) (λ f. refl) (zeroIfAsked b (flags .zeroed) s p .allocator .frames) p (zero-level l p h))
 
 taken-alike : (b : Board) (s : Store) → Sane s → (flags : FrameAllocFlags) (l n : ℕ) → l < levels → (not (flags .kernel) || eqb l 0) ≡ true
-    → Rust.thenSplitFrame (granted b n flags s (doAlloc l (flags .zeroed) (s .allocator)))
-    ≡ thenSplitFrame (granted b n flags s (doAlloc l (flags .zeroed) (s .allocator)))
+    → Rust.thenSplitFrame (granted b n flags s (doAlloc everywhere l (flags .zeroed) (s .allocator)))
+    ≡ thenSplitFrame (granted b n flags s (doAlloc everywhere l (flags .zeroed) (s .allocator)))
 taken-alike b s S flags l n below h = go (a .page) refl
   where
     a : Allocated
-    a = doAlloc l (flags .zeroed) (s .allocator)
+    a = doAlloc everywhere l (flags .zeroed) (s .allocator)
 
     t : ℕ → Store
     t p = handOver b n flags (withAllocator s (a .allocator)) p
@@ -342,10 +345,10 @@ taken-alike b s S flags l n below h = go (a .page) refl
     go (some p) e = ap (λ (u : Store). record { store = u; page = some p }) (alike p e (flags .kernel) refl h)
     go none e = refl
 
-pub take-like : (b : Board) → Workable b → (s : Store) → Sane s → (y : Layout) → groundLayout b y ≡ true
+pub take-like : (b : Board) → Fit b → (s : Store) → Sane s → (y : Layout) → groundLayout b y ≡ true
     → (not (y .flags .kernel) || eqb (findLevel b y) 0) ≡ true
     → Rust.step b s (Take y) ≡ some (step b s (Take y))
-unfolding Rust.step step perform tryAllocSplitFrames
-take-like b W s S y ground h =
-    grant-like b W s y ground Rust.thenSplitFrame thenSplitFrame S refl
-    (λ e. unfold tryAllocFrame in taken-alike b s S (y .flags) (findLevel b y) (size (findLevel b y)) (level-below b W y ground) h) split-some
+unfolding Rust.step step perform mine tryAllocSplitFrames
+take-like b fit s S y ground h =
+    grant-like b fit s y ground Rust.thenSplitFrame thenSplitFrame S refl
+    (λ e. unfold tryAllocFrame in taken-alike b s S (y .flags) (findLevel b y) (size (findLevel b y)) (level-below b fit y ground) h) split-some

@@ -1,7 +1,7 @@
 -- What a search finds has the level that was asked for, where a listed frame has the level of its list. A frame that was split on the way is found
 -- again as its own child 0: its level's lists had none of the kinds looked for, the search above leaves them so, and child 0 is pushed last.
 use Prim.Native.Nat.{ℕ, zero, suc, _+_, _-_, _*_, _<_}
-use mathlib.Core.Bool.{Bool, true, false, not, false≢true, true≢false}
+use mathlib.Core.Bool.{Bool, true, false, false≢true, true≢false}
 use mathlib.Core.List.{List, [], _∷_}
 use mathlib.Core.Option.{Option, none, some, Option·some-injective}
 use mathlib.Core.Path.{_≡_, refl, sym, ap, _∙_, subst}
@@ -9,8 +9,8 @@ use native.Mathlib.Omega.{arith}
 use lib.Dec.{eqb}
 use borrow.Author.Tests.{eq-eqb}
 use Rattle.definition.proofs.Basics.{upd-same, upd-other}
-use Rattle.definition.proofs.Tests.{and-left, and-right}
-use Rattle.definition.specs.Basics.{all, isSome, Popped, popBack}
+use Rattle.definition.proofs.Tests.{and-left, and-right, or-left, or-right}
+use Rattle.definition.specs.Basics.{any, all, isSome, Popped, popBack, everywhere}
 use Rattle.definition.specs.Frame.{
   Frame,
   Frames,
@@ -35,9 +35,9 @@ use Rattle.definition.specs.Frame.{
   setAllocated,
   allocate,
 }
-use Rattle.definition.specs.Allocator.{AllocationRegion, PhysicalFrameAllocator, Allocated, levelsOf, laidOut, orNextRegion, pass, doAlloc, isEmpty}
+use Rattle.definition.specs.Allocator.{AllocationRegion, PhysicalFrameAllocator, Allocated, levelsOf, laidOut, orNextRegion, pass, doAlloc}
 use Rattle.likeness.specs.Likeness.{hasLevel}
-use Rattle.likeness.proofs.Lists.{or-left, or-right, popped-back, all-last}
+use Rattle.likeness.proofs.Lists.{popped-back, all-last}
 use Rattle.likeness.proofs.Search.{stocked, pop-some, or-some, slots-apart, slot-below, split-others, split-last}
 
 -- the page that was found, if any, has the level
@@ -58,7 +58,7 @@ or-fits l a b f g = go (a .page) refl
     go (some p) e = f
     go none e = g (ap isSome e)
 
-pop-fits : (l : ℕ) (s : Levels) (k : ℕ) → Listed l s k → Fits l (popFrom s k)
+pop-fits : (l : ℕ) (s : Levels) (k : ℕ) → Listed l s k → Fits l (popFrom everywhere s k)
 unfolding popFrom
 pop-fits l s k h = go (popBack (s .free k)) refl
   where
@@ -70,17 +70,17 @@ pop-fits l s k h = go (popBack (s .free k)) refl
         let last = all-last (λ x. hasLevel l (s .frames x)) (d .rest) (d .last) listed in
         subst (λ (x : ℕ). hasLevel l (s .frames x) ≡ true) (Option·some-injective (d .last) p q) last
 
-level-fits : (l : ℕ) (s : Levels) (tryZero onlyZero : Bool) → ((z : Bool) → Listed l s (slot l z)) → Fits l (levelAllocate s l tryZero onlyZero)
+level-fits : (l : ℕ) (s : Levels) (tryZero onlyZero : Bool) → ((z : Bool) → Listed l s (slot l z)) → Fits l (levelAllocate everywhere s l tryZero onlyZero)
 unfolding levelAllocate
 level-fits l s tryZero true h = pop-fits l s (slot l true) (h true)
 level-fits l s true false h =
-    or-fits l (popFrom s (slot l false)) (popFrom s (slot l true)) (pop-fits l s (slot l false) (h false)) (λ e. pop-fits l s (slot l true) (h true))
+    or-fits l (popFrom everywhere s (slot l false)) (popFrom everywhere s (slot l true)) (pop-fits l s (slot l false) (h false)) (λ e. pop-fits l s (slot l true) (h true))
 level-fits l s false false h =
-    or-fits l (popFrom s (slot l false)) (nothing s) (pop-fits l s (slot l false) (h false)) (λ e. found-none (nothing s) l refl)
+    or-fits l (popFrom everywhere s (slot l false)) (nothing s) (pop-fits l s (slot l false) (h false)) (λ e. found-none (nothing s) l refl)
 
 -- ---- after a split
 
-pop-frames : (s : Levels) (k : ℕ) → popFrom s k .levels .frames ≡ s .frames
+pop-frames : (s : Levels) (k : ℕ) → popFrom everywhere s k .levels .frames ≡ s .frames
 unfolding popFrom
 pop-frames s k = go (popBack (s .free k))
   where
@@ -94,23 +94,23 @@ child-level s p l =
     ap (hasLevel l) (upd-same (children (childCount - 1) s p l (isZeroed (s .frames p)) .frames) p _) ∙ eq-eqb l l refl
 
 -- the kind that was looked for in vain is found as child 0, or not at all
-kind-fits : (t : Levels) (p l : ℕ) (z : Bool) → stocked (t .free) (slot l z) ≡ false → Fits l (popFrom (split t p l) (slot l z))
+kind-fits : (t : Levels) (p l : ℕ) (z : Bool) → stocked (t .free) (slot l z) ≡ false → Fits l (popFrom everywhere (split t p l) (slot l z))
 kind-fits t p l z h = go z (isZeroed (t .frames p)) refl h
   where
-    found : (y : Bool) → isZeroed (t .frames p) ≡ y → Fits l (popFrom (split t p l) (slot l y))
+    found : (y : Bool) → isZeroed (t .frames p) ≡ y → Fits l (popFrom everywhere (split t p l) (slot l y))
     found y e q d =
         let same : p ≡ q = Option·some-injective p q (sym (split-last t p l y e) ∙ d) in
         subst (λ (fs : Frames). hasLevel l (fs q) ≡ true) (sym (pop-frames (split t p l) (slot l y)))
         (subst (λ (x : ℕ). hasLevel l (split t p l .frames x) ≡ true) same (child-level t p l))
 
-    missed : (y w : Bool) → isZeroed (t .frames p) ≡ w → (y ≡ w → ⊥) → stocked (t .free) (slot l y) ≡ false → Fits l (popFrom (split t p l) (slot l y))
+    missed : (y w : Bool) → isZeroed (t .frames p) ≡ w → (y ≡ w → ⊥) → stocked (t .free) (slot l y) ≡ false → Fits l (popFrom everywhere (split t p l) (slot l y))
     missed y w e n k =
-        found-none (popFrom (split t p l) (slot l y)) l
+        found-none (popFrom everywhere (split t p l) (slot l y)) l
         (pop-some (split t p l) (slot l y)
-        ∙ ap (λ (xs : List ℕ). not (isEmpty xs)) (split-others t p l (slot l y) (λ i. slots-apart l y (isZeroed (t .frames p)) (λ j. n (j ∙ e)) i))
+        ∙ ap (λ (xs : List ℕ). any everywhere xs) (split-others t p l (slot l y) (λ i. slots-apart l y (isZeroed (t .frames p)) (λ j. n (j ∙ e)) i))
         ∙ k)
 
-    go : (y w : Bool) → isZeroed (t .frames p) ≡ w → stocked (t .free) (slot l y) ≡ false → Fits l (popFrom (split t p l) (slot l y))
+    go : (y w : Bool) → isZeroed (t .frames p) ≡ w → stocked (t .free) (slot l y) ≡ false → Fits l (popFrom everywhere (split t p l) (slot l y))
     go true true e k = found true e
     go false false e k = found false e
     go true false e k = missed true false e (λ i. true≢false i) k
@@ -118,30 +118,30 @@ kind-fits t p l z h = go z (isZeroed (t .frames p)) refl h
 
 -- s had nothing of the kinds that are looked for, and t, what the search above has left, has the same lists of the level
 again-fits : (s t : Levels) (p l : ℕ) (tryZero onlyZero : Bool) → ((z : Bool) → t .free (slot l z) ≡ s .free (slot l z))
-    → isSome (levelAllocate s l tryZero onlyZero .page) ≡ false → Fits l (levelAllocate (split t p l) l tryZero onlyZero)
+    → isSome (levelAllocate everywhere s l tryZero onlyZero .page) ≡ false → Fits l (levelAllocate everywhere (split t p l) l tryZero onlyZero)
 unfolding levelAllocate
 again-fits s t p l tryZero onlyZero same h = go tryZero onlyZero h
   where
     u : Levels
     u = split t p l
 
-    empty : (z : Bool) → isSome (popFrom s (slot l z) .page) ≡ false → Fits l (popFrom u (slot l z))
-    empty z e = kind-fits t p l z (ap (λ (xs : List ℕ). not (isEmpty xs)) (same z) ∙ sym (pop-some s (slot l z)) ∙ e)
+    empty : (z : Bool) → isSome (popFrom everywhere s (slot l z) .page) ≡ false → Fits l (popFrom everywhere u (slot l z))
+    empty z e = kind-fits t p l z (ap (λ (xs : List ℕ). any everywhere xs) (same z) ∙ sym (pop-some s (slot l z)) ∙ e)
 
-    go : (y o : Bool) → isSome (levelAllocate s l y o .page) ≡ false → Fits l (levelAllocate u l y o)
+    go : (y o : Bool) → isSome (levelAllocate everywhere s l y o .page) ≡ false → Fits l (levelAllocate everywhere u l y o)
     go y true k = empty true k
     go true false k =
-        let both = sym (or-some (popFrom s (slot l false)) (popFrom s (slot l true))) ∙ k in
-        or-fits l (popFrom u (slot l false)) (popFrom u (slot l true)) (empty false (or-left (isSome (popFrom s (slot l false) .page)) _ both))
-        (λ e. empty true (or-right (isSome (popFrom s (slot l false) .page)) _ both))
+        let both = sym (or-some (popFrom everywhere s (slot l false)) (popFrom everywhere s (slot l true))) ∙ k in
+        or-fits l (popFrom everywhere u (slot l false)) (popFrom everywhere u (slot l true)) (empty false (or-left (isSome (popFrom everywhere s (slot l false) .page)) _ both))
+        (λ e. empty true (or-right (isSome (popFrom everywhere s (slot l false) .page)) _ both))
     go false false k =
-        let both = sym (or-some (popFrom s (slot l false)) (nothing s)) ∙ k in
-        or-fits l (popFrom u (slot l false)) (nothing u) (empty false (or-left (isSome (popFrom s (slot l false) .page)) false both))
+        let both = sym (or-some (popFrom everywhere s (slot l false)) (nothing s)) ∙ k in
+        or-fits l (popFrom everywhere u (slot l false)) (nothing u) (empty false (or-left (isSome (popFrom everywhere s (slot l false) .page)) false both))
         (λ e. found-none (nothing u) l refl)
 
 -- ---- the search above leaves the lists below
 
-pop-others : (s : Levels) (j k : ℕ) → (k ≡ j → ⊥) → popFrom s j .levels .free k ≡ s .free k
+pop-others : (s : Levels) (j k : ℕ) → (k ≡ j → ⊥) → popFrom everywhere s j .levels .free k ≡ s .free k
 unfolding popFrom
 pop-others s j k h = go (popBack (s .free j))
   where
@@ -156,32 +156,32 @@ or-others a b k {xs} f g = go (a .page)
     go (some p) = f
     go none = g
 
-level-others : (s : Levels) (l : ℕ) (tryZero onlyZero : Bool) (k : ℕ) → k < l * 2 → levelAllocate s l tryZero onlyZero .levels .free k ≡ s .free k
+level-others : (s : Levels) (l : ℕ) (tryZero onlyZero : Bool) (k : ℕ) → k < l * 2 → levelAllocate everywhere s l tryZero onlyZero .levels .free k ≡ s .free k
 unfolding levelAllocate
 level-others s l tryZero true k h = pop-others s (slot l true) k (λ e. omega arith)
 level-others s l true false k h =
-    or-others (popFrom s (slot l false)) (popFrom s (slot l true)) k (pop-others s (slot l false) k (λ e. omega arith))
+    or-others (popFrom everywhere s (slot l false)) (popFrom everywhere s (slot l true)) k (pop-others s (slot l false) k (λ e. omega arith))
     (pop-others s (slot l true) k (λ e. omega arith))
-level-others s l false false k h = or-others (popFrom s (slot l false)) (nothing s) k (pop-others s (slot l false) k (λ e. omega arith)) refl
+level-others s l false false k h = or-others (popFrom everywhere s (slot l false)) (nothing s) k (pop-others s (slot l false) k (λ e. omega arith)) refl
 
 slot-above : (l : ℕ) (z : Bool) (k : ℕ) → k < l * 2 → k ≡ slot l z → ⊥
 slot-above l true k h e = omega arith
 slot-above l false k h e = omega arith
 
 search-others : (left l : ℕ) (s : Levels) (tryZero onlyZero : Bool) (k : ℕ) → k < l * 2
-    → doAllocate left l s tryZero onlyZero .levels .free k ≡ s .free k
+    → doAllocate everywhere left l s tryZero onlyZero .levels .free k ≡ s .free k
 unfolding doAllocate
 search-others zero l s tryZero onlyZero k h = refl
 search-others (suc left) l s tryZero onlyZero k h =
-    or-others (levelAllocate s l tryZero onlyZero) (thenSplit l tryZero onlyZero (doAllocate left (l + 1) s tryZero onlyZero)) k
+    or-others (levelAllocate everywhere s l tryZero onlyZero) (thenSplit everywhere l tryZero onlyZero (doAllocate everywhere left (l + 1) s tryZero onlyZero)) k
     (level-others s l tryZero onlyZero k h)
-    (parts (doAllocate left (l + 1) s tryZero onlyZero) (search-others left (l + 1) s tryZero onlyZero k (omega arith)))
+    (parts (doAllocate everywhere left (l + 1) s tryZero onlyZero) (search-others left (l + 1) s tryZero onlyZero k (omega arith)))
   where
-    parts : (a : Found) → a .levels .free k ≡ s .free k → thenSplit l tryZero onlyZero a .levels .free k ≡ s .free k
+    parts : (a : Found) → a .levels .free k ≡ s .free k → thenSplit everywhere l tryZero onlyZero a .levels .free k ≡ s .free k
     parts a e = go (a .page)
       where
         go : (o : Option ℕ)
-            → (elim o as (λ x. Found) [ some p ↦ levelAllocate (split (a .levels) p l) l tryZero onlyZero | none ↦ a ]) .levels .free k ≡ s .free k
+            → (elim o as (λ x. Found) [ some p ↦ levelAllocate everywhere (split (a .levels) p l) l tryZero onlyZero | none ↦ a ]) .levels .free k ≡ s .free k
         go (some p) =
             level-others (split (a .levels) p l) l tryZero onlyZero k h
             ∙ split-others (a .levels) p l k (slot-above l (isZeroed (a .levels .frames p)) k h)
@@ -190,17 +190,17 @@ search-others (suc left) l s tryZero onlyZero k h =
 
 -- ---- the search, the passes, the grant
 
-search-fits : (left l : ℕ) (s : Levels) (tryZero onlyZero : Bool) → ((z : Bool) → Listed l s (slot l z)) → Fits l (doAllocate left l s tryZero onlyZero)
+search-fits : (left l : ℕ) (s : Levels) (tryZero onlyZero : Bool) → ((z : Bool) → Listed l s (slot l z)) → Fits l (doAllocate everywhere left l s tryZero onlyZero)
 unfolding doAllocate
 search-fits zero l s tryZero onlyZero h = found-none (nothing s) l refl
 search-fits (suc left) l s tryZero onlyZero h =
-    or-fits l (levelAllocate s l tryZero onlyZero) (thenSplit l tryZero onlyZero above) (level-fits l s tryZero onlyZero h) (λ e. go (above .page) refl e)
+    or-fits l (levelAllocate everywhere s l tryZero onlyZero) (thenSplit everywhere l tryZero onlyZero above) (level-fits l s tryZero onlyZero h) (λ e. go (above .page) refl e)
   where
     above : Found
-    above = doAllocate left (l + 1) s tryZero onlyZero
+    above = doAllocate everywhere left (l + 1) s tryZero onlyZero
 
-    go : (o : Option ℕ) → above .page ≡ o → isSome (levelAllocate s l tryZero onlyZero .page) ≡ false
-        → Fits l (elim o as (λ x. Found) [ some p ↦ levelAllocate (split (above .levels) p l) l tryZero onlyZero | none ↦ above ])
+    go : (o : Option ℕ) → above .page ≡ o → isSome (levelAllocate everywhere s l tryZero onlyZero .page) ≡ false
+        → Fits l (elim o as (λ x. Found) [ some p ↦ levelAllocate everywhere (split (above .levels) p l) l tryZero onlyZero | none ↦ above ])
     go (some p) d e =
         again-fits s (above .levels) p l tryZero onlyZero (λ z. search-others left (l + 1) s tryZero onlyZero (slot l z) (slot-below l z)) e
     go none d e = found-none above l (ap isSome d)
@@ -248,25 +248,25 @@ module _ (l : ℕ) (fs : Frames) where
   abbrev pub AllListed : List AllocationRegion → Bool → Type 0
   AllListed rs z = all (λ r. all (λ p. hasLevel l (fs p)) (r .free (slot l z))) rs ≡ true
 
-  pass-fits : (tryZero onlyZero : Bool) (rs : List AllocationRegion) → ((z : Bool) → AllListed rs z) → Fitting l (pass l tryZero onlyZero fs rs)
+  pass-fits : (tryZero onlyZero : Bool) (rs : List AllocationRegion) → ((z : Bool) → AllListed rs z) → Fitting l (pass everywhere l tryZero onlyZero fs rs)
   unfolding pass all allocate
   pass-fits tryZero onlyZero [] h = λ p e. absurd (false≢true (ap isSome e))
   pass-fits tryZero onlyZero (r ∷ rs) h =
-      next-fits l r rs (allocate l (levelsOf fs r) tryZero onlyZero) (pass l tryZero onlyZero fs rs)
-      (set-fits l (doAllocate (levels - l) l (levelsOf fs r) tryZero onlyZero)
+      next-fits l r rs (allocate everywhere l (levelsOf fs r) tryZero onlyZero) (pass everywhere l tryZero onlyZero fs rs)
+      (set-fits l (doAllocate everywhere (levels - l) l (levelsOf fs r) tryZero onlyZero)
       (search-fits (levels - l) l (levelsOf fs r) tryZero onlyZero (λ z. and-left (all (λ p. hasLevel l (fs p)) (r .free (slot l z))) _ (h z))))
       (pass-fits tryZero onlyZero rs (λ z. and-right (all (λ p. hasLevel l (fs p)) (r .free (slot l z))) _ (h z)))
 
 pub found-fits : (l : ℕ) (zeroed : Bool) (a : PhysicalFrameAllocator)
-    → ((z : Bool) → AllListed l (a .frames) (a .regions) z) → Fitting l (doAlloc l zeroed a)
+    → ((z : Bool) → AllListed l (a .frames) (a .regions) z) → Fitting l (doAlloc everywhere l zeroed a)
 unfolding doAlloc
 found-fits l zeroed a h = go (first .page)
   where
     first : Allocated
-    first = pass l false zeroed (a .frames) (a .regions)
+    first = pass everywhere l false zeroed (a .frames) (a .regions)
 
     second : Allocated
-    second = pass l true false (a .frames) (a .regions)
+    second = pass everywhere l true false (a .frames) (a .regions)
 
     go : (o : Option ℕ) → Fitting l (elim o as (λ x. Allocated) [ some p ↦ first | none ↦ second ])
     go (some p) = pass-fits l (a .frames) false zeroed (a .regions) h

@@ -5,10 +5,11 @@ use mathlib.Core.Bool.{Bool, true, not, cond}
 use mathlib.Core.List.{List, [], _∷_}
 use mathlib.Core.Option.{Option, none, some}
 use mathlib.Core.Path.{_≡_, refl, sym, ap, ap₂, _∙_}
-use lib.Dec.{ltb, lit<, lit≤}
+use lib.Dec.{ltb}
 use borrow.Author.Tests.{not-true}
+use Rattle.definition.proofs.Boards.{page-positive}
 use Rattle.definition.proofs.Tests.{and-left, and-right}
-use Rattle.definition.specs.Board.{Board, standard}
+use Rattle.definition.specs.Board.{Board, Fit}
 use Rattle.definition.specs.Basics.{any, all}
 use Rattle.definition.specs.Refusal.{lowest}
 use Rattle.definition.specs.Store.{Store}
@@ -43,7 +44,7 @@ use Rattle.definition.specs.Calls.{
 }
 use Rattle.definition.specs.Rust as Rust
 use Rattle.definition.specs.Rust.{unrefused, groundLayout, isKernel, apart, coversIfZeroed, allOnce, commonGround}
-use Rattle.likeness.specs.Likeness.{Sane, Workable, groundAlong}
+use Rattle.likeness.specs.Likeness.{Sane, groundAlong}
 use Rattle.likeness.proofs.Sheet.{performed, held-like, free-managed, free-held, find-like}
 use Rattle.likeness.proofs.Splits.{split-plain, copy-like}
 use Rattle.likeness.proofs.Grants.{alloc-like, take-like}
@@ -101,53 +102,41 @@ module _ (b : Board) (s : Store) where
   unfolding Rust.step step sheet lowest any
   low-alike = refl
 
-pub alike : (b : Board) → Workable b → (s : Store) → Sane s → (c : Call) → commonGround b s c ≡ true → Rust.step b s c ≡ some (step b s c)
+pub likeness : (b : Board) → Fit b → (s : Store) → Sane s → (c : Call) → commonGround b s c ≡ true → Rust.step b s c ≡ some (step b s c)
 unfolding Rust.step commonGround
-alike b W s S (Alloc y) g = alloc-like b W s S y g
-alike b W s S (Take y) g = take-like b W s S y (and-left (groundLayout b y) _ g) (and-right (groundLayout b y) _ g)
-alike b W s S (Split a) g = split-alike b s a (and-left (unrefused b s (Split a)) _ g) (and-right (unrefused b s (Split a)) _ g)
-alike b W s S (Free a) g = free-alike b s S a g
-alike b W s S (Zero a) g = held-like b s (Zero a) g _ refl
-alike b W s S (Dirty a) g = held-like b s (Dirty a) g _ refl
-alike b W s S (Find a) g = find-like b (W .least) s a
-alike b W s S (Queue a) g = held-like b s (Queue a) g _ refl
-alike b W s S (Fill a off len byte) g = held-like b s (Fill a off len byte) g _ refl
-alike b W s S (Write a off bytes) g = held-like b s (Write a off bytes) g _ refl
-alike b W s S (Read a off len) g = held-like b s (Read a off len) g _ refl
-alike b W s S (Copy dst doff src soff len) g =
+likeness b fit s S (Alloc y) g = alloc-like b fit s S y g
+likeness b fit s S (Take y) g = take-like b fit s S y (and-left (groundLayout b y) _ g) (and-right (groundLayout b y) _ g)
+likeness b fit s S (Split a) g = split-alike b s a (and-left (unrefused b s (Split a)) _ g) (and-right (unrefused b s (Split a)) _ g)
+likeness b fit s S (Free a) g = free-alike b s S a g
+likeness b fit s S (Zero a) g = held-like b s (Zero a) g _ refl
+likeness b fit s S (Dirty a) g = held-like b s (Dirty a) g _ refl
+likeness b fit s S (Find a) g = find-like b (page-positive fit) s a
+likeness b fit s S (Queue a) g = held-like b s (Queue a) g _ refl
+likeness b fit s S (Fill a off len byte) g = held-like b s (Fill a off len byte) g _ refl
+likeness b fit s S (Write a off bytes) g = held-like b s (Write a off bytes) g _ refl
+likeness b fit s S (Read a off len) g = held-like b s (Read a off len) g _ refl
+likeness b fit s S (Copy dst doff src soff len) g =
     let named = unrefused b s (Copy dst doff src soff len) in
     let more = and-right named _ g in
     copy-alike b s dst doff src soff len (and-left named _ g) (and-left (apart (dst + doff) (src + soff) len) _ more)
     (and-right (apart (dst + doff) (src + soff) len) _ more)
-alike b W s S (Pcopy dst doff src len) g =
+likeness b fit s S (Pcopy dst doff src len) g =
     pcopy-alike b s dst doff src len (and-left (unrefused b s (Pcopy dst doff src len)) _ g) (and-right (unrefused b s (Pcopy dst doff src len)) _ g)
-alike b W s S Round g = round-alike b s S (and-left (all (canBeFreed b s) (s .queue)) _ g) (and-right (all (canBeFreed b s) (s .queue)) _ g)
-alike b W s S (Lend n) g = lend-alike b s n
-alike b W s S (Back n) g = held-like b s (Back n) g _ refl
-alike b W s S Low g = low-alike b s
-alike b W s S Stats g = stats-alike b s g
+likeness b fit s S Round g = round-alike b s S (and-left (all (canBeFreed b s) (s .queue)) _ g) (and-right (all (canBeFreed b s) (s .queue)) _ g)
+likeness b fit s S (Lend n) g = lend-alike b s n
+likeness b fit s S (Back n) g = held-like b s (Back n) g _ refl
+likeness b fit s S Low g = low-alike b s
+likeness b fit s S Stats g = stats-alike b s g
 
 -- ---- a list of calls, from a store of a kind that is sane and that every call keeps
 
 module _
-    (b : Board) (W : Workable b) (P : Store → Type 0) (sane : (s : Store) → P s → Sane s)
+    (b : Board) (fit : Fit b) (P : Store → Type 0) (sane : (s : Store) → P s → Sane s)
     (kept : (s : Store) (c : Call) → P s → P (step b s c .store))
   where
-    pub alike-run : (s : Store) → P s → (cs : List Call) → groundAlong b s cs ≡ true → Rust.run b s cs ≡ some (run b s cs)
+    pub likeness-run : (s : Store) → P s → (cs : List Call) → groundAlong b s cs ≡ true → Rust.run b s cs ≡ some (run b s cs)
     unfolding Rust.run run groundAlong
-    alike-run s p [] g = refl
-    alike-run s p (c ∷ cs) g =
-        ap (Rust.followedIf (λ t. Rust.run b t cs)) (alike b W s (sane s p) c (and-left (commonGround b s c) _ g))
-        ∙ ap (Rust.answerBeforeIf (step b s c .answer)) (alike-run (step b s c .store) (kept s c p) cs (and-right (commonGround b s c) _ g))
-
--- ---- the present board
-
-pub standard-workable : Workable standard
-standard-workable = record { least = lit< tt; most = lit≤ tt }
-
-pub likeness : (s : Store) → Sane s → (c : Call) → commonGround standard s c ≡ true → Rust.step standard s c ≡ some (step standard s c)
-likeness = alike standard standard-workable
-
-pub likeness-run : (P : Store → Type 0) → ((s : Store) → P s → Sane s) → ((s : Store) (c : Call) → P s → P (step standard s c .store))
-    → (s : Store) → P s → (cs : List Call) → groundAlong standard s cs ≡ true → Rust.run standard s cs ≡ some (run standard s cs)
-likeness-run = alike-run standard standard-workable
+    likeness-run s p [] g = refl
+    likeness-run s p (c ∷ cs) g =
+        ap (Rust.followedIf (λ t. Rust.run b t cs)) (likeness b fit s (sane s p) c (and-left (commonGround b s c) _ g))
+        ∙ ap (Rust.answerBeforeIf (step b s c .answer)) (likeness-run (step b s c .store) (kept s c p) cs (and-right (commonGround b s c) _ g))

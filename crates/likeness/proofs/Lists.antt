@@ -1,24 +1,16 @@
 -- Laws of the lists that the definitions test, sum and pop. What is taken from here: what a test of a whole list says of its last element and of the
 -- rest, and that numbers that stand in a list once still do without one of them, which then adds nothing to a sum.
 use Prim.Native.Nat.{ℕ, _+_}
-use mathlib.Core.Bool.{Bool, true, false, not, cond, _||_, false≢true}
+use mathlib.Core.Bool.{Bool, true, false, not, cond, _||_}
 use mathlib.Core.List.{List, [], _∷_, _++_}
 use mathlib.Core.Option.{Option, none, some}
 use mathlib.Core.Path.{_≡_, refl, sym, ap, ap₂, _∙_}
 use native.Mathlib.Omega.{arith}
 use lib.Dec.{eqb}
 use borrow.Author.Tests.{eqb-true, eqb-false, ne-eqb, not-true}
-use Rattle.definition.proofs.Tests.{and-left, and-right, and-true}
-use Rattle.definition.specs.Basics.{any, all, sum, member, Popped, behind, popBack}
+use Rattle.definition.proofs.Tests.{and-left, and-right, and-true, or-left, or-right}
+use Rattle.definition.specs.Basics.{any, all, sum, member, Popped, orThis, popLast, popBack}
 use Rattle.definition.specs.Rust.{allOnce}
-
-pub or-left : (a b : Bool) → (a || b) ≡ false → a ≡ false
-or-left true b e = e
-or-left false b e = refl
-
-pub or-right : (a b : Bool) → (a || b) ≡ false → b ≡ false
-or-right true b e = absurd (false≢true (sym e))
-or-right false b e = e
 
 pub any-none : {A : Type 0} (test : A → Bool) → ((x : A) → test x ≡ false) → (xs : List A) → any test xs ≡ false
 unfolding any
@@ -31,26 +23,26 @@ abbrev joined : Option Popped → List ℕ
 joined none = []
 joined (some e) = e .rest ++ (e .last ∷ [])
 
-behind-joined : (x : ℕ) (xs : List ℕ) (o : Option Popped) → xs ≡ joined o → (x ∷ xs) ≡ joined (behind x o)
-behind-joined x xs none h = ap (λ (ys : List ℕ). x ∷ ys) h
+behind-joined : (x : ℕ) (xs : List ℕ) (o : Option Popped) → xs ≡ joined o → (x ∷ xs) ≡ joined (orThis true x xs o)
+behind-joined x xs none h = ap (λ (ys : List ℕ). x ∷ ys) h ∙ ap (λ (ys : List ℕ). ys ++ (x ∷ [])) (sym h)
 behind-joined x xs (some e) h = ap (λ (ys : List ℕ). x ∷ ys) h
 
 pop-joined : (xs : List ℕ) → xs ≡ joined (popBack xs)
-unfolding popBack
+unfolding popLast
 pop-joined [] = refl
 pop-joined (x ∷ xs) = behind-joined x xs (popBack xs) (pop-joined xs)
 
 pub popped-back : (xs : List ℕ) (e : Popped) → popBack xs ≡ some e → xs ≡ e .rest ++ (e .last ∷ [])
 popped-back xs e h = pop-joined xs ∙ ap joined h
 
-behind-back : (x y : ℕ) (xs : List ℕ) (o : Option Popped) → o ≡ some (record { rest = xs; last = y })
-    → behind x o ≡ some (record { rest = x ∷ xs; last = y })
-behind-back x y xs o h = ap (behind x) h
+behind-back : (x y : ℕ) (xs ys : List ℕ) (o : Option Popped) → o ≡ some (record { rest = xs; last = y })
+    → orThis true x ys o ≡ some (record { rest = x ∷ xs; last = y })
+behind-back x y xs ys o h = ap (orThis true x ys) h
 
 pub pop-back : (xs : List ℕ) (x : ℕ) → popBack (xs ++ (x ∷ [])) ≡ some (record { rest = xs; last = x })
-unfolding popBack
+unfolding popLast
 pop-back [] x = refl
-pop-back (y ∷ xs) x = behind-back y x xs (popBack (xs ++ (x ∷ []))) (pop-back xs x)
+pop-back (y ∷ xs) x = behind-back y x xs (xs ++ (x ∷ [])) (popBack (xs ++ (x ∷ []))) (pop-back xs x)
 
 module _ {A : Type 0} (test : A → Bool) where
   pub all-rest : (xs : List A) (x : A) → all test (xs ++ (x ∷ [])) ≡ true → all test xs ≡ true

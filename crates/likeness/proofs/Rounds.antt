@@ -148,7 +148,7 @@ module _ (b : Board) where
   round-like s R = go (shouldReclaim b (s .counters))
     where
       go : (low : Bool)
-          → cond low (Rust.roundAfter b (s .pass) (Rust.reclaimUpTo b (b .perRound) s)) (some (reports (endPass s (s .pass))))
-          ≡ some (reports (cond low (afterRound b (s .pass) (reclaimUpTo b (b .perRound) s)) (endPass s (s .pass))))
-      go true = ap (Rust.roundAfter b (s .pass)) (reclaim-like (b .perRound) s R)
+          → cond low (Rust.roundAfter b (s .pass) (Rust.reclaimUpTo b (b .«per_round») s)) (some (reports (endPass s (s .pass))))
+          ≡ some (reports (cond low (afterRound b (s .pass) (reclaimUpTo b (b .«per_round») s)) (endPass s (s .pass))))
+      go true = ap (Rust.roundAfter b (s .pass)) (reclaim-like (b .«per_round») s R)
       go false = refl

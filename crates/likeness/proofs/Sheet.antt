@@ -2,39 +2,27 @@
 -- held. A lookup meets "outside" or nothing, since an address in a region ends no range past it.
 use Prim.Native.Nat.{ℕ, _+_, _*_, _/_, _<_, _≤_}
 use mathlib.Core.Bool.{Bool, true, false, not, cond, _&&_, _||_, and-false, false≢true}
+use mathlib.Core.List.{[]}
 use mathlib.Core.Option.{Option, none, some}
 use mathlib.Core.Path.{_≡_, refl, sym, ap, _∙_}
 use lib.Dec.{leb, ltb}
 use native.Mathlib.Nat.{mul-comm, div-lt-iff-lt-mul}
 use native.Mathlib.Omega.{arith}
 use borrow.Author.Tests.{ltb-true, le-ltb, not-false}
+use Rattle.definition.proofs.Passing.{Passed, passed}
+use Rattle.definition.proofs.Tests.{any-head}
 use Rattle.definition.specs.Board.{Board}
 use Rattle.definition.specs.Basics.{any, isSome}
 use Rattle.definition.specs.Refusal.{lowest, orLater, _when_}
 use Rattle.definition.specs.declared.Refusal.{Refusal}
-use Rattle.definition.specs.declared.Refusal.the-variants.{Outside, NoFrameStart, NotHeld, PastTheEnd}
+use Rattle.definition.specs.declared.Refusal.the-variants.{Outside, PastTheEnd}
 use Rattle.definition.specs.Allocator.{AllocationRegion, first, contains, end, isManaged}
 use Rattle.definition.specs.Store.{Store}
-use Rattle.definition.specs.Tracker.{startsFrame, isHeld}
-use Rattle.definition.specs.Calls.{
-  Call,
-  Find,
-  Free,
-  Range,
-  Outcome,
-  Refused,
-  tells,
-  leavesFrame,
-  leavesRegion,
-  sheet,
-  names,
-  perform,
-  step,
-  unlessRefused,
-}
+use Rattle.definition.specs.Tracker.{isHeld}
+use Rattle.definition.specs.Calls.{Call, Find, Free, Range, Outcome, Refused, tells, outside, leavesRegion, sheet, names, perform, step, unlessRefused}
 use Rattle.definition.specs.Rust as Rust
 use Rattle.definition.specs.Rust.{unrefused, onHeld}
-use Rattle.likeness.proofs.Lists.{or-left, any-none}
+use Rattle.likeness.proofs.Lists.{any-none}
 
 none-met : (x : Option Refusal) → not (isSome x) ≡ true → x ≡ none
 none-met none e = refl
@@ -59,39 +47,24 @@ module _ (b : Board) (s : Store) (c : Call) (h : unrefused b s c ≡ true) where
 
 -- ---- a frame that is freed
 
--- the four lines that a frame can meet
-abbrev frameSheet : (outside unstarted unheld past : Bool) → Option Refusal
-frameSheet outside unstarted unheld past =
-    orLater (Outside when outside) (orLater (NoFrameStart when unstarted) (orLater (NotHeld when unheld) (orLater (PastTheEnd when past) none)))
-
-frame-fine : (outside unstarted unheld past : Bool) → not (isSome (frameSheet outside unstarted unheld past)) ≡ true
-    → (outside ≡ false) × (unheld ≡ false)
-frame-fine true u h p e = absurd (false≢true e)
-frame-fine false true h p e = absurd (false≢true e)
-frame-fine false false true p e = absurd (false≢true e)
-frame-fine false false false p e = (refl, refl)
+abbrev place : ℕ → Range
+place a = record { address = a; offset = 0; length = 0 }
 
 module _ (b : Board) (s : Store) (a : ℕ) (h : unrefused b s (Free a) ≡ true) where
-  fine : ((not (isManaged b (s .allocator .regions) (a / b .page)) || false) ≡ false) × ((not (isHeld b s a) || false) ≡ false)
-  unfolding sheet lowest any
-  fine =
-      frame-fine (not (isManaged b (s .allocator .regions) (a / b .page)) || false) (not (startsFrame b s a) || false) (not (isHeld b s a) || false)
-      ((leavesFrame b s (record { address = a; offset = 0; length = 0 }) || false) || false) h
+  fine : Passed b s (names (Free a))
+  fine = passed b s (names (Free a)) (passes b s (Free a) h)
 
   pub free-managed : isManaged b (s .allocator .regions) (a / b .page) ≡ true
-  free-managed = not-false (isManaged b (s .allocator .regions) (a / b .page)) (or-left _ false (fine .0))
+  free-managed = not-false _ (any-head (outside b s) (place a) [] (fine .inside))
 
   pub free-held : isHeld b s a ≡ true
-  free-held = not-false (isHeld b s a) (or-left _ false (fine .1))
+  free-held = not-false _ (any-head (λ (r : Range). not (isHeld b s (r .address))) (place a) [] (fine .held))
 
 -- ---- a lookup
 
 -- its two lines
 abbrev findSheet : (managed leaves : Bool) → Option Refusal
 findSheet managed leaves = orLater (Outside when (not managed || false)) (orLater (PastTheEnd when (leaves || false)) none)
-
-abbrev place : ℕ → Range
-place a = record { address = a; offset = 0; length = 0 }
 
 module _ (b : Board) (positive : 0 < b .page) (s : Store) (a : ℕ) where
   stays-inside : leavesRegion b s (place a) ≡ false

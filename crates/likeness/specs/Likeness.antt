@@ -1,4 +1,4 @@
--- What likeness asks of a board and of a store beside common ground, and what it is for a list of calls to stay on common ground. Take from it that
+-- What likeness asks of a store beside common ground, and what it is for a list of calls to stay on common ground. Take from it that
 -- the four facts of `Sane` are all that the two readings lean on: the counters and the lists tell the truth about the frames, as in demand 3.
 use Prim.Native.Nat.{ℕ, _+_, _^_, _≤_, _<_}
 use mathlib.Core.Bool.{Bool, true, false, not, cond, _&&_}
@@ -7,7 +7,7 @@ use mathlib.Core.Option.{Option, none, some}
 use mathlib.Core.Path.{_≡_}
 use lib.Dec.{eqb}
 use Rattle.definition.specs.Board.{Board}
-use Rattle.definition.specs.Basics.{all, sum}
+use Rattle.definition.specs.Basics.{all, sum, everywhere}
 use Rattle.definition.specs.Frame.{Frame, size, levels, slot}
 use Rattle.definition.specs.Allocator.{isListed}
 use Rattle.definition.specs.Store.{Store}
@@ -18,7 +18,7 @@ use Rattle.definition.specs.Rust.{oldCount, allOnce, commonGround}
 
 -- where a frame of a level or above is listed, as many pages are idle: so the Rust's test of idle pages stops no grant that could be made
 abbrev pub IdleCovers : Store → Type 0
-IdleCovers s = (l : ℕ) → isListed l (s .allocator .regions) ≡ true → size l ≤ s .counters .idle
+IdleCovers s = (l : ℕ) → isListed everywhere l (s .allocator .regions) ≡ true → size l ≤ s .counters .idle
 
 abbrev pub hasLevel : ℕ → Option Frame → Bool
 hasLevel l none = false
@@ -50,12 +50,7 @@ pub record Sane (s : Store) : Type 0 where
   pub booked : HeldBooked s
   pub fits : CountsFit s
 
--- ---- the board and the calls
-
--- a page has bytes, and no layout on common ground is over 2^63 − 1 when it is rounded up; `standard` is such a board
-pub record Workable (b : Board) : Type 0 where
-  pub least : 0 < b .page
-  pub most : b .page ≤ 2 ^ 44
+-- ---- the calls
 
 -- each call of the list is on common ground in the store as the last left it
 unfoldable pub groundAlong : Board → Store → List Call → Bool

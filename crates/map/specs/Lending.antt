@@ -7,6 +7,7 @@ use lib.Dec.{ltb}
 use lib.ListN.{length, take, set, replicate}
 use Rattle.definition.specs.declared.MemoryRegion.{MemoryRegion}
 use Rattle.definition.specs.declared.MemoryRegionKind.the-variants.{Reserved}
+use Rattle.definition.specs.Board.{Board}
 use Rattle.definition.specs.World.{World}
 use Rattle.exam.specs.declared.Answer.{Answer}
 use Rattle.boot.specs.Booting.{Boots}
@@ -30,5 +31,5 @@ abbrev pub gathered : List MemoryRegion → Gathered
 gathered ms = enteredAll (take 8 ms) 0 (nothing (length ms))
 
 -- a boot by what was gathered, whatever entries it was gathered from
-abbrev pub BootsBy : Gathered → World → World → Answer → Type 0
-BootsBy g w v y = (ms : List MemoryRegion) → g ≡ gathered ms → Boots ms w v y
+abbrev pub BootsBy : Board → Gathered → World → World → Answer → Type 0
+BootsBy board g w v y = (ms : List MemoryRegion) → g ≡ gathered ms → Boots board ms w v y

@@ -1,6 +1,7 @@
 // The boot over a lent list of region structs (frame.rs's init): any length, of which no more than eight are read. A thin function reads each struct out of the
 // slice and hands it by value to covered code; the whole boot promises what `boot` does, over the list of entries.
 use address::PhysAddr;
+use definition::Board;
 use definition::Counters;
 use definition::MemoryRegion;
 use definition::MemoryRegionKind;
@@ -8,6 +9,7 @@ use exam::Outcome;
 ghost use mathlib.Core.Path.{_≡_};
 ghost use Prim.Native.Nat.{_≤_, _<_};
 ghost use lib.ListN.{length};
+ghost use Rattle.definition.specs.Board.{Fit};
 ghost use Rattle.exam.specs.Promise.{stateWith, worldOf};
 ghost use Rattle.boot.specs.Booting.{Boots, BootsOver};
 ghost use Rattle.map.specs.Lending.{nothing as «nothing_def», entered as «entered_def», gathered, BootsBy};
@@ -64,6 +66,7 @@ fn gather(map: &[MemoryRegion]) -> Gathered
 }
 
 fn boot_gathered(
+    board: Board,
     g: Gathered,
     counters: Counters,
     words: &mut [u64],
@@ -71,15 +74,16 @@ fn boot_gathered(
     memory: &[u8],
     queue: &[u64],
 ) -> Outcome
-    requires { ⌜ 92 ≤ length (now words) ⌝ }
-    ensures { λ r. ⌜ BootsBy g (worldOf (stateWith counters (now (words .entry))) (now (records .entry)) (now (memory .entry)) (now (queue .entry))) (worldOf (stateWith (r .counters) (now (words .exit))) (now (records .exit)) (now (memory .entry)) (now (queue .entry))) (r .answer) × BootsOver (now (words .entry)) (now (words .exit)) (r .answer) ⌝ }
+    requires { ⌜ Fit board × (92 ≤ length (now words)) ⌝ }
+    ensures { λ r. ⌜ BootsBy board g (worldOf (stateWith counters (now (words .entry))) (now (records .entry)) (now (memory .entry)) (now (queue .entry))) (worldOf (stateWith (r .counters) (now (words .exit))) (now (records .exit)) (now (memory .entry)) (now (queue .entry))) (r .answer) × BootsOver (now (words .entry)) (now (words .exit)) (r .answer) ⌝ }
 {
     let map = g.map;
-    boot::boot(counters, words, map, g.count, records, memory, queue)
+    boot::boot(board, counters, words, map, g.count, records, memory, queue)
 }
 
 // init, frame.rs 707, over a lent list of region entries of any length. The memory's bytes stay. Nothing of the words is read.
 pub fn boot_map(
+    board: Board,
     counters: Counters,
     words: &mut [u64],
     map: &[MemoryRegion],
@@ -87,8 +91,8 @@ pub fn boot_map(
     memory: &[u8],
     queue: &[u64],
 ) -> Outcome
-    requires { ⌜ 92 ≤ length (now words) ⌝ }
-    ensures { λ r. ⌜ Boots (now (map .entry)) (worldOf (stateWith counters (now (words .entry))) (now (records .entry)) (now (memory .entry)) (now (queue .entry))) (worldOf (stateWith (r .counters) (now (words .exit))) (now (records .exit)) (now (memory .entry)) (now (queue .entry))) (r .answer) × BootsOver (now (words .entry)) (now (words .exit)) (r .answer) ⌝ }
+    requires { ⌜ Fit board × (92 ≤ length (now words)) ⌝ }
+    ensures { λ r. ⌜ Boots board (now (map .entry)) (worldOf (stateWith counters (now (words .entry))) (now (records .entry)) (now (memory .entry)) (now (queue .entry))) (worldOf (stateWith (r .counters) (now (words .exit))) (now (records .exit)) (now (memory .entry)) (now (queue .entry))) (r .answer) × BootsOver (now (words .entry)) (now (words .exit)) (r .answer) ⌝ }
 {
-    boot_gathered(gather(map), counters, words, records, memory, queue)
+    boot_gathered(board, gather(map), counters, words, records, memory, queue)
 }

@@ -27,7 +27,7 @@ printed-some : (script : List ℕ) → 0 < length (printed script)
 unfolding outputOf
 printed-some script = header-some (runLines standard program started (lines script) .text)
 
-pub once : {script out out′ : List ℕ} {l′ : Loans} {r : ℕ} → length out′ ≡ length out → Ran script zeros out l′ out′ r → RanOnce script out out′ r
+pub once : {script out out′ : List ℕ} {l′ : Loans} {r : ℕ} → length out′ ≡ length out → Ran standard script zeros out l′ out′ r → RanOnce script out out′ r
 once {script} {out} {out′} {l′} {r} long ran =
     record {
       written = ran .written;

@@ -7,6 +7,7 @@ ghost use mathlib.Core.Path.{_≡_};
 ghost use Prim.Native.Nat.{ℕ, _+_, _/_, _%_, _<_, _≤_, _^_};
 ghost use lib.ListN.{length};
 ghost use Rattle.definition.specs.Calls.{Zero, Dirty, Fill, Write};
+ghost use Rattle.words.specs.Words.{boardIn};
 ghost use Rattle.exam.specs.Promise.{stateWith, worldOf, Leaves};
 
 // ---- contents
@@ -21,7 +22,7 @@ pub fn zero(
     pa: PhysAddr,
 ) -> Answer
     requires { ⌜ 92 ≤ length (now words) ⌝ }
-    ensures { λ r. ⌜ Leaves (worldOf (stateWith counters (now (words .entry))) (now (records .entry)) (now (memory .entry)) (now (queue .entry))) (Zero (pa .0)) (worldOf (stateWith counters (now (words .entry))) (now (records .exit)) (now (memory .exit)) (now (queue .entry))) r ⌝ }
+    ensures { λ r. ⌜ Leaves (boardIn (now (words .entry))) (worldOf (stateWith counters (now (words .entry))) (now (records .entry)) (now (memory .entry)) (now (queue .entry))) (Zero (pa .0)) (worldOf (stateWith counters (now (words .entry))) (now (records .exit)) (now (memory .exit)) (now (queue .entry))) r ⌝ }
 {
     let exam = exam::examine(
         counters,
@@ -39,8 +40,10 @@ pub fn zero(
     }
     let seen = exam.seen;
     let spot = seen.spot;
-    let bytes = exam::frame_bytes(seen);
-    contents::fill(memory, 4096 * spot.page, bytes as usize, 0);
+    let board = words::board_in(words);
+    let bytes = exam::frame_bytes(board, seen);
+    let at = exam::place(words, spot.page, 0);
+    contents::fill(memory, at, bytes as usize, 0);
     allocator::set_marks(words, records, spot, true, record::is_kernel(seen.marks));
     exam::done(pa.raw(), bytes)
 }
@@ -55,7 +58,7 @@ pub fn dirty(
     pa: PhysAddr,
 ) -> Answer
     requires { ⌜ 92 ≤ length (now words) ⌝ }
-    ensures { λ r. ⌜ Leaves (worldOf (stateWith counters (now (words .entry))) (now (records .entry)) (now (memory .entry)) (now (queue .entry))) (Dirty (pa .0)) (worldOf (stateWith counters (now (words .entry))) (now (records .exit)) (now (memory .entry)) (now (queue .entry))) r ⌝ }
+    ensures { λ r. ⌜ Leaves (boardIn (now (words .entry))) (worldOf (stateWith counters (now (words .entry))) (now (records .entry)) (now (memory .entry)) (now (queue .entry))) (Dirty (pa .0)) (worldOf (stateWith counters (now (words .entry))) (now (records .exit)) (now (memory .entry)) (now (queue .entry))) r ⌝ }
 {
     let exam = exam::examine(
         counters,
@@ -72,6 +75,8 @@ pub fn dirty(
         return exam::refused(number);
     }
     let seen = exam.seen;
+    let board = words::board_in(words);
+    let bytes = exam::frame_bytes(board, seen);
     allocator::set_marks(
         words,
         records,
@@ -79,7 +84,7 @@ pub fn dirty(
         false,
         record::is_kernel(seen.marks),
     );
-    exam::done(pa.raw(), exam::frame_bytes(seen))
+    exam::done(pa.raw(), bytes)
 }
 
 // 01: `len` bytes of a frame, from `offset` on, become `byte`.
@@ -95,7 +100,7 @@ pub fn fill(
     byte: u8,
 ) -> Answer
     requires { ⌜ 92 ≤ length (now words) ⌝ }
-    ensures { λ r. ⌜ Leaves (worldOf (stateWith counters (now (words .entry))) (now (records .entry)) (now (memory .entry)) (now (queue .entry))) (Fill (pa .0) offset len byte) (worldOf (stateWith counters (now (words .entry))) (now (records .exit)) (now (memory .exit)) (now (queue .entry))) r ⌝ }
+    ensures { λ r. ⌜ Leaves (boardIn (now (words .entry))) (worldOf (stateWith counters (now (words .entry))) (now (records .entry)) (now (memory .entry)) (now (queue .entry))) (Fill (pa .0) offset len byte) (worldOf (stateWith counters (now (words .entry))) (now (records .exit)) (now (memory .exit)) (now (queue .entry))) r ⌝ }
 {
     let exam = exam::examine(
         counters,
@@ -113,12 +118,8 @@ pub fn fill(
     }
     let seen = exam.seen;
     let spot = seen.spot;
-    contents::fill(
-        memory,
-        4096 * spot.page + offset as usize,
-        len as usize,
-        byte,
-    );
+    let at = exam::place(words, spot.page, offset);
+    contents::fill(memory, at, len as usize, byte);
     allocator::set_marks(words, records, spot, false, record::is_kernel(seen.marks));
     exam::done(pa.raw(), len)
 }
@@ -135,7 +136,7 @@ pub fn write(
     bytes: &[u8],
 ) -> Answer
     requires { ⌜ 92 ≤ length (now words) ⌝ }
-    ensures { λ r. ⌜ Leaves (worldOf (stateWith counters (now (words .entry))) (now (records .entry)) (now (memory .entry)) (now (queue .entry))) (Write (pa .0) offset (now (bytes .entry))) (worldOf (stateWith counters (now (words .entry))) (now (records .exit)) (now (memory .exit)) (now (queue .entry))) r ⌝ }
+    ensures { λ r. ⌜ Leaves (boardIn (now (words .entry))) (worldOf (stateWith counters (now (words .entry))) (now (records .entry)) (now (memory .entry)) (now (queue .entry))) (Write (pa .0) offset (now (bytes .entry))) (worldOf (stateWith counters (now (words .entry))) (now (records .exit)) (now (memory .exit)) (now (queue .entry))) r ⌝ }
 {
     let len = bytes.len() as u64;
     let exam = exam::examine(
@@ -154,7 +155,8 @@ pub fn write(
     }
     let seen = exam.seen;
     let spot = seen.spot;
-    contents::write(memory, 4096 * spot.page + offset as usize, bytes);
+    let to = exam::place(words, spot.page, offset);
+    contents::write(memory, to, bytes);
     allocator::set_marks(words, records, spot, false, record::is_kernel(seen.marks));
     exam::done(pa.raw(), len)
 }

@@ -14,8 +14,8 @@ use Rattle.definition.specs.declared.Record.{Record}
 use Rattle.definition.specs.declared.Row.{Row}
 use Rattle.definition.specs.declared.Counters.{Counters}
 use Rattle.definition.specs.declared.Refusal.the-variants.{Outside, NoFrameStart, NotHeld, PastTheEnd}
-use Rattle.definition.specs.Basics.{Popped, behind, popBack}
-use Rattle.definition.specs.Board.{standard}
+use Rattle.definition.specs.Basics.{Popped, orThis, popLast, popBack}
+use Rattle.definition.specs.Board.{Board}
 use Rattle.definition.specs.Refusal.{_when_, lowest}
 use Rattle.definition.specs.Frame.{size}
 use Rattle.definition.specs.Allocator.{PhysicalFrameAllocator, isManaged}
@@ -51,9 +51,9 @@ use Rattle.reclaim.specs.Rounds.{IsOf, Reclaims}
 -- ---- the queue's last address
 
 pop-back : (xs : List ℕ) (x : ℕ) → popBack (xs ++ (x ∷ [])) ≡ some (record { rest = xs; last = x })
-unfolding popBack
+unfolding popLast
 pop-back [] x = refl
-pop-back (y ∷ ys) x = ap (behind y) (pop-back ys x)
+pop-back (y ∷ ys) x = ap (orThis true y (ys ++ (x ∷ []))) (pop-back ys x)
 
 pop-take : (places : List ℕ) (q : ℕ) → 0 < q → q ≤ length places
     → popBack (take q places) ≡ some (record { rest = take (q - 1) places; last = getD places (q - 1) 0 })
@@ -65,7 +65,7 @@ pop-take places q h l =
     ap popBack e ∙ pop-back (take (q - 1) places) (getD places (q - 1) 0)
 
 pop-none : (places : List ℕ) (q : ℕ) → q ≡ 0 → popBack (take q places) ≡ none
-unfolding popBack
+unfolding popLast
 pop-none places q e = ap (λ (k : ℕ). popBack (take k places)) e
 
 -- ---- an address can be freed where its frame meets no refusal
@@ -88,17 +88,18 @@ one-fails true true false l f d = refl
 one-fails true true true false f d = absurd (d refl)
 one-fails true true true true f d = f
 
-module _ (s : Store) (a : ℕ) where
-  abbrev managed : Bool
-  managed = isManaged standard (s .allocator .regions) (a / standard .page)
+module _ (board : Board) where
+  module _ (s : Store) (a : ℕ) where
+    abbrev managed : Bool
+    managed = isManaged board (s .allocator .regions) (a / board .page)
 
-  can-free : frameRefusal standard s (rangeOf a 0 0) ≡ 0 → canBeFreed standard s a ≡ true
-  can-free e = all-met managed (startsFrame standard s a) (isHeld standard s a) (leavesFrame standard s (rangeOf a 0 0)) e
+    can-free : frameRefusal board s (rangeOf a 0 0) ≡ 0 → canBeFreed board s a ≡ true
+    can-free e = all-met managed (startsFrame board s a) (isHeld board s a) (leavesFrame board s (rangeOf a 0 0)) e
 
-  can-not-free : (frameRefusal standard s (rangeOf a 0 0) ≡ 0 → ⊥) → canBeFreed standard s a ≡ false
-  can-not-free d =
-      one-fails managed (startsFrame standard s a) (isHeld standard s a) (leavesFrame standard s (rangeOf a 0 0))
-      (le-ltb (frameBytes standard s (a / standard .page)) 0 (omega arith)) d
+    can-not-free : (frameRefusal board s (rangeOf a 0 0) ≡ 0 → ⊥) → canBeFreed board s a ≡ false
+    can-not-free d =
+        one-fails managed (startsFrame board s a) (isHeld board s a) (leavesFrame board s (rangeOf a 0 0))
+        (le-ltb (frameBytes board s (a / board .page)) 0 (omega arith)) d
 
 -- ---- the frame of what was seen
 
@@ -108,16 +109,18 @@ frame-some : (x : Record) → x .marks % 2 ≡ 1
 unfolding frameOf
 frame-some x e = rw e refl
 
-abbrev freedOf : Store → ℕ → Seen → Store
-freedOf s p r = withCounters (withAllocator s (freeAt standard p (s .allocator))) (countFree (size (r .level)) (eqb (r .marks / 8 % 2) 1) (s .counters))
+module _ (board : Board) where
+  abbrev freedOf : Store → ℕ → Seen → Store
+  freedOf s p r = withCounters (withAllocator s (freeAt board p (s .allocator))) (countFree (size (r .level)) (eqb (r .marks / 8 % 2) 1) (s .counters))
 
-freed-store
-    : {f : ℕ → Record} {rows : List Row} (s : Store) (p : ℕ) (r : Seen) → Sees standard f rows p (s .allocator) r → r .managed ≡ true → r .marks % 2 ≡ 1
-    → freeFrame standard s p ≡ freedOf s p r
-unfolding freeFrame
-freed-store {f} s p r S m d =
-    let e : f (r .spot .page) .marks % 2 ≡ 1 = sym (ap (λ (k : ℕ). k % 2) (S .marks m)) ∙ d in
-    ap (freedFrame standard s p) (S .frame m ∙ frame-some (f (r .spot .page)) e) ∙ rw (S .marks m, S .level m) refl
+module _ {board : Board} where
+  freed-store
+      : {f : ℕ → Record} {rows : List Row} (s : Store) (p : ℕ) (r : Seen) → Sees board f rows p (s .allocator) r → r .managed ≡ true → r .marks % 2 ≡ 1
+      → freeFrame board s p ≡ freedOf board s p r
+  unfolding freeFrame
+  freed-store {f} s p r S m d =
+      let e : f (r .spot .page) .marks % 2 ≡ 1 = sym (ap (λ (k : ℕ). k % 2) (S .marks m)) ∙ d in
+      ap (freedFrame board s p) (S .frame m ∙ frame-some (f (r .spot .page)) e) ∙ rw (S .marks m, S .level m) refl
 
 -- ---- the turns so far
 
@@ -128,232 +131,237 @@ more k x = record { store = x .store; freed = x .freed + k }
 abbrev offEnd : State → State
 offEnd st = record { rows = st .rows; counters = st .counters; queued = st .queued - 1; pass = st .pass }
 
--- the store that was reached after i turns of a round of `limit`, of which `freed` freed a frame
-pub record Went (f₀ : ℕ → Record) (n : ℕ) (st : State) (places : List ℕ) (limit : ℕ) (f : ℕ → Record) (next : State) (freed i : ℕ) (s : Store) : Type 0 where
-  pub present : Store
-  pub is : IsOf f n next places present
-  pub turned : Turned standard f₀ (st .rows) f n (next .rows) (present .allocator)
-  pub memory : present .memory ≡ s .memory
-  pub room : present .room ≡ s .room
-  pub same-pass : present .pass ≡ s .pass
-  pub result : reclaimUpTo standard limit s ≡ more freed (reclaimUpTo standard (limit - i) present)
+module _ (board : Board) where
+  -- the store that was reached after i turns of a round of `limit`, of which `freed` freed a frame
+  pub record Went (f₀ : ℕ → Record) (n : ℕ) (st : State) (places : List ℕ) (limit : ℕ) (f : ℕ → Record) (next : State) (freed i : ℕ) (s : Store) : Type 0 where
+    pub present : Store
+    pub is : IsOf board f n next places present
+    pub turned : Turned board f₀ (st .rows) f n (next .rows) (present .allocator)
+    pub memory : present .memory ≡ s .memory
+    pub room : present .room ≡ s .room
+    pub same-pass : present .pass ≡ s .pass
+    pub result : reclaimUpTo board limit s ≡ more freed (reclaimUpTo board (limit - i) present)
 
-went-start : {f : ℕ → Record} {n : ℕ} {st : State} {places : List ℕ} (limit : ℕ) {s : Store} → IsOf f n st places s → Went f n st places limit f st 0 0 s
-went-start limit {s} I =
-    let x = reclaimUpTo standard limit s in
-    let z : limit ≡ limit - 0 = omega arith in
-    record {
-      present = s;
-      is = I;
-      turned = record { table = I .table; spans = refl; outside = λ q h. refl };
-      memory = refl;
-      room = refl;
-      same-pass = refl;
-      result = ap (λ (k : ℕ). record { store = x .store; freed = k }) (omega arith) ∙ ap (λ (k : ℕ). more 0 (reclaimUpTo standard k s)) z;
-    }
+module _ {board : Board} where
+  went-start : {f : ℕ → Record} {n : ℕ} {st : State} {places : List ℕ} (limit : ℕ) {s : Store} → IsOf board f n st places s → Went board f n st places limit f st 0 0 s
+  went-start limit {s} I =
+      let x = reclaimUpTo board limit s in
+      let z : limit ≡ limit - 0 = omega arith in
+      record {
+        present = s;
+        is = I;
+        turned = record { table = I .table; spans = refl; outside = λ q h. refl };
+        memory = refl;
+        room = refl;
+        same-pass = refl;
+        result = ap (λ (k : ℕ). record { store = x .store; freed = k }) (omega arith) ∙ ap (λ (k : ℕ). more 0 (reclaimUpTo board k s)) z;
+      }
 
-turned-then
-    : {f g h : ℕ → Record} {n : ℕ} {rows rows2 rows3 : List Row} {a b : PhysicalFrameAllocator}
-    → Turned standard f rows g n rows2 a → Turned standard g rows2 h n rows3 b → Turned standard f rows h n rows3 b
-turned-then T U =
-    record {
-      table = U .table;
-      spans = U .spans ∙ T .spans;
-      outside = λ q l. U .outside q (rw (T .spans) l) ∙ T .outside q l;
-    }
+  turned-then
+      : {f g h : ℕ → Record} {n : ℕ} {rows rows2 rows3 : List Row} {a b : PhysicalFrameAllocator}
+      → Turned board f rows g n rows2 a → Turned board g rows2 h n rows3 b → Turned board f rows h n rows3 b
+  turned-then T U =
+      record {
+        table = U .table;
+        spans = U .spans ∙ T .spans;
+        outside = λ q l. U .outside q (rw (T .spans) l) ∙ T .outside q l;
+      }
 
-module _
-    {f₀ : ℕ → Record} {n : ℕ} {st : State} {places : List ℕ} {limit : ℕ} {f : ℕ → Record} {next : State} {freed i : ℕ} {s : Store}
-    (W : Went f₀ n st places limit f next freed i s)
-  where
-    abbrev t : Store
-    t = W .present
+  module _
+      {f₀ : ℕ → Record} {n : ℕ} {st : State} {places : List ℕ} {limit : ℕ} {f : ℕ → Record} {next : State} {freed i : ℕ} {s : Store}
+      (W : Went board f₀ n st places limit f next freed i s)
+    where
+      abbrev t : Store
+      t = W .present
 
-    -- no turn is left
-    went-all : limit ≤ i → reclaimUpTo standard limit s ≡ record { store = t; freed = freed }
-    unfolding reclaimUpTo
-    went-all h =
-        let z : limit - i ≡ 0 = omega arith in
-        W .result ∙ ap (λ (k : ℕ). more freed (reclaimUpTo standard k t)) z ∙ ap (λ (k : ℕ). record { store = t; freed = k }) (omega arith)
-
-    module _ (h : i < limit) where
-      abbrev k : ℕ
-      k = limit - (i + 1)
-
-      one-turn : (o : Option Popped) → popBack (t .queue) ≡ o → reclaimUpTo standard limit s ≡ more freed (freeOrDrop standard (reclaimUpTo standard k) t o)
+      -- no turn is left
+      went-all : limit ≤ i → reclaimUpTo board limit s ≡ record { store = t; freed = freed }
       unfolding reclaimUpTo
-      one-turn o e =
-          let z : limit - i ≡ suc k = omega arith in
-          W .result ∙ ap (λ (m : ℕ). more freed (reclaimUpTo standard m t)) z ∙ ap (λ (x : Option Popped). more freed (freeOrDrop standard (reclaimUpTo standard k) t x)) e
+      went-all h =
+          let z : limit - i ≡ 0 = omega arith in
+          W .result ∙ ap (λ (k : ℕ). more freed (reclaimUpTo board k t)) z ∙ ap (λ (k : ℕ). record { store = t; freed = k }) (omega arith)
 
-      -- the queue is empty
-      went-empty : next .queued ≡ 0 → reclaimUpTo standard limit s ≡ record { store = t; freed = freed }
-      went-empty e =
-          one-turn none (ap popBack (W .is .queue) ∙ pop-none places (next .queued) e) ∙ ap (λ (m : ℕ). record { store = t; freed = m }) (omega arith)
+      module _ (h : i < limit) where
+        abbrev k : ℕ
+        k = limit - (i + 1)
 
-      module _ (some-left : 0 < next .queued) where
-        abbrev a : ℕ
-        a = getD places (next .queued - 1) 0
+        one-turn : (o : Option Popped) → popBack (t .queue) ≡ o → reclaimUpTo board limit s ≡ more freed (freeOrDrop board (reclaimUpTo board k) t o)
+        unfolding reclaimUpTo
+        one-turn o e =
+            let z : limit - i ≡ suc k = omega arith in
+            W .result ∙ ap (λ (m : ℕ). more freed (reclaimUpTo board m t)) z ∙ ap (λ (x : Option Popped). more freed (freeOrDrop board (reclaimUpTo board k) t x)) e
 
-        abbrev u : Store
-        u = withQueue t (take (next .queued - 1) places)
+        -- the queue is empty
+        went-empty : next .queued ≡ 0 → reclaimUpTo board limit s ≡ record { store = t; freed = freed }
+        went-empty e =
+            one-turn none (ap popBack (W .is .queue) ∙ pop-none places (next .queued) e) ∙ ap (λ (m : ℕ). record { store = t; freed = m }) (omega arith)
 
-        turn : (b : Bool) → canBeFreed standard u a ≡ b
-            → reclaimUpTo standard limit s ≡ more freed (cond b (oneMore (reclaimUpTo standard k (freeFrame standard u (a / standard .page)))) (reclaimUpTo standard k u))
-        turn b e =
-            one-turn (some (record { rest = take (next .queued - 1) places; last = a }))
-            (ap popBack (W .is .queue) ∙ pop-take places (next .queued) some-left (W .is .queued))
-            ∙ ap (λ (c : Bool). more freed (cond c (oneMore (reclaimUpTo standard k (freeFrame standard u (a / standard .page)))) (reclaimUpTo standard k u))) e
+        module _ (some-left : 0 < next .queued) where
+          abbrev a : ℕ
+          a = getD places (next .queued - 1) 0
 
-        module _ (r : Exam) (L : Looks f n (next .rows) a 0 0 r) where
-          sees : Sees standard f (next .rows) (a / 4096) (u .allocator) (r .seen)
-          sees = L .sees (t .allocator) (W .is .table)
+          abbrev u : Store
+          u = withQueue t (take (next .queued - 1) places)
 
-          number-is : frameRefusal standard u (rangeOf a 0 0) ≡ r .number
-          number-is = frame-seen u a 0 0 (r .seen) sees ∙ sym (L .number)
+          turn : (b : Bool) → canBeFreed board u a ≡ b
+              → reclaimUpTo board limit s ≡ more freed (cond b (oneMore (reclaimUpTo board k (freeFrame board u (a / board .page)))) (reclaimUpTo board k u))
+          turn b e =
+              one-turn (some (record { rest = take (next .queued - 1) places; last = a }))
+              (ap popBack (W .is .queue) ∙ pop-take places (next .queued) some-left (W .is .queued))
+              ∙ ap (λ (c : Bool). more freed (cond c (oneMore (reclaimUpTo board k (freeFrame board u (a / board .page)))) (reclaimUpTo board k u))) e
 
-          went-drop : (r .number ≡ 0 → ⊥) → Went f₀ n st places limit f (offEnd next) freed (i + 1) s
-          went-drop d =
-              record {
-                present = u;
-                is = record { table = W .is .table; counters = W .is .counters; queue = refl; queued = omega (arith, W .is .queued) };
-                turned = W .turned;
-                memory = W .memory;
-                room = W .room;
-                same-pass = W .same-pass;
-                result = turn false (can-not-free u a (λ z. d (sym number-is ∙ z)));
-              }
+          module _ (r : Exam) (L : Looks board f n (next .rows) a 0 0 r) where
+            sees : Sees board f (next .rows) (a / board .page) (u .allocator) (r .seen)
+            sees = L .sees (t .allocator) (W .is .table)
 
-          module _ (z : r .number ≡ 0) where
-            seen-is-managed : r .seen .managed ≡ true
-            seen-is-managed = seen-managed u a 0 0 (r .seen) sees (L .leveled) (r .number) (L .number) z
+            number-is : frameRefusal board u (rangeOf a 0 0) ≡ r .number
+            number-is = frame-seen u a 0 0 (r .seen) sees ∙ sym (L .number)
 
-            freed-is : freeFrame standard u (a / standard .page) ≡ freedOf u (a / 4096) (r .seen)
-            freed-is = freed-store u (a / 4096) (r .seen) sees seen-is-managed (seen-admitted u a 0 0 (r .seen) sees (L .leveled) (r .number) (L .number) z)
-
-            went-free : {g : ℕ → Record} {next2 : State} → Released f (offEnd next) (r .seen) g n next2 → Went f₀ n st places limit g next2 (freed + 1) (i + 1) s
-            went-free {g} {next2} R =
-                let v = freedOf u (a / 4096) (r .seen) in
-                let x = reclaimUpTo standard k v in
-                let T : Turned standard f (next .rows) g n (next2 .rows) (v .allocator) = rw (sees-number sees seen-is-managed) at (R .turned (t .allocator) (W .is .table)) in
+            went-drop : (r .number ≡ 0 → ⊥) → Went board f₀ n st places limit f (offEnd next) freed (i + 1) s
+            went-drop d =
                 record {
-                  present = v;
-                  is =
-                      record {
-                        table = T .table;
-                        counters = ap (countFree (size (r .seen .level)) (eqb (r .seen .marks / 8 % 2) 1)) (W .is .counters) ∙ sym (R .counters);
-                        queue = ap (λ (m : ℕ). take m places) (sym (R .queued));
-                        queued = omega (arith, W .is .queued, R .queued);
-                      };
-                  turned = turned-then (W .turned) T;
+                  present = u;
+                  is = record { table = W .is .table; counters = W .is .counters; queue = refl; queued = omega (arith, W .is .queued) };
+                  turned = W .turned;
                   memory = W .memory;
                   room = W .room;
                   same-pass = W .same-pass;
-                  result =
-                      turn true (can-free u a (number-is ∙ z))
-                      ∙ ap (λ (y : Store). more freed (oneMore (reclaimUpTo standard k y))) freed-is
-                      ∙ ap (λ (m : ℕ). record { store = x .store; freed = m }) (omega arith);
+                  result = turn false (can-not-free board u a (λ z. d (sym number-is ∙ z)));
                 }
+
+            module _ (z : r .number ≡ 0) where
+              seen-is-managed : r .seen .managed ≡ true
+              seen-is-managed = seen-managed u a 0 0 (r .seen) sees (L .leveled) (r .number) (L .number) z
+
+              freed-is : freeFrame board u (a / board .page) ≡ freedOf board u (a / board .page) (r .seen)
+              freed-is = freed-store u (a / board .page) (r .seen) sees seen-is-managed (seen-admitted u a 0 0 (r .seen) sees (L .leveled) (r .number) (L .number) z)
+
+              went-free : {g : ℕ → Record} {next2 : State} → Released board f (offEnd next) (r .seen) g n next2 → Went board f₀ n st places limit g next2 (freed + 1) (i + 1) s
+              went-free {g} {next2} R =
+                  let v = freedOf board u (a / board .page) (r .seen) in
+                  let x = reclaimUpTo board k v in
+                  let T : Turned board f (next .rows) g n (next2 .rows) (v .allocator) = rw (sees-number sees seen-is-managed) at (R .turned (t .allocator) (W .is .table)) in
+                  record {
+                    present = v;
+                    is =
+                        record {
+                          table = T .table;
+                          counters = ap (countFree (size (r .seen .level)) (eqb (r .seen .marks / 8 % 2) 1)) (W .is .counters) ∙ sym (R .counters);
+                          queue = ap (λ (m : ℕ). take m places) (sym (R .queued));
+                          queued = omega (arith, W .is .queued, R .queued);
+                        };
+                    turned = turned-then (W .turned) T;
+                    memory = W .memory;
+                    room = W .room;
+                    same-pass = W .same-pass;
+                    result =
+                        turn true (can-free board u a (number-is ∙ z))
+                        ∙ ap (λ (y : Store). more freed (oneMore (reclaimUpTo board k y))) freed-is
+                        ∙ ap (λ (m : ℕ). record { store = x .store; freed = m }) (omega arith);
+                  }
 
 -- ---- the loop's invariant
 
-pub record Going (f₀ : ℕ → Record) (st : State) (places : List ℕ) (limit : ℕ) (f : ℕ → Record) (n : ℕ) (next : State) (freed i : ℕ) : Type 0 where
-  pub sane : Sane standard f n (next .rows)
-  pub turns : i ≤ limit
-  pub few : freed ≤ i
-  pub queued : next .queued ≤ st .queued
-  pub within : st .queued ≤ length places
-  pub pass : next .pass ≡ st .pass
-  pub idle : next .counters .idle ≤ st .counters .idle + 262144 * i
-  pub went : (s : Store) → IsOf f₀ n st places s → Went f₀ n st places limit f next freed i s
+module _ (board : Board) where
+  pub record Going (f₀ : ℕ → Record) (st : State) (places : List ℕ) (limit : ℕ) (f : ℕ → Record) (n : ℕ) (next : State) (freed i : ℕ) : Type 0 where
+    pub sane : Sane board f n (next .rows)
+    pub turns : i ≤ limit
+    pub few : freed ≤ i
+    pub queued : next .queued ≤ st .queued
+    pub within : st .queued ≤ length places
+    pub pass : next .pass ≡ st .pass
+    pub idle : next .counters .idle ≤ st .counters .idle + 262144 * i
+    pub went : (s : Store) → IsOf board f₀ n st places s → Went board f₀ n st places limit f next freed i s
 
-pub going-start
-    : {f : ℕ → Record} {st : State} {places : List ℕ} (limit : ℕ) {n : ℕ} → Sane standard f n (st .rows) → st .queued ≤ length places → Going f st places limit f n st 0 0
-going-start limit S l =
-    record {
-      sane = S;
-      turns = omega arith;
-      few = omega arith;
-      queued = omega arith;
-      within = l;
-      pass = refl;
-      idle = omega arith;
-      went = λ s I. went-start limit I;
-    }
+module _ {board : Board} where
+  pub going-start
+      : {f : ℕ → Record} {st : State} {places : List ℕ} (limit : ℕ) {n : ℕ} → Sane board f n (st .rows) → st .queued ≤ length places → Going board f st places limit f n st 0 0
+  going-start limit S l =
+      record {
+        sane = S;
+        turns = omega arith;
+        few = omega arith;
+        queued = omega arith;
+        within = l;
+        pass = refl;
+        idle = omega arith;
+        went = λ s I. went-start limit I;
+      }
 
-turns-sane
-    : {f g : ℕ → Record} {n : ℕ} {rows rows2 : List Row} {op : PhysicalFrameAllocator → PhysicalFrameAllocator} → Sane standard f n rows → TurnsBy standard op f rows g n rows2
-    → Sane standard g n rows2
-turns-sane {f} {rows = rows} S T = T (standing standard f rows) (sane-table S) .table .sane
+  turns-sane
+      : {f g : ℕ → Record} {n : ℕ} {rows rows2 : List Row} {op : PhysicalFrameAllocator → PhysicalFrameAllocator} → Sane board f n rows → TurnsBy board op f rows g n rows2
+      → Sane board g n rows2
+  turns-sane {f} {rows = rows} S T = T (standing board f rows) (sane-table S) .table .sane
 
 more-idle : (n : ℕ) (kernel : Bool) (c d : Counters) → d ≡ countFree n kernel c → d .idle ≡ c .idle + n
 unfolding countFree
 more-idle n kernel c d e = ap (λ (x : Counters). x .idle) e
 
-module _
-    {f₀ : ℕ → Record} {st : State} {places : List ℕ} {limit : ℕ} {f : ℕ → Record} {n : ℕ} {next : State} {freed i : ℕ}
-    (G : Going f₀ st places limit f n next freed i)
-  where
-    ended
-        : limit ≤ 100
-        → ((s : Store) (I : IsOf f₀ n st places s) → reclaimUpTo standard limit s ≡ record { store = G .went s I .present; freed = freed })
-        → Reclaims f₀ st places limit f n (record { state = next; freed = freed })
-    ended m e s I =
-        let W = G .went s I in
-        rw (e s I)
-        (record {
-          turned = W .turned;
-          counters = W .is .counters;
-          queue = W .is .queue;
-          queued = G .queued;
-          pass = G .pass;
-          freed = refl;
-          few = omega (arith, G .few, G .turns);
-          memory = W .memory;
-          room = W .room;
-          same-pass = W .same-pass;
-        })
+module _ {board : Board} where
+  module _
+      {f₀ : ℕ → Record} {st : State} {places : List ℕ} {limit : ℕ} {f : ℕ → Record} {n : ℕ} {next : State} {freed i : ℕ}
+      (G : Going board f₀ st places limit f n next freed i)
+    where
+      ended
+          : limit ≤ 1000
+          → ((s : Store) (I : IsOf board f₀ n st places s) → reclaimUpTo board limit s ≡ record { store = G .went s I .present; freed = freed })
+          → Reclaims board f₀ st places limit f n (record { state = next; freed = freed })
+      ended m e s I =
+          let W = G .went s I in
+          rw (e s I)
+          (record {
+            turned = W .turned;
+            counters = W .is .counters;
+            queue = W .is .queue;
+            queued = G .queued;
+            pass = G .pass;
+            freed = refl;
+            few = omega (arith, G .few, G .turns);
+            memory = W .memory;
+            room = W .room;
+            same-pass = W .same-pass;
+          })
 
-    pub going-all : limit ≤ 100 → limit ≤ i → Reclaims f₀ st places limit f n (record { state = next; freed = freed })
-    going-all m h = ended m (λ s I. went-all (G .went s I) h)
+      pub going-all : limit ≤ 1000 → limit ≤ i → Reclaims board f₀ st places limit f n (record { state = next; freed = freed })
+      going-all m h = ended m (λ s I. went-all (G .went s I) h)
 
-    module _ (h : i < limit) where
-      pub going-empty : limit ≤ 100 → next .queued ≡ 0 → Reclaims f₀ st places limit f n (record { state = next; freed = freed })
-      going-empty m e = ended m (λ s I. went-empty (G .went s I) h e)
+      module _ (h : i < limit) where
+        pub going-empty : limit ≤ 1000 → next .queued ≡ 0 → Reclaims board f₀ st places limit f n (record { state = next; freed = freed })
+        going-empty m e = ended m (λ s I. went-empty (G .went s I) h e)
 
-      module _ (some-left : 0 < next .queued) (r : Exam) (L : Looks f n (next .rows) (getD places (next .queued - 1) 0) 0 0 r) where
-        pub going-drop : (r .number ≡ 0 → ⊥) → Going f₀ st places limit f n (offEnd next) freed (i + 1)
-        going-drop d =
-            record {
-              sane = G .sane;
-              turns = omega arith;
-              few = omega (arith, G .few);
-              queued = omega (arith, G .queued);
-              within = G .within;
-              pass = G .pass;
-              idle = omega (arith, G .idle);
-              went = λ s I. went-drop (G .went s I) h some-left r L d;
-            }
+        module _ (some-left : 0 < next .queued) (r : Exam) (L : Looks board f n (next .rows) (getD places (next .queued - 1) 0) 0 0 r) where
+          pub going-drop : (r .number ≡ 0 → ⊥) → Going board f₀ st places limit f n (offEnd next) freed (i + 1)
+          going-drop d =
+              record {
+                sane = G .sane;
+                turns = omega arith;
+                few = omega (arith, G .few);
+                queued = omega (arith, G .queued);
+                within = G .within;
+                pass = G .pass;
+                idle = omega (arith, G .idle);
+                went = λ s I. went-drop (G .went s I) h some-left r L d;
+              }
 
-        -- what a free of the frame requires
-        pub going-held : r .number ≡ 0 → HeldSeen f (next .rows) (r .seen)
-        going-held z =
-            let a = getD places (next .queued - 1) 0 in
-            let s : Store = record { allocator = standing standard f (next .rows); memory = λ p. 0; counters = next .counters; queue = []; room = 0; pass = next .pass } in
-            seen-held s a 0 0 (r .seen) (L .sees (standing standard f (next .rows)) (sane-table (G .sane))) (L .leveled) (r .number) (L .number) z
+          -- what a free of the frame requires
+          pub going-held : r .number ≡ 0 → HeldSeen board f (next .rows) (r .seen)
+          going-held z =
+              let a = getD places (next .queued - 1) 0 in
+              let s : Store = record { allocator = standing board f (next .rows); memory = λ p. 0; counters = next .counters; queue = []; room = 0; pass = next .pass } in
+              seen-held s a 0 0 (r .seen) (L .sees (standing board f (next .rows)) (sane-table (G .sane))) (L .leveled) (r .number) (L .number) z
 
-        pub going-free
-            : r .number ≡ 0 → {g : ℕ → Record} {next2 : State} → Released f (offEnd next) (r .seen) g n next2
-            → Going f₀ st places limit g n next2 (freed + 1) (i + 1)
-        going-free z {g} {next2} R =
-            let e = more-idle (size (r .seen .level)) (eqb (r .seen .marks / 8 % 2) 1) (next .counters) (next2 .counters) (R .counters) in
-            record {
-              sane = turns-sane (G .sane) (R .turned);
-              turns = omega arith;
-              few = omega (arith, G .few);
-              queued = omega (arith, G .queued, R .queued);
-              within = G .within;
-              pass = R .pass ∙ G .pass;
-              idle = omega (arith, G .idle, e, size-most (going-held z .leveled));
-              went = λ s I. went-free (G .went s I) h some-left r L z R;
-            }
+          pub going-free
+              : r .number ≡ 0 → {g : ℕ → Record} {next2 : State} → Released board f (offEnd next) (r .seen) g n next2
+              → Going board f₀ st places limit g n next2 (freed + 1) (i + 1)
+          going-free z {g} {next2} R =
+              let e = more-idle (size (r .seen .level)) (eqb (r .seen .marks / 8 % 2) 1) (next .counters) (next2 .counters) (R .counters) in
+              record {
+                sane = turns-sane (G .sane) (R .turned);
+                turns = omega arith;
+                few = omega (arith, G .few);
+                queued = omega (arith, G .queued, R .queued);
+                within = G .within;
+                pass = R .pass ∙ G .pass;
+                idle = omega (arith, G .idle, e, size-most (going-held z .leveled));
+                went = λ s I. went-free (G .went s I) h some-left r L z R;
+              }

@@ -5,12 +5,11 @@ use definition::Pass;
 use exam::Outcome;
 ghost use Prim.Native.Nat.{_<_, _≤_, _^_};
 ghost use lib.ListN.{length};
-ghost use Rattle.definition.specs.Board.{standard};
 ghost use Rattle.definition.specs.Calls.{Queue, Round};
 ghost use Rattle.definition.specs.World.{recordAt};
 ghost use Rattle.record.specs.Records.{pagesIn};
-ghost use Rattle.words.specs.Words.{rowsIn, queuedIn, Beside};
-ghost use Rattle.world.specs.Tables.{Sane};
+ghost use Rattle.words.specs.Words.{boardIn, queuedIn, Beside};
+ghost use Rattle.allocator.specs.Spots.{SaneIn};
 ghost use Rattle.exam.specs.Promise.{stateWith, worldOf, Leaves};
 ghost use Rattle.reclaim.specs.Rounds.{Reclaims, EndsPass};
 
@@ -26,7 +25,7 @@ pub fn queue(
     pa: PhysAddr,
 ) -> Outcome
     requires { ⌜ 92 ≤ length (now words) ⌝ }
-    ensures { λ r. ⌜ Leaves (worldOf (stateWith counters (now (words .entry))) (now (records .entry)) (now (memory .entry)) (now (queue .entry))) (Queue (pa .0)) (worldOf (stateWith (r .counters) (now (words .exit))) (now (records .entry)) (now (memory .entry)) (now (queue .exit))) (r .answer) ⌝ }
+    ensures { λ r. ⌜ Leaves (boardIn (now (words .entry))) (worldOf (stateWith counters (now (words .entry))) (now (records .entry)) (now (memory .entry)) (now (queue .entry))) (Queue (pa .0)) (worldOf (stateWith (r .counters) (now (words .exit))) (now (records .entry)) (now (memory .entry)) (now (queue .exit))) (r .answer) ⌝ }
     ensures { λ _. ⌜ Beside (now (words .entry)) (now (words .exit)) ⌝ }
 {
     let exam = exam::examine(
@@ -53,11 +52,12 @@ pub fn queue(
             answer: exam::refused(16),
         };
     }
+    let board = words::board_in(words);
     queue[last] = pa.raw();
     words::put_queued(words, last + 1);
     Outcome {
         counters,
-        answer: exam::done(pa.raw(), exam::frame_bytes(exam.seen)),
+        answer: exam::done(pa.raw(), exam::frame_bytes(board, exam.seen)),
     }
 }
 
@@ -74,9 +74,9 @@ fn reclaim_up_to(
     queue: &[u64],
     limit: usize,
 ) -> Reclaimed
-    requires { ⌜ (92 ≤ length (now words)) × Sane standard (recordAt (now records)) (pagesIn (now records)) (rowsIn (now words)) ⌝ }
-    requires { ⌜ (queuedIn (now words) ≤ length (now queue)) × (counters .idle < 2 ^ 62) × (limit ≤ 100) ⌝ }
-    ensures { λ r. ⌜ Reclaims (recordAt (now (records .entry))) (stateWith counters (now (words .entry))) (now (queue .entry)) limit (recordAt (now (records .exit))) (pagesIn (now (records .exit))) (record { state = stateWith (r .counters) (now (words .exit)); freed = r .freed }) ⌝ }
+    requires { ⌜ (92 ≤ length (now words)) × SaneIn (now records) (now words) ⌝ }
+    requires { ⌜ (queuedIn (now words) ≤ length (now queue)) × (counters .idle < 2 ^ 62) × (limit ≤ 1000) ⌝ }
+    ensures { λ r. ⌜ Reclaims (boardIn (now (words .entry))) (recordAt (now (records .entry))) (stateWith counters (now (words .entry))) (now (queue .entry)) limit (recordAt (now (records .exit))) (pagesIn (now (records .exit))) (record { state = stateWith (r .counters) (now (words .exit)); freed = r .freed }) ⌝ }
     ensures { λ _. ⌜ Beside (now (words .entry)) (now (words .exit)) ⌝ }
 {
     let mut next = counters;
@@ -114,7 +114,7 @@ pub fn round(
     queue: &[u64],
 ) -> Outcome
     requires { ⌜ 92 ≤ length (now words) ⌝ }
-    ensures { λ r. ⌜ Leaves (worldOf (stateWith counters (now (words .entry))) (now (records .entry)) (now (memory .entry)) (now (queue .entry))) (Round) (worldOf (stateWith (r .counters) (now (words .exit))) (now (records .exit)) (now (memory .entry)) (now (queue .entry))) (r .answer) ⌝ }
+    ensures { λ r. ⌜ Leaves (boardIn (now (words .entry))) (worldOf (stateWith counters (now (words .entry))) (now (records .entry)) (now (memory .entry)) (now (queue .entry))) (Round) (worldOf (stateWith (r .counters) (now (words .exit))) (now (records .exit)) (now (memory .entry)) (now (queue .entry))) (r .answer) ⌝ }
     ensures { λ _. ⌜ Beside (now (words .entry)) (now (words .exit)) ⌝ }
 {
     if !exam::is_sound(counters, words, records, memory.len(), queue.len()) {
@@ -123,17 +123,18 @@ pub fn round(
             answer: exam::refused(6),
         };
     }
+    let board = words::board_in(words);
     let before = words::pass_in(words);
-    if !tracker::should_reclaim(counters) {
+    if !tracker::should_reclaim(board, counters) {
         return end_pass(counters, words, before);
     }
-    let r = reclaim_up_to(counters, words, records, queue, 100);
+    let r = reclaim_up_to(counters, words, records, queue, board.per_round);
     let next = r.counters;
     let pass = Pass {
         rounds: before.rounds + 1,
         freed: before.freed + r.freed,
     };
-    if 1000 < before.rounds {
+    if board.max_rounds < before.rounds {
         return end_pass(next, words, pass);
     }
     words::put_pass(words, pass);

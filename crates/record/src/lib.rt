@@ -1,16 +1,45 @@
 // The records of the managed pages in the lent bytes: 16 bytes a page, four 32-bit little-endian numbers (01, "What changes shape").
-// No other crate sees bytes of records. Callers go by the `records` clause of a contract, which speaks of the records as a function of the page;
-// the `bytes` clause fixes every byte of the loan, those past the last whole record too.
+// No other crate sees bytes of records, and none takes the marks or the number of the level apart. Callers go by the `records` clause of a
+// contract, which speaks of the records as a function of the page; the `bytes` clause fixes every byte of the loan, those past the last whole
+// record too.
 use definition::Record;
+ghost use mathlib.Core.Bool.{true, false};
 ghost use mathlib.Core.Path.{_≡_};
 ghost use mathlib.Core.List.{_++_};
-ghost use Prim.Native.Nat.{_+_, _*_, _/_, _%_, _<_, _≤_};
-ghost use lib.Dec.{eqb};
+ghost use Prim.Native.Nat.{_+_, _*_, _/_, _^_, _<_, _≤_};
+ghost use lib.Dec.{ltb};
 ghost use lib.ListN.{length, replicate};
-ghost use Rattle.definition.specs.Basics.{upd, bit, all, range};
+ghost use Rattle.definition.specs.Basics.{upd, all, range};
+ghost use Rattle.definition.specs.Frame.{levels};
 ghost use Rattle.definition.specs.Torn.{isBlank};
-ghost use Rattle.definition.specs.World.{wordAt, recordAt, wordBytes, recordBytes};
-ghost use Rattle.record.specs.Records.{pagesIn, kindOf, withBytes, withMarks, withEarlier, withLater, withLinks, cleared};
+ghost use Rattle.definition.specs.World.{
+  wordAt,
+  recordAt,
+  wordBytes,
+  recordBytes,
+  admittedIn,
+  allocatedIn,
+  zeroedIn,
+  kernelIn,
+  namedMarks,
+  marksWith,
+  allocatedMarks,
+  levelIn,
+  levelWord,
+};
+ghost use Rattle.record.specs.Records.{
+  pagesIn,
+  withBytes,
+  withMarks,
+  withEarlier,
+  withLater,
+  withLinks,
+  cleared,
+  kindOf,
+  freeKind,
+  ofKind,
+  freePage,
+};
 
 fn wide(x: u8) -> u32
     ensures { λ r. ⌜ (r ≡ x) × (r < 256) ⌝ }
@@ -66,15 +95,6 @@ pub fn store(records: &mut [u8], page: usize, r: Record)
     put(records, w + 3, r.later);
 }
 
-// The marks and the level of a page as one number.
-pub fn kind(records: &[u8], page: usize) -> u64
-    requires { ⌜ page < pagesIn (now records) ⌝ }
-    ensures { λ r. ⌜ r ≡ kindOf (recordAt (now (records .entry)) page) ⌝ }
-{
-    let w = page * 4;
-    (get(records, w) as u64) + 4294967296 * (get(records, w + 1) as u64)
-}
-
 // The marks of a page.
 pub fn marks(records: &[u8], page: usize) -> u32
     requires { ⌜ page < pagesIn (now records) ⌝ }
@@ -83,7 +103,7 @@ pub fn marks(records: &[u8], page: usize) -> u32
     get(records, page * 4)
 }
 
-// The level of a page.
+// The number of a page that has its level, for `level_of`.
 pub fn level(records: &[u8], page: usize) -> u32
     requires { ⌜ page < pagesIn (now records) ⌝ }
     ensures { λ r. ⌜ r ≡ recordAt (now (records .entry)) page .level ⌝ }
@@ -179,38 +199,123 @@ pub fn is_clear(records: &[u8], first: usize, count: usize) -> bool
     largest == 0
 }
 
-// The marks, taken apart and put together in this one place: 1 ADMITTED, 2 ALLOCATED, 4 ZEROED, 8 KERNEL.
+// ---- The marks and the number of the level, taken apart and put together in this one place: 1 ADMITTED, 2 ALLOCATED, 4 ZEROED, 8 KERNEL.
+
 pub fn is_admitted(marks: u32) -> bool
-    ensures { λ r. ⌜ r ≡ eqb (marks % 2) 1 ⌝ }
+    ensures { λ r. ⌜ r ≡ admittedIn marks ⌝ }
 {
     marks % 2 == 1
 }
 
 pub fn is_allocated(marks: u32) -> bool
-    ensures { λ r. ⌜ r ≡ eqb (marks / 2 % 2) 1 ⌝ }
+    ensures { λ r. ⌜ r ≡ allocatedIn marks ⌝ }
 {
     marks / 2 % 2 == 1
 }
 
 pub fn is_zeroed(marks: u32) -> bool
-    ensures { λ r. ⌜ r ≡ eqb (marks / 4 % 2) 1 ⌝ }
+    ensures { λ r. ⌜ r ≡ zeroedIn marks ⌝ }
 {
     marks / 4 % 2 == 1
 }
 
 pub fn is_kernel(marks: u32) -> bool
-    ensures { λ r. ⌜ r ≡ eqb (marks / 8 % 2) 1 ⌝ }
+    ensures { λ r. ⌜ r ≡ kernelIn marks ⌝ }
 {
     marks / 8 % 2 == 1
 }
 
+// No mark bits but those named.
+pub fn is_named(marks: u32) -> bool
+    ensures { λ r. ⌜ r ≡ ltb marks namedMarks ⌝ }
+{
+    marks < 16
+}
+
 // The marks of a frame that is not held.
 pub fn free_marks(zeroed: bool, kernel: bool) -> u32
-    ensures { λ r. ⌜ r ≡ 1 + 2 * 0 + 4 * bit zeroed + 8 * bit kernel ⌝ }
+    ensures { λ r. ⌜ r ≡ marksWith false zeroed kernel ⌝ }
 {
     if zeroed {
         if kernel { 13 } else { 5 }
     } else {
         if kernel { 9 } else { 1 }
     }
+}
+
+// The marks of a frame that is held.
+pub fn held_marks(zeroed: bool, kernel: bool) -> u32
+    ensures { λ r. ⌜ r ≡ marksWith true zeroed kernel ⌝ }
+{
+    set_allocated(free_marks(zeroed, kernel))
+}
+
+// The marks of an unheld frame, once it is held.
+pub fn set_allocated(marks: u32) -> u32
+    requires { ⌜ allocatedIn marks ≡ false ⌝ }
+    ensures { λ r. ⌜ r ≡ allocatedMarks marks ⌝ }
+{
+    marks + 2
+}
+
+pub fn level_of(word: u32) -> usize
+    ensures { λ r. ⌜ r ≡ levelIn word ⌝ }
+{
+    word as usize
+}
+
+// The number that a record of the level has.
+pub fn level_word(level: usize) -> u32
+    requires { ⌜ level < levels ⌝ }
+    ensures { λ r. ⌜ r ≡ levelWord level ⌝ }
+{
+    level as u32
+}
+
+// ---- The marks and the number of the level as one number, so that one load and one comparison tell an unheld frame.
+
+fn kind_at(records: &[u8], page: usize) -> u64
+    requires { ⌜ page < pagesIn (now records) ⌝ }
+    ensures { λ r. ⌜ r ≡ kindOf (recordAt (now (records .entry)) page) ⌝ }
+{
+    let w = page * 4;
+    (get(records, w) as u64) + 4294967296 * (get(records, w + 1) as u64)
+}
+
+// Whether a page is an unheld frame of one page, with ZEROED and KERNEL or without.
+pub fn is_free_page(records: &[u8], page: usize) -> bool
+    requires { ⌜ page < pagesIn (now records) ⌝ }
+    ensures { λ r. ⌜ r ≡ freePage (recordAt (now (records .entry)) page) ⌝ }
+{
+    let kind = kind_at(records, page);
+    if kind == 1 {
+        return true;
+    }
+    if kind == 5 {
+        return true;
+    }
+    if kind == 9 {
+        return true;
+    }
+    kind == 13
+}
+
+// That of the unheld frames of a level, with ZEROED or without, but for KERNEL.
+pub fn free_kind(level: usize, zeroed: bool) -> u64
+    requires { ⌜ level < levels ⌝ }
+    ensures { λ r. ⌜ (r ≡ freeKind level zeroed) × (r < 2 ^ 63) ⌝ }
+{
+    (free_marks(zeroed, false) as u64) + 4294967296 * (level_word(level) as u64)
+}
+
+// Whether a page has that number, with KERNEL or without.
+pub fn is_kind(records: &[u8], page: usize, kind: u64) -> bool
+    requires { ⌜ (page < pagesIn (now records)) × (kind < 2 ^ 63) ⌝ }
+    ensures { λ r. ⌜ r ≡ ofKind kind (recordAt (now (records .entry)) page) ⌝ }
+{
+    let found = kind_at(records, page);
+    if found == kind {
+        return true;
+    }
+    found == kind + 8
 }

@@ -5,19 +5,16 @@ use mathlib.Core.Option.{none, some}
 use mathlib.Core.Path.{_≡_, refl, sym, ap, _∙_}
 use native.Mathlib.Omega.{arith}
 use Rattle.definition.specs.Board.{Board}
-use Rattle.definition.specs.Basics.{bit}
+use Rattle.definition.specs.Basics.{everywhere, bit}
 use Rattle.definition.specs.Frame.{Found, Levels, allocate, changed, doAllocate, kept, setAllocated, withAllocated}
-use Rattle.definition.specs.World.{levelOf, marksOf}
+use Rattle.definition.specs.World.{allocatedIn, levelOf, marksOf}
 use Rattle.definition.specs.declared.Record.{Record}
 use Rattle.definition.specs.declared.Row.{Row}
 use Rattle.record.specs.Records.{withMarks}
+use Rattle.record.proofs.Decoding.{marks-with}
 use Rattle.region.specs.Rep.{Answers, Inside, Rep, Search, Whole, fromOf, holdAt}
 use Rattle.region.proofs.Laws.{then, page-in, none-in, marked-as}
 use Rattle.region.proofs.Tiling.{Ready, rep-kept, fine-do}
-
-bit-small : (b : Bool) → bit b ≤ 1
-bit-small true = omega arith
-bit-small false = omega arith
 
 pub granted-none : (a : Found) → a .page ≡ none → setAllocated a ≡ a
 granted-none a e = rw e refl
@@ -29,18 +26,18 @@ module _ (board : Board) where
   -- what it takes to hold the page that a search found, and what then is answered
   pub record Grants (f : ℕ → Record) (first : ℕ) (row : Row) (g : ℕ → Record) (m : ℕ) (r : Search) (a : Found) : Type 0 where
     pub inside : r .page < m
-    pub small : g (r .page) .marks < 16
+    pub free : allocatedIn (g (r .page) .marks) ≡ false
     pub answers : Answers board f first row (withMarks g (r .page) (g (r .page) .marks + 2)) m r a
 
 module _ {board : Board} where
   module _
       {f g : ℕ → Record} {n m first : ℕ} {row : Row} {r : Search} {s : Levels} {l : ℕ} (t o : Bool) (R : Rep board f n first row s) (T : Whole board s none (fromOf board row) first (row .pages))
-      (h : l < 3) (A : Answers board f first row g m r (doAllocate (3 - l) l s t o))
+      (h : l < 3) (A : Answers board f first row g m r (doAllocate everywhere (3 - l) l s t o))
     where
       abbrev a : Found
-      a = doAllocate (3 - l) l s t o
+      a = doAllocate everywhere (3 - l) l s t o
 
-      pub not-granted : r .found ≡ false → Answers board f first row g m r (allocate l s t o)
+      pub not-granted : r .found ≡ false → Answers board f first row g m r (allocate everywhere l s t o)
       unfolding allocate
       not-granted e = rw (granted-none a (sym (A .found) ∙ none-in r e)) A
 
@@ -60,7 +57,7 @@ module _ {board : Board} where
         marks : g p .marks ≡ 1 + 2 * 0 + 4 * bit (y .frame .zeroed) + 8 * bit (y .frame .kernel)
         marks = A .became .rep .marks p inside ∙ ap marksOf (y .here) ∙ rw (y .held-so) refl
 
-        answered : Answers board f first row (withMarks g p (g p .marks + 2)) m r (allocate l s t o)
+        answered : Answers board f first row (withMarks g p (g p .marks + 2)) m r (allocate everywhere l s t o)
         unfolding allocate
         answered =
             rw (granted-page a p paged)
@@ -74,10 +71,10 @@ module _ {board : Board} where
               found = page-in r e;
             })
 
-        pub grants : Grants board f first row g m r (allocate l s t o)
+        pub grants : Grants board f first row g m r (allocate everywhere l s t o)
         grants =
             record {
               inside = omega (arith, inside .high, A .became .rep .fits);
-              small = omega (arith, marks, bit-small (y .frame .zeroed), bit-small (y .frame .kernel));
+              free = rw marks (marks-with false (y .frame .zeroed) (y .frame .kernel) .1);
               answers = answered;
             }

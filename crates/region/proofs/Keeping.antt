@@ -9,7 +9,7 @@ use native.Mathlib.Decide.{ℕ-discrete}
 use native.Mathlib.Omega.{arith}
 use Rattle.definition.specs.Board.{Board}
 use Rattle.definition.proofs.Basics.{upd-all, upd-other, upd-same}
-use Rattle.definition.specs.Basics.{upd}
+use Rattle.definition.specs.Basics.{everywhere, upd}
 use Rattle.definition.specs.Frame.{Found, Frame, Levels, allocate, doAllocate, free, freed, kept, setAllocated}
 use Rattle.definition.specs.World.{levelOf, slotOf}
 use Rattle.definition.specs.declared.Record.{Record}
@@ -80,12 +80,12 @@ module _ {board : Board} where
           rw g (Wh .full q (λ e. m (let d : p ≡ q = cc in sym d)) i (rw g at h))
 
   pub whole-allocate : {s : Levels} {from first pages : ℕ} (l : ℕ) (t o : Bool) → Kept board s first pages → Whole board s none from first pages → l < 3
-      → Whole board (allocate l s t o .levels) none from first pages
+      → Whole board (allocate everywhere l s t o .levels) none from first pages
   unfolding allocate
   whole-allocate {s} {from} {first} {pages} l t o K Wh h = go (a .page) refl
     where
       a : Found
-      a = doAllocate (3 - l) l s t o
+      a = doAllocate everywhere (3 - l) l s t o
 
       F : Fine board from first pages l a
       F = fine-do (3 - l) l t o (record { kept = K; whole = Wh }) (omega arith)

@@ -11,7 +11,7 @@ use lib.ListN.{getD, set, length-set, List·getD-eq-default}
 use lib.Seq.{getD-set-same, getD-set-other, set-getD, set-set}
 use Rattle.definition.specs.Board.{Board}
 use Rattle.definition.proofs.Basics.{upd-all, upd-other, upd-same}
-use Rattle.definition.specs.Basics.{Popped, behind, popBack, upd}
+use Rattle.definition.specs.Basics.{everywhere, Popped, orThis, popLast, popBack, upd}
 use Rattle.definition.specs.Frame.{Found, Frame, Levels, free, levelAllocate, nothing, orElse, popFrom, popped, slot}
 use Rattle.definition.specs.World.{frameOf, levelOf, marksOf, noLinks, pagesOf, slotOf, walk}
 use Rattle.definition.specs.declared.Links.{Links}
@@ -146,16 +146,16 @@ module _ {board : Board} where
 -- ---- a pop
 
 popBack-snoc : (xs : List ℕ) (p : ℕ) → popBack (xs ++ (p ∷ [])) ≡ some (record { rest = xs; last = p })
-unfolding popBack
+unfolding popLast
 popBack-snoc [] p = refl
-popBack-snoc (x ∷ xs) p = ap (behind x) (popBack-snoc xs p)
+popBack-snoc (x ∷ xs) p = ap (orThis true x (xs ++ (p ∷ []))) (popBack-snoc xs p)
 
-pub popFrom-none : (s : Levels) (k : ℕ) → s .free k ≡ [] → popFrom s k ≡ nothing s
-unfolding popFrom popBack
+pub popFrom-none : (s : Levels) (k : ℕ) → s .free k ≡ [] → popFrom everywhere s k ≡ nothing s
+unfolding popFrom popLast
 popFrom-none s k e = rw e refl
 
 pub popFrom-some : (s : Levels) (k : ℕ) (xs : List ℕ) (p : ℕ) → s .free k ≡ xs ++ (p ∷ [])
-    → popFrom s k ≡ record { levels = record { frames = s .frames; free = upd (s .free) k xs }; page = some p }
+    → popFrom everywhere s k ≡ record { levels = record { frames = s .frames; free = upd (s .free) k xs }; page = some p }
 unfolding popFrom
 popFrom-some s k xs p e = ap (popped s k) (ap popBack e ∙ popBack-snoc xs p)
 
@@ -166,7 +166,7 @@ module _ {board : Board} where
   module _ {f : ℕ → Record} {n first : ℕ} {row : Row} {s : Levels} {k : ℕ} (R : Rep board f n first row s) (h : k < 6) where
     pub pop-nothing
         : {found : Bool} {page : ℕ} → found ≡ false → pagesOf f (getD (row .lists) k noLinks) ≡ []
-        → Answers board f first row f n (record { row = row; found = found; page = page }) (popFrom s k)
+        → Answers board f first row f n (record { row = row; found = found; page = page }) (popFrom everywhere s k)
     pop-nothing d e = rw (popFrom-none s k (sym (linked-pages (R .lists k h)) ∙ e)) (record { became = stays R; found = rw d refl })
 
     module _ {g : ℕ → Record} {p : ℕ} {r : Links} (T : Taken f (getD (row .lists) k noLinks) p g n r) where
@@ -185,7 +185,7 @@ module _ {board : Board} where
       left-alone : (q : ℕ) → Out q (s .free k) → q ≢ p → g q ≡ f q
       left-alone q o m = T .others q (subst (λ (xs : List ℕ). Out q xs) (sym (linked-pages (R .lists k h))) o)
 
-      pub pop-page : Answers board f first row g n (record { row = withList row k r; found = true; page = p }) (popFrom s k)
+      pub pop-page : Answers board f first row g n (record { row = withList row k r; found = true; page = p }) (popFrom everywhere s k)
       pop-page =
           rw (popFrom-some s k rest p ends)
           (record {
@@ -226,7 +226,7 @@ or-page a b p e = rw e refl
 pub or-none : (a b : Found) → a .page ≡ none → orElse a b ≡ b
 or-none a b e = rw e refl
 
-pub popFrom-nothing : (s : Levels) (k : ℕ) → popFrom s k .page ≡ none → popFrom s k ≡ nothing s
+pub popFrom-nothing : (s : Levels) (k : ℕ) → popFrom everywhere s k .page ≡ none → popFrom everywhere s k ≡ nothing s
 unfolding popFrom
 popFrom-nothing s k e = go (popBack (s .free k)) e
   where
@@ -237,30 +237,30 @@ popFrom-nothing s k e = go (popBack (s .free k)) e
 module _ {board : Board} where
   module _
       {f g : ℕ → Record} {first n : ℕ} {row : Row} {r : Search} (s : Levels) (l : ℕ)
-      (A : Answers board f first row g n r (popFrom s (l * 2)))
+      (A : Answers board f first row g n r (popFrom everywhere s (l * 2)))
     where
-      pub level-page : (t : Bool) → r .found ≡ true → Answers board f first row g n r (levelAllocate s l t false)
+      pub level-page : (t : Bool) → r .found ≡ true → Answers board f first row g n r (levelAllocate everywhere s l t false)
       unfolding levelAllocate
-      level-page t e = rw (or-page (popFrom s (l * 2)) _ (r .page) (sym (A .found) ∙ page-in r e)) A
+      level-page t e = rw (or-page (popFrom everywhere s (l * 2)) _ (r .page) (sym (A .found) ∙ page-in r e)) A
 
-      none-here : r .found ≡ false → popFrom s (l * 2) ≡ nothing s
+      none-here : r .found ≡ false → popFrom everywhere s (l * 2) ≡ nothing s
       none-here e = popFrom-nothing s (l * 2) (sym (A .found) ∙ none-in r e)
 
-      pub level-none : r .found ≡ false → Answers board f first row g n r (levelAllocate s l false false)
+      pub level-none : r .found ≡ false → Answers board f first row g n r (levelAllocate everywhere s l false false)
       unfolding levelAllocate
-      level-none e = rw (or-none (popFrom s (l * 2)) (nothing s) (sym (A .found) ∙ none-in r e)) (subst (λ (a : Found). Answers board f first row g n r a) (none-here e) A)
+      level-none e = rw (or-none (popFrom everywhere s (l * 2)) (nothing s) (sym (A .found) ∙ none-in r e)) (subst (λ (a : Found). Answers board f first row g n r a) (none-here e) A)
 
       pub after-none : r .found ≡ false → Becomes board f first row g n (r .row) s
       after-none e = subst (λ (a : Found). Becomes board f first row g n (r .row) (a .levels)) (none-here e) (A .became)
 
       pub level-zeroed
-          : {h : ℕ → Record} {m : ℕ} {r2 : Search} → r .found ≡ false → Answers board g first (r .row) h m r2 (popFrom (stateOf g (r .row)) (l * 2 + 1))
-          → Answers board f first row h m r2 (levelAllocate s l true false)
+          : {h : ℕ → Record} {m : ℕ} {r2 : Search} → r .found ≡ false → Answers board g first (r .row) h m r2 (popFrom everywhere (stateOf g (r .row)) (l * 2 + 1))
+          → Answers board f first row h m r2 (levelAllocate everywhere s l true false)
       unfolding levelAllocate
       level-zeroed {h} {m} {r2} e B =
           let a = after-none e in
-          let B1 : Answers board g first (r .row) h m r2 (popFrom s (l * 2 + 1)) = rw (rep-state (a .rep)) at B in
-          rw (or-none (popFrom s (l * 2)) (popFrom s (l * 2 + 1)) (sym (A .found) ∙ none-in r e)) (record { became = then a (B1 .became); found = B1 .found })
+          let B1 : Answers board g first (r .row) h m r2 (popFrom everywhere s (l * 2 + 1)) = rw (rep-state (a .rep)) at B in
+          rw (or-none (popFrom everywhere s (l * 2)) (popFrom everywhere s (l * 2 + 1)) (sym (A .found) ∙ none-in r e)) (record { became = then a (B1 .became); found = B1 .found })
 
 -- ---- a frame is listed
 

@@ -1,4 +1,5 @@
 -- The search over the levels: what the definition says of it, a step at a time, and what the calls that make it up reach, one after another.
+use Rattle.definition.specs.Basics.{everywhere}
 use Prim.Native.Nat.{ℕ, suc, _+_, _-_, _≤_, _<_}
 use mathlib.Core.Bool.{Bool, true, false}
 use mathlib.Core.List.{List}
@@ -29,11 +30,11 @@ or-nothing s a b h e = go (a .page) refl
     go none d = let c = or-none a b d in c ∙ h (sym (ap (λ (x : Found). x .page) c) ∙ e)
     go (some p) d = let c = ap (λ (x : Found). x .page) (or-page a b p d) in let z : _≡_ {A = ℕ} 0 1 = cc in absurd (omega arith)
 
-level-nothing : (s : Levels) (l : ℕ) (t o : Bool) → levelAllocate s l t o .page ≡ none → levelAllocate s l t o ≡ nothing s
+level-nothing : (s : Levels) (l : ℕ) (t o : Bool) → levelAllocate everywhere s l t o .page ≡ none → levelAllocate everywhere s l t o ≡ nothing s
 unfolding levelAllocate
 level-nothing s l t true e = popFrom-nothing s (slot l true) e
-level-nothing s l true false e = or-nothing s (popFrom s (slot l false)) (popFrom s (slot l true)) (popFrom-nothing s (slot l true)) e
-level-nothing s l false false e = or-nothing s (popFrom s (slot l false)) (nothing s) (λ d. refl) e
+level-nothing s l true false e = or-nothing s (popFrom everywhere s (slot l false)) (popFrom everywhere s (slot l true)) (popFrom-nothing s (slot l true)) e
+level-nothing s l false false e = or-nothing s (popFrom everywhere s (slot l false)) (nothing s) (λ d. refl) e
 
 -- what a search asks for: a level, and which of its lists
 pub record Wanted : Type 0 where
@@ -43,13 +44,13 @@ pub record Wanted : Type 0 where
 
 -- what the level has, what the next larger one has to say, and what both do
 abbrev pub here : Wanted → Levels → Found
-here w s = levelAllocate s (w .level) (w .tryZero) (w .onlyZero)
+here w s = levelAllocate everywhere s (w .level) (w .tryZero) (w .onlyZero)
 
 abbrev pub above : Wanted → Levels → Found
-above w s = doAllocate (3 - (w .level + 1)) (w .level + 1) s (w .tryZero) (w .onlyZero)
+above w s = doAllocate everywhere (3 - (w .level + 1)) (w .level + 1) s (w .tryZero) (w .onlyZero)
 
 abbrev pub answer : Wanted → Levels → Found
-answer w s = doAllocate (3 - w .level) (w .level) s (w .tryZero) (w .onlyZero)
+answer w s = doAllocate everywhere (3 - w .level) (w .level) s (w .tryZero) (w .onlyZero)
 
 module _ (w : Wanted) (s : Levels) where
   pub past : 3 ≤ w .level → answer w s ≡ nothing s
@@ -57,7 +58,7 @@ module _ (w : Wanted) (s : Levels) where
   past h = let e : 3 - w .level ≡ 0 = omega arith in rw e refl
 
   abbrev parts : Found → Found
-  parts a = thenSplit (w .level) (w .tryZero) (w .onlyZero) a
+  parts a = thenSplit everywhere (w .level) (w .tryZero) (w .onlyZero) a
 
   module _ (h : w .level < 3) where
     step : answer w s ≡ orElse (here w s) (parts (above w s))

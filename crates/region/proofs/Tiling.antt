@@ -10,7 +10,7 @@ use native.Mathlib.Nat.{mul-le-mul-right, suc-mul}
 use native.Mathlib.Omega.{arith}
 use Rattle.definition.specs.Board.{Board}
 use Rattle.definition.proofs.Basics.{upd-all, upd-other, upd-same}
-use Rattle.definition.specs.Basics.{upd}
+use Rattle.definition.specs.Basics.{everywhere, upd}
 use Rattle.definition.specs.Frame.{Found, Frame, Levels, children, doAllocate, free, isZeroed, kept, levelAllocate, nothing, orElse, popFrom, size, slot, split, thenSplit}
 use Rattle.definition.specs.World.{levelOf, slotOf}
 use Rattle.definition.specs.declared.Record.{Record}
@@ -424,10 +424,10 @@ module _ {board : Board} where
                   (λ j m. all-map (λ q a d. m (sym (a .slotted) ∙ ap (λ (x : ℕ). slotOf (s .frames x)) (sym d) ∙ last .slotted)) (G .kept .listed j));
             }
 
-      pub fine-pop : Fine board from first pages l (popFrom s k)
+      pub fine-pop : Fine board from first pages l (popFrom everywhere s k)
       fine-pop = go (ended (s .free k))
         where
-          go : Ended (s .free k) → Fine board from first pages l (popFrom s k)
+          go : Ended (s .free k) → Fine board from first pages l (popFrom everywhere s k)
           go (ended-none e) = rw (popFrom-none s k e) (fine-nothing l)
           go (ended-some ys p e) =
               rw (popFrom-some s k ys p e)
@@ -443,28 +443,28 @@ module _ {board : Board} where
       go none e = rw (or-none a b e) y
       go (some p) e = rw (or-page a b p e) x
 
-  pub fine-level : {s : Levels} {from first pages : ℕ} (l : ℕ) (t o : Bool) → Good board s none from first pages → l < 3 → Fine board from first pages l (levelAllocate s l t o)
+  pub fine-level : {s : Levels} {from first pages : ℕ} (l : ℕ) (t o : Bool) → Good board s none from first pages → l < 3 → Fine board from first pages l (levelAllocate everywhere s l t o)
   unfolding levelAllocate
   fine-level l t true G h = fine-pop G l true h
   fine-level l true false G h = fine-or _ _ (fine-pop G l false h) (fine-pop G l true h)
   fine-level l false false G h = fine-or _ _ (fine-pop G l false h) (fine-nothing G l)
 
-pub parted-page : (l : ℕ) (t o : Bool) (a : Found) (p : ℕ) → a .page ≡ some p → thenSplit l t o a ≡ levelAllocate (split (a .levels) p l) l t o
+pub parted-page : (l : ℕ) (t o : Bool) (a : Found) (p : ℕ) → a .page ≡ some p → thenSplit everywhere l t o a ≡ levelAllocate everywhere (split (a .levels) p l) l t o
 parted-page l t o a p e = rw e refl
 
-pub parted-none : (l : ℕ) (t o : Bool) (a : Found) → a .page ≡ none → thenSplit l t o a ≡ a
+pub parted-none : (l : ℕ) (t o : Bool) (a : Found) → a .page ≡ none → thenSplit everywhere l t o a ≡ a
 parted-none l t o a e = rw e refl
 
 module _ {board : Board} where
-  pub fine-do : {s : Levels} {from first pages : ℕ} (left l : ℕ) (t o : Bool) → Good board s none from first pages → l + left ≡ 3 → Fine board from first pages l (doAllocate left l s t o)
+  pub fine-do : {s : Levels} {from first pages : ℕ} (left l : ℕ) (t o : Bool) → Good board s none from first pages → l + left ≡ 3 → Fine board from first pages l (doAllocate everywhere left l s t o)
   unfolding doAllocate
   fine-do zero l t o G h = fine-nothing G l
   fine-do {s} {from} {first} {pages} (suc left) l t o G h =
-      fine-or _ _ (fine-level l t o G (omega arith)) (go (doAllocate left (l + 1) s t o .page) (fine-do left (l + 1) t o G (omega arith)) refl)
+      fine-or _ _ (fine-level l t o G (omega arith)) (go (doAllocate everywhere left (l + 1) s t o .page) (fine-do left (l + 1) t o G (omega arith)) refl)
     where
-      go : (u : Option ℕ) → Fine board from first pages (l + 1) (doAllocate left (l + 1) s t o) → doAllocate left (l + 1) s t o .page ≡ u
-          → Fine board from first pages l (thenSplit l t o (doAllocate left (l + 1) s t o))
+      go : (u : Option ℕ) → Fine board from first pages (l + 1) (doAllocate everywhere left (l + 1) s t o) → doAllocate everywhere left (l + 1) s t o .page ≡ u
+          → Fine board from first pages l (thenSplit everywhere l t o (doAllocate everywhere left (l + 1) s t o))
       go none F e =
-          rw (parted-none l t o (doAllocate left (l + 1) s t o) e)
+          rw (parted-none l t o (doAllocate everywhere left (l + 1) s t o) e)
           (record { good = F .good; ready = λ p d. let z : _≡_ {A = ℕ} 0 1 = cc in absurd (omega arith) })
-      go (some p) F e = rw (parted-page l t o (doAllocate left (l + 1) s t o) p e) (fine-level l t o (good-split l (subst (λ (x : Option ℕ). Good board (doAllocate left (l + 1) s t o .levels) x from first pages) e (F .good)) (F .ready p e)) (omega arith))
+      go (some p) F e = rw (parted-page l t o (doAllocate everywhere left (l + 1) s t o) p e) (fine-level l t o (good-split l (subst (λ (x : Option ℕ). Good board (doAllocate everywhere left (l + 1) s t o .levels) x from first pages) e (F .good)) (F .ready p e)) (omega arith))

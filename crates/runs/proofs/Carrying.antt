@@ -14,7 +14,7 @@ use Rattle.definition.specs.declared.MemoryRegion.{MemoryRegion}
 use Rattle.definition.specs.declared.Pass.{Pass}
 use Rattle.definition.specs.declared.Row.{Row}
 use Rattle.definition.specs.declared.Refusal.{Refusal}
-use Rattle.definition.specs.Board.{standard}
+use Rattle.definition.specs.Board.{Board, Fit, standard}
 use Rattle.definition.specs.Boot.{bootSheet}
 use Rattle.definition.specs.Calls.{Answer as AnswerOf, Call, Refused, Done, Text, Bytes}
 use Rattle.definition.specs.Refusal.{lowest, numberOf}
@@ -23,7 +23,7 @@ use Rattle.definition.specs.World.{World, noRow, usedRows}
 use Rattle.definition.proofs.Tests.{and-left, and-right, and-true}
 use Rattle.record.specs.Records.{withBytes}
 use Rattle.record.proofs.Bytes.{with-length}
-use Rattle.world.specs.Fit.{standard-fit}
+use Rattle.definition.proofs.Boards.{standard-fit}
 use Rattle.world.specs.Refusals.{numberIf}
 use Rattle.world.proofs.Calling.{none-met}
 use Rattle.world.proofs.Leaving.{sound-sane}
@@ -33,7 +33,7 @@ use Rattle.exam.specs.declared.Answer.{Answer}
 use Rattle.exam.specs.Promise.{told}
 use Rattle.theorems.specs.Demands.{Accepted, worldAfter}
 use Rattle.theorems.proofs.Bookkeeping.{demand-3}
-use Rattle.words.specs.Words.{Narrow, counterWords, highHalf, isKept, keptOf, passIn, queuedIn, rowsIn, usedIn}
+use Rattle.words.specs.Words.{Narrow, boardIn, counterWords, highHalf, isKept, keptOf, passIn, queuedIn, rowsIn, usedIn}
 use Rattle.words.proofs.Words.{
   counters-written,
   first-in,
@@ -72,7 +72,7 @@ use Rattle.service.specs.Serving.{
   written,
 }
 use Rattle.service.proofs.Serving.{lent-kept, lent-long, lent-room, lent-words}
-use Rattle.runs.specs.Runs.{Carries}
+use Rattle.runs.specs.Runs.{bootIn, Carries}
 use Rattle.runs.proofs.Narrow.{sound-narrow}
 
 -- ---- the words
@@ -87,12 +87,12 @@ record Keeps (w : World) (many used : ℕ) (ks : List ℕ) : Type 0 where
   pass : passIn ks ≡ w .pass
 
 -- a sound world has no rows behind those in use, which are as many as the words have
-module _ (w : World) (s : sound standard w ≡ true) {used : ℕ} (m : length (usedRows (w .rows)) ≡ used) (ws : List ℕ) (enough : 92 ≤ length ws) where
+module _ (board : Board) (w : World) (s : sound board w ≡ true) {used : ℕ} (m : length (usedRows (w .rows)) ≡ used) (ws : List ℕ) (enough : 92 ≤ length ws) where
   narrow : Narrow (w .rows)
-  narrow = sound-narrow w s
+  narrow = sound-narrow board w s
 
   unused : drop (length (usedRows (w .rows))) (w .rows) ≡ replicate (8 - length (usedRows (w .rows))) noRow
-  unused = sound-sane standard-fit w (sound-is standard w s) .unused
+  unused = sound-sane w (sound-is board w s) .unused
 
   call-keeps : isKept ws ≡ true → usedIn ws ≡ used → Keeps w (length ws) used (keptOver w ws)
   call-keeps k u =
@@ -164,20 +164,22 @@ carried over l x long room K =
 
 -- ---- a call
 
-pub served-world : (c : Call) (l : Lent) {used : ℕ} → isLent l ≡ true → let w = call standard (worldIn l) c .world in sound standard w ≡ true
-    → length (usedRows (w .rows)) ≡ used → usedIn (l .words) ≡ used → Bears (served c l .lent) w used
-unfolding served
-served-world c l e s m u =
-    let x = call standard (worldIn l) c in
-    let k = lent-kept l e in
-    rw e
-    (carried keptOver l x (lent-long l e) (lent-room l k)
-    (call-keeps (x .world) s m (l .words) (lent-words l k) (and-left (isKept (l .words)) (hasRoom l) k) u))
+module _ {board : Board} (c : Call) (l : Lent) (of : boardIn (l .words) ≡ board) (e : isLent l ≡ true) where
+  pub served-world
+      : {used : ℕ} → let w = call board (worldIn l) c .world in sound board w ≡ true
+      → length (usedRows (w .rows)) ≡ used → usedIn (l .words) ≡ used → Bears (served c l .lent) w used
+  unfolding served
+  served-world s m u =
+      let x = call board (worldIn l) c in
+      let k = lent-kept l e in
+      rw (e, of)
+      (carried keptOver l x (lent-long l e) (lent-room l k)
+      (call-keeps board (x .world) s m (l .words) (lent-words l k) (and-left (isKept (l .words)) (hasRoom l) k) u))
 
--- the number that it returns
-pub served-number : (c : Call) (l : Lent) → isLent l ≡ true → served c l .number ≡ told (call standard (worldIn l) c .answer) .number
-unfolding served
-served-number c l e = rw e refl
+  -- the number that it returns
+  pub served-number : served c l .number ≡ told (call board (worldIn l) c .answer) .number
+  unfolding served
+  served-number = rw (e, of) refl
 
 -- ---- a boot
 
@@ -187,20 +189,20 @@ told-accepted (Done a n) ok = refl
 told-accepted (Text t) ok = refl
 told-accepted (Bytes t) ok = refl
 
-boot-sound : (ms : List MemoryRegion) (w : World) → Accepted (bootCall standard ms w .answer) → sound standard (bootCall standard ms w .world) ≡ true
+boot-sound : {b : Board} → Fit b → (ms : List MemoryRegion) (w : World) → Accepted (bootCall b ms w .answer) → sound b (bootCall b ms w .world) ≡ true
 unfolding worldAfter
-boot-sound ms w ok = demand-3 standard-fit ms w ok [] .whole
+boot-sound fit ms w ok = demand-3 fit ms w ok [] .whole
 
-pub booted-world : (ms : List MemoryRegion) (l : Lent) {used : ℕ} → isRoomy l ≡ true → Accepted (bootCall standard ms (worldIn l) .answer)
-    → length (usedRows (bootCall standard ms (worldIn l) .world .rows)) ≡ used
-    → Bears (booted ms l .lent) (bootCall standard ms (worldIn l) .world) used
+pub booted-world : (ms : List MemoryRegion) (l : Lent) {used : ℕ} → isRoomy l ≡ true → Accepted (bootIn ms l .answer)
+    → length (usedRows (bootIn ms l .world .rows)) ≡ used
+    → Bears (booted ms l .lent) (bootIn ms l .world) used
 unfolding booted
 booted-world ms l e ok m =
-    let x = bootCall standard ms (worldIn l) in
+    let x = bootIn ms l in
     let long = leb-true 101 (length (l .words)) (and-left _ _ e) in
     let room = leb-true 2 (length (l .answer)) (and-right (leb 101 (length (l .words))) (hasRoom l) e) in
     rw (e, eq-eqb (told (x .answer) .number) 0 (told-accepted (x .answer) ok))
-    (carried bootOver l x long room (boot-keeps (x .world) (boot-sound ms (worldIn l) ok) m (l .words) (omega (arith, long))))
+    (carried bootOver l x long room (boot-keeps standard (x .world) (boot-sound standard-fit ms (worldIn l) ok) m (l .words) (omega (arith, long))))
 
 -- the two premises, by the number that the boot returns
 never-short : (n : ℕ) → shortNumber n ≡ 0 → ⊥
@@ -217,12 +219,12 @@ boot-number : (l : Lent) (x : Left) (t : Bool) → cond t (written bootStateOver
 boot-number l x true = refl
 boot-number l x false = refl
 
-pub boot-returned : (ms : List MemoryRegion) (l : Lent) → booted ms l .number ≡ 0 → (isRoomy l ≡ true) × Accepted (bootCall standard ms (worldIn l) .answer)
+pub boot-returned : (ms : List MemoryRegion) (l : Lent) → booted ms l .number ≡ 0 → (isRoomy l ≡ true) × Accepted (bootIn ms l .answer)
 unfolding booted
 boot-returned ms l z = go (isRoomy l) refl z
   where
     x : Left
-    x = bootCall standard ms (worldIn l)
+    x = bootIn ms l
 
     go : (t : Bool) → isRoomy l ≡ t
         → cond t (bootWritten l x) (refusedAs l (shortNumber (numberIf (lowest (bootSheet standard ms (length (l .records)) (length (l .memory))))))) .number ≡ 0

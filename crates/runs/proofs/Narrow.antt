@@ -12,7 +12,7 @@ use Rattle.definition.specs.declared.Links.{Links}
 use Rattle.definition.specs.declared.Record.{Record}
 use Rattle.definition.specs.declared.Row.{Row}
 use Rattle.definition.specs.Basics.{all}
-use Rattle.definition.specs.Board.{standard}
+use Rattle.definition.specs.Board.{Board}
 use Rattle.definition.specs.Torn.{isNoLinks, isNoRow, sixLists, sound}
 use Rattle.definition.specs.World.{World, noLinks, noRow, usedRows}
 use Rattle.definition.proofs.Tests.{and-left, and-right}
@@ -22,7 +22,6 @@ use Rattle.list.specs.Linked.Seg.{seg-none, seg-more}
 use Rattle.list.proofs.Count.{holes}
 use Rattle.list.proofs.Laws.{all-map, seg-last}
 use Rattle.region.specs.Rep.{SoundRow, managed}
-use Rattle.world.specs.Fit.{standard-fit}
 use Rattle.world.specs.Stands.{Each, GoodRows}
 use Rattle.world.specs.Stands.Each.{each-none, each-more}
 use Rattle.world.specs.Stands.GoodRows.{good-more}
@@ -49,13 +48,14 @@ module _ {f : ℕ → Record} (m : ℕ) where
         count = omega (arith, k .counted, holes m xs (k .distinct) a);
       }
 
-used-narrow : {f : ℕ → Record} {n base : ℕ} {row : Row} → SoundRow standard f n base row → NarrowRow row
-used-narrow {base = base} {row = row} R =
-    let m = base + managed standard (row .pages) in
-    record {
-      six = R .six;
-      narrow = λ k h. linked-narrow m (R .small) (R .lists k h) (all-map (λ q i. i .inside .high) (R .listed k));
-    }
+module _ {board : Board} where
+  used-narrow : {f : ℕ → Record} {n base : ℕ} {row : Row} → SoundRow board f n base row → NarrowRow row
+  used-narrow {base = base} {row = row} R =
+      let m = base + managed board (row .pages) in
+      record {
+        six = R .six;
+        narrow = λ k h. linked-narrow m (R .small) (R .lists k h) (all-map (λ q i. i .inside .high) (R .listed k));
+      }
 
 -- ---- an unused row
 
@@ -87,23 +87,25 @@ blanks-narrow (row ∷ rows) s e =
 
 -- ---- all rows
 
-module _ {f : ℕ → Record} {n : ℕ} where
-  rows-narrow : {base : ℕ} (rows : List Row) → all sixLists rows ≡ true → all isNoRow (drop (length (usedRows rows)) rows) ≡ true
-      → GoodRows standard f n base (usedRows rows) → Each NarrowRow rows
-  unfolding all usedRows
-  rows-narrow [] s e G = each-none
-  rows-narrow {base} (row ∷ rows) s e G = go (eqb (row .pages) 0) e G (λ h rest. rows-narrow rows (and-right (sixLists row) _ s) h rest)
-    where
-      go : (t : Bool) → all isNoRow (drop (length (cond t [] (row ∷ usedRows rows))) (row ∷ rows)) ≡ true
-          → GoodRows standard f n base (cond t [] (row ∷ usedRows rows))
-          → (all isNoRow (drop (length (usedRows rows)) rows) ≡ true → GoodRows standard f n (base + managed standard (row .pages)) (usedRows rows) → Each NarrowRow rows)
-          → Each NarrowRow (row ∷ rows)
-      go true h G more = blanks-narrow (row ∷ rows) s h
-      go false h (good-more g rest) more = each-more (used-narrow (g .sound)) (more h rest)
+module _ {board : Board} where
+  module _ {f : ℕ → Record} {n : ℕ} where
+    rows-narrow : {base : ℕ} (rows : List Row) → all sixLists rows ≡ true → all isNoRow (drop (length (usedRows rows)) rows) ≡ true
+        → GoodRows board f n base (usedRows rows) → Each NarrowRow rows
+    unfolding all usedRows
+    rows-narrow [] s e G = each-none
+    rows-narrow {base} (row ∷ rows) s e G = go (eqb (row .pages) 0) e G (λ h rest. rows-narrow rows (and-right (sixLists row) _ s) h rest)
+      where
+        go : (t : Bool) → all isNoRow (drop (length (cond t [] (row ∷ usedRows rows))) (row ∷ rows)) ≡ true
+            → GoodRows board f n base (cond t [] (row ∷ usedRows rows))
+            → (all isNoRow (drop (length (usedRows rows)) rows) ≡ true → GoodRows board f n (base + managed board (row .pages)) (usedRows rows) → Each NarrowRow rows)
+            → Each NarrowRow (row ∷ rows)
+        go true h G more = blanks-narrow (row ∷ rows) s h
+        go false h (good-more g rest) more = each-more (used-narrow (g .sound)) (more h rest)
 
-pub sound-narrow : (w : World) → sound standard w ≡ true → Narrow (w .rows)
-sound-narrow w e =
-    let S = sound-is standard w e in
-    let b = as-boot (w .rows) (S .rows) in
-    let each = rows-narrow (w .rows) (b .six) (b .unused) (sound-rows standard-fit w S) in
-    record { eight = b .eight; narrow = λ i h. each-at noRow each i (omega (arith, b .eight)) }
+module _ (board : Board) where
+  pub sound-narrow : (w : World) → sound board w ≡ true → Narrow (w .rows)
+  sound-narrow w e =
+      let S = sound-is board w e in
+      let b = as-boot (w .rows) (S .rows) in
+      let each = rows-narrow (w .rows) (b .six) (b .unused) (sound-rows w S) in
+      record { eight = b .eight; narrow = λ i h. each-at noRow each i (omega (arith, b .eight)) }

@@ -9,9 +9,10 @@ use mathlib.Core.Option.{some}
 use mathlib.Core.Path.{_≡_}
 use Rattle.definition.specs.declared.MemoryRegion.{MemoryRegion}
 use Rattle.definition.specs.Board.{standard}
+use Rattle.definition.specs.Boot.{keptRegions}
 use Rattle.definition.specs.Calls.{Call, answerNumber}
 use Rattle.definition.specs.Rust as Rust
-use Rattle.definition.specs.Torn.{call, sound}
+use Rattle.definition.specs.Torn.{call, sound, Left, bootCall}
 use Rattle.definition.specs.World.{World, decode}
 use Rattle.bookkeeping.specs.Claim.{Bookkeeping}
 use Rattle.theorems.specs.Demands.{Along, afterAll, answersAll, bookAll, bootStore}
@@ -28,6 +29,10 @@ lentAfter l (c ∷ cs) = lentAfter (served c l .lent) cs
 unfoldable pub numbersAfter : Lent → List Call → List ℕ
 numbersAfter l [] = []
 numbersAfter l (c ∷ cs) = served c l .number ∷ numbersAfter (served c l .lent) cs
+
+-- a boot of the world that the loans hold, on the board that the library boots
+abbrev pub bootIn : List MemoryRegion → Lent → Left
+bootIn ms l = bootCall standard ms (worldIn l)
 
 -- the world that the loans hold after a boot, and after a list of calls behind it
 abbrev pub heldBooted : List MemoryRegion → Lent → World
@@ -61,7 +66,8 @@ pub record Follows (ms : List MemoryRegion) (l : Lent) (calls : List Call) : Typ
 
 -- demand 3, read out of the words; the book is that of the calls' answers
 pub record Demand3Words (ms : List MemoryRegion) (l : Lent) (calls : List Call) : Type 0 where
-  pub afterwards : Bookkeeping standard ms (decode standard (heldAfter ms l calls)) (bookAll standard ms (worldIn l) calls)
+  pub regions : bookAll standard ms (worldIn l) calls .regions ≡ keptRegions standard ms
+  pub afterwards : Bookkeeping standard (decode standard (heldAfter ms l calls)) (bookAll standard ms (worldIn l) calls)
   pub whole : sound standard (heldAfter ms l calls) ≡ true
   pub along : Along standard (heldBooted ms l) calls
 

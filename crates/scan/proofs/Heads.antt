@@ -13,7 +13,7 @@ use lib.Dec.{leb, ltb, eqb}
 use Rattle.definition.specs.declared.Record.{Record}
 use Rattle.definition.specs.Basics.{all, range}
 use Rattle.definition.specs.Frame.{size, levels}
-use Rattle.definition.specs.World.{isAdmitted}
+use Rattle.definition.specs.World.{admittedBit, namedMarks, levelIn, isAdmitted}
 use Rattle.definition.specs.Torn.{Records, isBlank, pagesOfRecord, headsFrom}
 use Rattle.definition.proofs.Tests.{and-left, and-right, range-in}
 use Rattle.level.proofs.Sizes.{size-positive}
@@ -24,49 +24,49 @@ use Rattle.scan.proofs.Members.{all-in}
 -- ---- one head
 
 pub record Head (f : Records) (from base past h : ℕ) : Type 0 where
-  pub admitted : f h .marks % 2 ≡ 1
-  pub known : f h .marks < 16
-  pub level : f h .level < 3
-  pub aligned : (from + (h - base)) % size (f h .level) ≡ 0
-  pub fits : h + size (f h .level) ≤ past
-  pub inside : (q : ℕ) → h < q → q < h + size (f h .level) → isBlank (f q) ≡ true
+  pub admitted : admittedBit (f h .marks) ≡ 1
+  pub known : f h .marks < namedMarks
+  pub level : levelIn (f h .level) < levels
+  pub aligned : (from + (h - base)) % size (levelIn (f h .level)) ≡ 0
+  pub fits : h + size (levelIn (f h .level)) ≤ past
+  pub inside : (q : ℕ) → h < q → q < h + size (levelIn (f h .level)) → isBlank (f q) ≡ true
 
 module _ (f : Records) (from base past h : ℕ) where
   pub head-facts : headAt f from base past h ≡ true → Head f from base past h
   unfolding headAt
   head-facts t =
       let a = and-right (isAdmitted (f h)) _ t in
-      let b = and-right (ltb (f h .marks) 16) _ a in
-      let c = and-right (ltb (f h .level) levels) _ b in
-      let d = and-right (eqb ((from + (h - base)) % size (f h .level)) 0) _ c in
-      let e = and-right (leb (h + size (f h .level)) past) _ d in
+      let b = and-right (ltb (f h .marks) namedMarks) _ a in
+      let c = and-right (ltb (levelIn (f h .level)) levels) _ b in
+      let d = and-right (eqb ((from + (h - base)) % size (levelIn (f h .level))) 0) _ c in
+      let e = and-right (leb (h + size (levelIn (f h .level))) past) _ d in
       record {
-        admitted = eqb-true (f h .marks % 2) 1 (and-left _ _ t);
-        known = ltb-true (f h .marks) 16 (and-left _ _ a);
-        level = ltb-true (f h .level) levels (and-left _ _ b);
-        aligned = eqb-true ((from + (h - base)) % size (f h .level)) 0 (and-left _ _ c);
-        fits = leb-true (h + size (f h .level)) past (and-left _ _ d);
-        inside = λ q l k. range-in (λ q. isBlank (f q)) (h + 1) (size (f h .level) - 1) e q (omega arith) (omega arith);
+        admitted = eqb-true (admittedBit (f h .marks)) 1 (and-left _ _ t);
+        known = ltb-true (f h .marks) namedMarks (and-left _ _ a);
+        level = ltb-true (levelIn (f h .level)) levels (and-left _ _ b);
+        aligned = eqb-true ((from + (h - base)) % size (levelIn (f h .level))) 0 (and-left _ _ c);
+        fits = leb-true (h + size (levelIn (f h .level))) past (and-left _ _ d);
+        inside = λ q l k. range-in (λ q. isBlank (f q)) (h + 1) (size (levelIn (f h .level)) - 1) e q (omega arith) (omega arith);
       }
 
   -- once all else is tested, the zeros inside are what is left
-  pub head-rest : f h .marks % 2 ≡ 1 → f h .marks < 16 → f h .level < 3 → (from + (h - base)) % size (f h .level) ≡ 0 → h + size (f h .level) ≤ past
-      → headAt f from base past h ≡ all (λ q. isBlank (f q)) (range (h + 1) (size (f h .level) - 1))
+  pub head-rest : admittedBit (f h .marks) ≡ 1 → f h .marks < namedMarks → levelIn (f h .level) < levels → (from + (h - base)) % size (levelIn (f h .level)) ≡ 0 → h + size (levelIn (f h .level)) ≤ past
+      → headAt f from base past h ≡ all (λ q. isBlank (f q)) (range (h + 1) (size (levelIn (f h .level)) - 1))
   unfolding headAt
   head-rest a k l g e =
       rw (
-        eq-eqb (f h .marks % 2) 1 a,
-        lt-ltb (f h .marks) 16 k,
-        lt-ltb (f h .level) levels l,
-        eq-eqb ((from + (h - base)) % size (f h .level)) 0 g,
-        le-leb (h + size (f h .level)) past e,
+        eq-eqb (admittedBit (f h .marks)) 1 a,
+        lt-ltb (f h .marks) namedMarks k,
+        lt-ltb (levelIn (f h .level)) levels l,
+        eq-eqb ((from + (h - base)) % size (levelIn (f h .level))) 0 g,
+        le-leb (h + size (levelIn (f h .level))) past e,
       )
 
   -- a frame of one page has nothing inside
-  pub head-small : f h .marks % 2 ≡ 1 → f h .marks < 16 → f h .level ≡ 0 → h < past → headAt f from base past h ≡ true
+  pub head-small : admittedBit (f h .marks) ≡ 1 → f h .marks < namedMarks → levelIn (f h .level) ≡ 0 → h < past → headAt f from base past h ≡ true
   unfolding all range
   head-small a k z l =
-      let one : size (f h .level) ≡ 1 = ap size z in
+      let one : size (levelIn (f h .level)) ≡ 1 = ap size z in
       head-rest a k (omega arith) (rw one (mod-one (from + (h - base)))) (omega arith) ∙ rw one
 
   -- ---- its pages
@@ -75,7 +75,7 @@ module _ (f : Records) (from base past h : ℕ) where
   unfolding headPages
   pages-none e = rw (← e)
 
-  pub pages-some : headAt f from base past h ≡ true → size (f h .level) ≡ headPages f from base past h
+  pub pages-some : headAt f from base past h ≡ true → size (levelIn (f h .level)) ≡ headPages f from base past h
   unfolding headPages
   pages-some e = rw e
 
@@ -84,7 +84,7 @@ module _ (f : Records) (from base past h : ℕ) where
   none-pages e = go (headAt f from base past h) refl
     where
       go : (t : Bool) → headAt f from base past h ≡ t → headAt f from base past h ≡ false
-      go true d = absurd (omega (arith, size-positive (f h .level), pages-some d))
+      go true d = absurd (omega (arith, size-positive (levelIn (f h .level)), pages-some d))
       go false d = d
 
   pub some-pages : (headPages f from base past h ≡ 0 → ⊥) → headAt f from base past h ≡ true
@@ -94,14 +94,14 @@ module _ (f : Records) (from base past h : ℕ) where
       go true d = d
       go false d = absurd (n (sym (pages-none (sym d))))
 
-pub pages-small : (r : Record) → r .level < 3 → pagesOfRecord r ≡ size (r .level)
-pages-small r l = rw (lt-ltb (r .level) levels l)
+pub pages-small : (r : Record) → levelIn (r .level) < levels → pagesOfRecord r ≡ size (levelIn (r .level))
+pages-small r l = rw (lt-ltb (levelIn (r .level)) levels l)
 
 pages-positive : (r : Record) → 0 < pagesOfRecord r
-pages-positive r = go (ltb (r .level) levels)
+pages-positive r = go (ltb (levelIn (r .level)) levels)
   where
-    go : (t : Bool) → 0 < cond t (size (r .level)) 1
-    go true = size-positive (r .level)
+    go : (t : Bool) → 0 < cond t (size (levelIn (r .level))) 1
+    go true = size-positive (levelIn (r .level))
     go false = omega arith
 
 -- ---- stepping
@@ -197,7 +197,7 @@ module _ (f : Records) (from base past : ℕ) where
       go (no n) (no k) more = ⊎-elim (λ m. inl (inr m)) (λ b. inr b) (more (omega arith))
 
   pub admitted-head : (at x : ℕ) (hs : List ℕ) → Steps f past at hs → all (headAt f from base past) hs ≡ true
-      → at ≤ x → x < past → f x .marks % 2 ≡ 1 → Mem x hs
+      → at ≤ x → x < past → admittedBit (f x .marks) ≡ 1 → Mem x hs
   admitted-head at x hs s t l u a =
       ⊎-elim (λ m. m) (λ b. absurd (omega (arith, blank-marks (f x) b))) (head-or-blank at x hs s t l u)
 

@@ -1,6 +1,6 @@
 -- Where a region is tiled and its lists walk, every unheld head is on its list just where each list has as many nodes as there are
 -- heads that belong on it: the nodes are such heads, and no two are one. More than that no list has.
-use Prim.Native.Nat.{ℕ, _-_, _/_, _%_, _≤_, _<_}
+use Prim.Native.Nat.{ℕ, _-_, _≤_, _<_}
 use mathlib.Core.Bool.{Bool, true, false, not, _&&_, _||_}
 use mathlib.Core.List.{List, [], reverseAux}
 use mathlib.Core.Path.{_≡_, refl, subst}
@@ -10,7 +10,7 @@ use lib.Dec.{eqb}
 use lib.ListN.{length, getD, length-reverseAux}
 use Rattle.definition.specs.declared.Links.{Links}
 use Rattle.definition.specs.Basics.{all, range, member}
-use Rattle.definition.specs.World.{noLinks, walk, pagesOf}
+use Rattle.definition.specs.World.{allocatedBit, noLinks, walk, pagesOf}
 use Rattle.definition.specs.Torn.{Records, isHeldRecord, classOf}
 use Rattle.definition.proofs.Tests.{and-left, and-right, range-in}
 use Rattle.scan.specs.Sheet.{headAt, headsOf, tiledAt, listAt, listedAt, walksAt}
@@ -52,7 +52,7 @@ module _ (f : Records) (from base past : ℕ) (tiled : tiledAt f from base past 
     back-distinct = walks-distinct f base past k (l .count) (l .front) (l .back) w
 
     met-belongs : (x : ℕ) → Met f base past k x → belongs f k x ≡ true
-    met-belongs x m = rw (ne-eqb (f x .marks / 2 % 2) 1 (omega arith), eq-eqb (classOf (f x)) k (m .class))
+    met-belongs x m = rw (ne-eqb (allocatedBit (f x .marks)) 1 (omega arith), eq-eqb (classOf (f x)) k (m .class))
 
     back-kept : (x : ℕ) → Mem x back → Mem x (keep (belongs f k) hs)
     unfolding back

@@ -1,5 +1,5 @@
 -- The nodes of a list: what the test of one says, and that a walk that ends well met distinct unheld frames of its list.
-use Prim.Native.Nat.{ℕ, zero, suc, _+_, _-_, _*_, _/_, _%_, _≤_, _<_}
+use Prim.Native.Nat.{ℕ, zero, suc, _-_, _≤_, _<_}
 use mathlib.Core.Bool.{true, not, _&&_, and-assoc}
 use mathlib.Core.List.{List, [], _∷_, reverseAux}
 use mathlib.Core.Logic.{_⊎_, inl, inr, ⊎-elim}
@@ -8,7 +8,7 @@ use native.Mathlib.Omega.{arith}
 use borrow.Author.Tests.{eq-eqb, ne-eqb, eqb-true, eqb-false, not-true, ltb-true, leb-true, lt-ltb, le-leb}
 use lib.Dec.{leb, ltb, eqb}
 use lib.ListN.{length}
-use Rattle.definition.specs.World.{isAdmitted, walk}
+use Rattle.definition.specs.World.{admittedBit, allocatedBit, isAdmitted, walk}
 use Rattle.definition.specs.Torn.{Records, isHeldRecord, classOf}
 use Rattle.definition.proofs.Tests.{and-left, and-right}
 use Rattle.scan.specs.Sheet.{onAt, nodeAt, walksAt}
@@ -17,9 +17,9 @@ use Rattle.scan.proofs.Pigeon.{Mem, Distinct, BackLinked, headNumber, d
 pub record On (f : Records) (base past k at : ℕ) : Type 0 where
   pub low : base < at
   pub high : at ≤ past
-  pub admitted : f (at - 1) .marks % 2 ≡ 1
-  pub unheld : f (at - 1) .marks / 2 % 2 ≡ 0
-  pub class : f (at - 1) .level * 2 + f (at - 1) .marks / 4 % 2 ≡ k
+  pub admitted : admittedBit (f (at - 1) .marks) ≡ 1
+  pub unheld : allocatedBit (f (at - 1) .marks) ≡ 0
+  pub class : classOf (f (at - 1)) ≡ k
 
 module _ (f : Records) (base past k : ℕ) where
   pub on-facts : (at : ℕ) → onAt f base past k at ≡ true → On f base past k at
@@ -31,9 +31,9 @@ module _ (f : Records) (base past k : ℕ) where
       record {
         low = ltb-true base at (and-left _ _ t);
         high = leb-true at past (and-left _ _ a);
-        admitted = eqb-true (f (at - 1) .marks % 2) 1 (and-left _ _ b);
+        admitted = eqb-true (admittedBit (f (at - 1) .marks)) 1 (and-left _ _ b);
         unheld =
-            let h = eqb-false (f (at - 1) .marks / 2 % 2) 1 (not-true (isHeldRecord (f (at - 1))) (and-left _ _ c)) in
+            let h = eqb-false (allocatedBit (f (at - 1) .marks)) 1 (not-true (isHeldRecord (f (at - 1))) (and-left _ _ c)) in
             omega arith;
         class = eqb-true (classOf (f (at - 1))) k (and-right (not (isHeldRecord (f (at - 1)))) _ c);
       }
@@ -44,8 +44,8 @@ module _ (f : Records) (base past k : ℕ) where
       rw (
         lt-ltb base at (n .low),
         le-leb at past (n .high),
-        eq-eqb (f (at - 1) .marks % 2) 1 (n .admitted),
-        ne-eqb (f (at - 1) .marks / 2 % 2) 1 (omega arith),
+        eq-eqb (admittedBit (f (at - 1) .marks)) 1 (n .admitted),
+        ne-eqb (allocatedBit (f (at - 1) .marks)) 1 (omega arith),
         eq-eqb (classOf (f (at - 1))) k (n .class),
       )
 
@@ -64,9 +64,9 @@ module _ (f : Records) (base past k : ℕ) where
   pub record Met (x : ℕ) : Type 0 where
     pub low : base ≤ x
     pub high : x < past
-    pub admitted : f x .marks % 2 ≡ 1
-    pub unheld : f x .marks / 2 % 2 ≡ 0
-    pub class : f x .level * 2 + f x .marks / 4 % 2 ≡ k
+    pub admitted : admittedBit (f x .marks) ≡ 1
+    pub unheld : allocatedBit (f x .marks) ≡ 0
+    pub class : classOf (f x) ≡ k
 
   met : (at : ℕ) → On f base past k at → Met (at - 1)
   met at n = record { low = omega arith; high = omega arith; admitted = n .admitted; unheld = n .unheld; class = n .class }

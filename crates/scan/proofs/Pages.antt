@@ -1,6 +1,6 @@
 -- The pages of a tiled region: each is of one head, which is held, with KERNEL or without, or belongs on one of the six lists. So the pages held and the
 -- pages of the heads that belong on lists are all.
-use Prim.Native.Nat.{ℕ, zero, suc, _+_, _-_, _*_, _/_, _%_, _^_, _≤_, _<_}
+use Prim.Native.Nat.{ℕ, zero, suc, _+_, _-_, _*_, _/_, _^_, _≤_, _<_}
 use mathlib.Core.Bool.{Bool, true, false, not, cond, _&&_}
 use mathlib.Core.List.{List, [], _∷_}
 use mathlib.Core.Path.{_≡_, refl, sym, ap, _∙_}
@@ -12,7 +12,7 @@ use Rattle.definition.specs.declared.Record.{Record}
 use Rattle.definition.specs.declared.Links.{Links}
 use Rattle.definition.specs.Basics.{all, sum, range}
 use Rattle.definition.specs.Frame.{size, levels}
-use Rattle.definition.specs.World.{noLinks}
+use Rattle.definition.specs.World.{kernelIn, levelIn, noLinks}
 use Rattle.definition.specs.Torn.{Placed, Records, pagesOfRecord, isHeldRecord, classOf, heldAs, listedPages}
 use Rattle.definition.proofs.Tests.{and-left, and-right}
 use Rattle.level.proofs.Sizes.{size-most}
@@ -71,10 +71,10 @@ unheld-pages (suc (suc (suc (suc zero)))) h = refl
 unheld-pages (suc (suc (suc (suc (suc zero))))) h = refl
 unheld-pages (suc (suc (suc (suc (suc (suc c)))))) h = absurd (omega arith)
 
-head-pages : (r : Record) → r .level < 3 → pagesOfSix (λ k. unheldAs k r) + heldAs false r + heldAs true r ≡ pagesOfRecord r
-head-pages r l = go (isHeldRecord r) refl (eqb (r .marks / 8 % 2) 1) refl
+head-pages : (r : Record) → levelIn (r .level) < levels → pagesOfSix (λ k. unheldAs k r) + heldAs false r + heldAs true r ≡ pagesOfRecord r
+head-pages r l = go (isHeldRecord r) refl (kernelIn (r .marks)) refl
   where
-    go : (t : Bool) → isHeldRecord r ≡ t → (u : Bool) → eqb (r .marks / 8 % 2) 1 ≡ u
+    go : (t : Bool) → isHeldRecord r ≡ t → (u : Bool) → kernelIn (r .marks) ≡ u
         → pagesOfSix (λ k. unheldAs k r) + heldAs false r + heldAs true r ≡ pagesOfRecord r
     go true e true d =
         let n : pagesOfSix (λ k. unheldAs k r) ≡ 0 = rw e in
@@ -83,7 +83,7 @@ head-pages r l = go (isHeldRecord r) refl (eqb (r .marks / 8 % 2) 1) refl
         let n : pagesOfSix (λ k. unheldAs k r) ≡ 0 = rw e in
         omega (arith, held-page r (r .marks) refl e d)
     go false e u d =
-        let c : classOf r / 2 ≡ r .level = omega arith in
+        let c : classOf r / 2 ≡ levelIn (r .level) = omega arith in
         let n : pagesOfSix (λ k. unheldAs k r) ≡ size (classOf r / 2) = rw e (unheld-pages (classOf r) (omega arith)) in
         let s : size (classOf r / 2) ≡ pagesOfRecord r = ap size c ∙ sym (pages-small r l) in
         omega (arith, held-free r (r .marks) refl e false, held-free r (r .marks) refl e true)
@@ -116,7 +116,7 @@ module _ (f : Records) (from base past : ℕ) where
   heads-pages at [] l s t = omega arith
   heads-pages at (h ∷ hs) l s t =
       let d = head-facts f from base past h (and-left _ _ t) in
-      let e : pagesOfRecord (f h) ≡ size (f h .level) = pages-small (f h) (d .level) in
+      let e : pagesOfRecord (f h) ≡ size (levelIn (f h .level)) = pages-small (f h) (d .level) in
       let q : pagesOfRecord (f at) ≡ pagesOfRecord (f h) = ap (λ (x : ℕ). pagesOfRecord (f x)) (sym (s .0)) in
       let more = heads-pages (at + pagesOfRecord (f at)) hs (omega (arith, s .0, d .fits)) (s .2) (and-right (headAt f from base past h) _ t) in
       omega (arith, s .0, d .fits, head-pages (f h) (d .level), more)

@@ -1,6 +1,6 @@
 -- The scan's invariant and its turns: what is left from a page on decides as the whole does, and the pages held so far with those of what is left are the
 -- whole's.
-use Prim.Native.Nat.{ℕ, zero, suc, _+_, _-_, _/_, _%_, _≤_, _<_}
+use Prim.Native.Nat.{ℕ, zero, suc, _+_, _-_, _≤_, _<_}
 use mathlib.Core.Bool.{Bool, true, false, _&&_, false≢true}
 use mathlib.Core.List.{List}
 use mathlib.Core.Path.{_≡_, refl, sym, ap, _∙_}
@@ -8,14 +8,16 @@ use native.Mathlib.Omega.{arith}
 use borrow.Author.Tests.{ne-eqb}
 use Rattle.definition.specs.Basics.{all, sum}
 use Rattle.definition.specs.Frame.{size}
+use Rattle.definition.specs.World.{allocatedBit}
 use Rattle.definition.specs.Torn.{Records, pagesOfRecord, headsFrom, aloneIfHeld, heldAs}
 use Rattle.definition.proofs.Tests.{and-true}
+use Rattle.record.specs.Records.{freePage}
+use Rattle.record.proofs.Decoding.{free-facts}
 use Rattle.scan.specs.declared.Scanned.{Scanned}
-use Rattle.scan.specs.Sheet.{headAt, tiledAt, aloneAt, heldAt, freePage, Free, Tallied}
+use Rattle.scan.specs.Sheet.{headAt, tiledAt, aloneAt, heldAt, Free, Tallied}
 use Rattle.scan.proofs.Members.{all-both}
 use Rattle.scan.proofs.Heads.{head-small, pages-small, heads-end, heads-step}
 use Rattle.scan.proofs.Tallies.{alone-free, held-free}
-use Rattle.scan.proofs.Marks.{free-facts}
 
 module _ (f : Records) (from base past : ℕ) where
   abbrev good : ℕ → Bool
@@ -64,11 +66,11 @@ module _ (f : Records) (from base past : ℕ) where
   pub scan-free : (page kernel at : ℕ) → Scanning page kernel at → at < past → freePage (f at) ≡ true → Scanning page kernel (at + 1)
   scan-free page kernel at i l t =
       let d = free-facts (f at) t in
-      let u = ne-eqb (f at .marks / 2 % 2) 1 (omega (arith, d .0)) in
-      let one : 1 ≡ pagesOfRecord (f at) = sym (pages-small (f at) (omega (arith, d .2)) ∙ ap size (d .2)) in
+      let u = ne-eqb (allocatedBit (f at .marks)) 1 (omega (arith, d .1)) in
+      let one : 1 ≡ pagesOfRecord (f at) = sym (pages-small (f at) (omega (arith, d .3)) ∙ ap size (d .3)) in
       let p = held-free (f at) (f at .marks) refl u false in
       let k = held-free (f at) (f at .marks) refl u true in
-      let h = head-small f from base past at (omega (arith, d .0)) (d .1) (d .2) l in
+      let h = head-small f from base past at (d .0) (d .2) (d .3) l in
       scan-turn page kernel at 1 page kernel i l (and-true h (alone-free (f at) (f at .marks) refl u)) one
       (omega arith) (omega arith) (omega arith) (omega arith)
 

@@ -1,6 +1,6 @@
--- The torn sheet of one placed row: each clause of `Torn` over the rows is `all` over the clause here. The code gets the region by numbers: `from` is
--- the page frame number of its first managed page, `base` that page's number in the records, `past` the number behind its last.
-use Prim.Native.Nat.{ℕ, zero, suc, _+_, _-_, _*_, _/_, _%_, _≤_, _<_}
+-- The torn sheet of one region. The code gets the region by numbers: `from` is the page frame number of its first managed page, `base` that page's number in
+-- the records, `past` the number behind its last. Each clause of `Torn` over the rows is `all` over the clause of a placed row, the last part here.
+use Prim.Native.Nat.{ℕ, zero, suc, _+_, _-_, _/_, _%_, _≤_, _<_}
 use mathlib.Core.Bool.{Bool, true, false, not, cond, _&&_, _||_}
 use mathlib.Core.List.{List}
 use mathlib.Core.Path.{_≡_}
@@ -13,7 +13,7 @@ use Rattle.definition.specs.Board.{Board}
 use Rattle.definition.specs.Basics.{all, sum, range, member}
 use Rattle.definition.specs.Frame.{size, levels}
 use Rattle.definition.specs.Allocator.{managed}
-use Rattle.definition.specs.World.{isAdmitted, noLinks, pagesOf, bareRegion}
+use Rattle.definition.specs.World.{namedMarks, levelIn, isAdmitted, noLinks, pagesOf, bareRegion}
 use Rattle.definition.specs.Torn.{
   Placed,
   Records,
@@ -29,7 +29,7 @@ use Rattle.definition.specs.Torn.{
   listedPages,
   heldAs,
 }
-use Rattle.record.specs.Records.{kindOf}
+use Rattle.record.specs.Records.{freeKind, ofKind, freePage}
 use Rattle.scan.specs.declared.Scanned.{Scanned}
 use Rattle.scan.specs.declared.Whole.{Whole}
 
@@ -43,14 +43,14 @@ placedAt base row = record { base = base; row = row }
 unfoldable pub headAt : Records → (from base past h : ℕ) → Bool
 headAt f from base past h =
     isAdmitted (f h)
-    && (ltb (f h .marks) 16
-    && (ltb (f h .level) levels
-    && (eqb ((from + (h - base)) % size (f h .level)) 0
-    && (leb (h + size (f h .level)) past && all (λ q. isBlank (f q)) (range (h + 1) (size (f h .level) - 1))))))
+    && (ltb (f h .marks) namedMarks
+    && (ltb (levelIn (f h .level)) levels
+    && (eqb ((from + (h - base)) % size (levelIn (f h .level))) 0
+    && (leb (h + size (levelIn (f h .level))) past && all (λ q. isBlank (f q)) (range (h + 1) (size (levelIn (f h .level)) - 1))))))
 
 -- the pages of a head, 0 where there is none
 unfoldable pub headPages : Records → (from base past h : ℕ) → ℕ
-headPages f from base past h = cond (headAt f from base past h) (size (f h .level)) 0
+headPages f from base past h = cond (headAt f from base past h) (size (levelIn (f h .level))) 0
 
 -- the neighbours 0 of a held head
 abbrev pub alone : Record → Bool
@@ -68,26 +68,22 @@ aloneAt f base past = all (λ h. aloneIfHeld (f h)) (headsOf f base past)
 unfoldable pub heldAt : Bool → Records → (base past : ℕ) → ℕ
 heldAt kernel f base past = sum (λ h. heldAs kernel (f h)) (headsOf f base past)
 
--- an unheld frame of one page
-abbrev pub freePage : Record → Bool
-freePage r = eqb (r .marks % 4) 1 && (ltb (r .marks) 16 && eqb (r .level) 0)
-
--- from one page to another there are none but those
+-- from one page to another there are none but unheld frames of one page
 abbrev pub Free : Records → (first past : ℕ) → Type 0
 Free f first past = (q : ℕ) → first ≤ q → q < past → freePage (f q) ≡ true
 
 -- no page of the region has a mark bit but those named
 abbrev pub Marked : Records → (base past : ℕ) → Type 0
-Marked f base past = (q : ℕ) → base ≤ q → q < past → f q .marks < 16
+Marked f base past = (q : ℕ) → base ≤ q → q < past → f q .marks < namedMarks
 
 -- the marks and the level, as one number, of the frames on the list k, but for KERNEL
 abbrev pub kindOn : ℕ → ℕ
-kindOn k = 1 + 4 * (k % 2) + 4294967296 * (k / 2)
+kindOn k = freeKind (k / 2) (eqb (k % 2) 1)
 
 -- the number `at` names a page of the region with such a record, with KERNEL or without: of kindOn k it says what `onAt` says of k, where no page has
 -- other mark bits
 unfoldable pub onKind : Records → (base past kind at : ℕ) → Bool
-onKind f base past kind at = ltb base at && (leb at past && (eqb (kindOf (f (at - 1))) kind || eqb (kindOf (f (at - 1))) (kind + 8)))
+onKind f base past kind at = ltb base at && (leb at past && ofKind kind (f (at - 1)))
 
 -- the number `at` names an unheld frame of the region and the list k
 unfoldable pub onAt : Records → (base past k at : ℕ) → Bool
@@ -126,6 +122,20 @@ pub record Tallied (f : Records) (from base past : ℕ) (r : Scanned) : Type 0 w
   pub kernel : r .ok ≡ true → r .kernel ≡ heldAt true f base past
   pub few : r .ok ≡ true → r .page + r .kernel ≤ past - base
 
+-- the four clauses of the sheet that speak of a region's records
+unfoldable pub wholeAt : Records → List Links → (from base past : ℕ) → Bool
+wholeAt f lists from base past =
+    tiledAt f from base past && (aloneAt f base past && (all (listAt f base past lists) (range 0 6) && listedAt f lists base past))
+
+-- whether a region is whole, and if so the pages held without and with KERNEL, which with those on its lists are all that it manages
+pub record AuditedAt (f : Records) (row : Row) (from base past : ℕ) (r : Whole) : Type 0 where
+  pub exact : r .ok ≡ wholeAt f (row .lists) from base past
+  pub page : r .ok ≡ true → r .page ≡ heldAt false f base past
+  pub kernel : r .ok ≡ true → r .kernel ≡ heldAt true f base past
+  pub pages : r .ok ≡ true → listedPages (placedAt base row) + r .page + r .kernel ≡ past - base
+
+-- ---- the same of a placed row
+
 module _ (board : Board) where
   abbrev pub tiledRow : Records → Placed → Bool
   tiledRow f x = all (isHead board f x) (heads board f x)
@@ -142,11 +152,9 @@ module _ (board : Board) where
   abbrev pub heldRow : Bool → Records → Placed → ℕ
   heldRow kernel f x = sum (λ h. heldAs kernel (f h)) (heads board f x)
 
-  -- the four clauses of the sheet that speak of a region's records
   abbrev pub wholeRow : Records → Placed → Bool
   wholeRow f x = tiledRow f x && (aloneRow f x && (walksRow f x && listedRow f x))
 
-  -- whether a row's region is whole, and if so the pages held without and with KERNEL, which with those on its lists are all that it manages
   pub record Audited (f : Records) (x : Placed) (r : Whole) : Type 0 where
     pub exact : r .ok ≡ wholeRow f x
     pub page : r .ok ≡ true → r .page ≡ heldRow false f x

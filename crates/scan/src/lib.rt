@@ -7,18 +7,15 @@ ghost use mathlib.Core.Bool.{true, false, _&&_};
 ghost use mathlib.Core.Path.{_≡_};
 ghost use Prim.Native.Nat.{_+_, _-_, _*_, _≤_, _<_, _^_};
 ghost use lib.Dec.{eqb};
-ghost use Rattle.definition.specs.Board.{standard};
 ghost use Rattle.definition.specs.Basics.{all, range};
-ghost use Rattle.definition.specs.Allocator.{first};
-ghost use Rattle.definition.specs.World.{recordAt, bareRegion};
-ghost use Rattle.definition.specs.Torn.{past as pastOf, isNoLinks, listedPages};
+ghost use Rattle.definition.specs.World.{recordAt};
+ghost use Rattle.definition.specs.Torn.{isNoLinks, listedPages};
 ghost use Rattle.record.specs.Records.{pagesIn};
 ghost use Rattle.words.specs.Words.{rowOf, rowsIn, InUse};
 ghost use Rattle.scan.specs.Sheet.{
   placedAt,
   headPages,
   alone,
-  freePage,
   Free,
   Marked,
   kindOn,
@@ -26,7 +23,7 @@ ghost use Rattle.scan.specs.Sheet.{
   walksAt,
   listAt,
   Tallied,
-  Audited,
+  AuditedAt,
 };
 
 // ---- the heads
@@ -41,17 +38,17 @@ fn head_pages(records: &[u8], from: usize, base: usize, past: usize, h: usize) -
     if !record::is_admitted(marks) {
         return 0;
     }
-    if 16 <= marks {
+    if !record::is_named(marks) {
         return 0;
     }
-    let level = record::level(records, h);
+    let level = record::level_of(record::level(records, h));
     if level == 0 {
         return 1;
     }
     if 3 <= level {
         return 0;
     }
-    let pages = level::pages_at(level as usize);
+    let pages = level::pages_at(level);
     if (from + (h - base)) % pages != 0 {
         return 0;
     }
@@ -65,39 +62,21 @@ fn head_pages(records: &[u8], from: usize, base: usize, past: usize, h: usize) -
     }
 }
 
-// An unheld frame of one page, with ZEROED and KERNEL or without: most heads are such, and one load tells.
-fn is_free_page(records: &[u8], h: usize) -> bool
-    requires { ⌜ h < pagesIn (now records) ⌝ }
-    ensures { λ r. ⌜ r ≡ freePage (recordAt (now (records .entry)) h) ⌝ }
-{
-    let kind = record::kind(records, h);
-    if kind == 1 {
-        return true;
-    }
-    if kind == 5 {
-        return true;
-    }
-    if kind == 9 {
-        return true;
-    }
-    kind == 13
-}
-
-// Whether the four pages from `h` on are such frames.
+// Whether the four pages from `h` on are unheld frames of one page. Most heads are such, and one load tells.
 fn four_free(records: &[u8], h: usize) -> bool
     requires { ⌜ h + 4 ≤ pagesIn (now records) ⌝ }
     ensures { λ r. ⌜ (r ≡ true → Free (recordAt (now (records .entry))) h (h + 4)) ⌝ }
 {
-    if !is_free_page(records, h) {
+    if !record::is_free_page(records, h) {
         return false;
     }
-    if !is_free_page(records, h + 1) {
+    if !record::is_free_page(records, h + 1) {
         return false;
     }
-    if !is_free_page(records, h + 2) {
+    if !record::is_free_page(records, h + 2) {
         return false;
     }
-    is_free_page(records, h + 3)
+    record::is_free_page(records, h + 3)
 }
 
 // A page up to which there are only such frames. They come in long runs: four are looked at in a step, and where less than four are left it stops.
@@ -154,7 +133,7 @@ fn scan(records: &[u8], from: usize, base: usize, past: usize) -> Scanned
     let mut kernel: usize = 0;
     let mut at = past_free(records, base, past);
     while at < past {
-        if is_free_page(records, at) {
+        if record::is_free_page(records, at) {
             at += 1;
         } else {
             let pages = head_pages(records, from, base, past, at);
@@ -187,11 +166,9 @@ fn scan(records: &[u8], from: usize, base: usize, past: usize) -> Scanned
 // The marks and the level, as one number, of the unheld frames on the list `k`, but for KERNEL.
 fn list_kind(k: usize) -> u64
     requires { ⌜ k < 6 ⌝ }
-    ensures { λ r. ⌜ r ≡ kindOn k ⌝ }
+    ensures { λ r. ⌜ (r ≡ kindOn k) × (r < 2 ^ 63) ⌝ }
 {
-    let level = (k / 2) as u64;
-    let zeroed = (k % 2) as u64;
-    1 + 4 * zeroed + 4294967296 * level
+    record::free_kind(k / 2, k % 2 == 1)
 }
 
 // Whether the number `at` names an unheld frame of the region, whose marks and level are `kind`, with KERNEL or without. A number up to `base` wraps to one past the
@@ -204,11 +181,7 @@ fn is_on(records: &[u8], base: usize, past: usize, kind: u64, at: u32) -> bool
     if past - base <= std::num::wrapping_sub_usize(number, base + 1) {
         return false;
     }
-    let found = record::kind(records, number - 1);
-    if found == kind {
-        return true;
-    }
-    found == kind + 8
+    record::is_kind(records, number - 1, kind)
 }
 
 // Whether it names such a frame, whose earlier neighbour is `prev`.
@@ -392,9 +365,8 @@ pub fn region_whole(
     i: usize,
 ) -> Whole
     requires { ⌜ InUse (now words) i × (row ≡ rowOf (rowsIn (now words)) i) ⌝ }
-    requires { ⌜ (from ≡ first standard (bareRegion standard row)) × (past ≡ pastOf standard (placedAt base row)) ⌝ }
-    requires { ⌜ (past ≤ pagesIn (now records)) × (from + (past - base) < 2 ^ 64) ⌝ }
-    ensures { λ r. ⌜ Audited standard (recordAt (now (records .entry))) (placedAt base row) r ⌝ }
+    requires { ⌜ (base ≤ past) × (past ≤ pagesIn (now records)) × (from + (past - base) < 2 ^ 64) ⌝ }
+    ensures { λ r. ⌜ AuditedAt (recordAt (now (records .entry))) row from base past r ⌝ }
 {
     let scanned = scan(records, from, base, past);
     let ok = scanned.ok;

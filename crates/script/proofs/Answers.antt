@@ -1,5 +1,6 @@
 -- What a call can answer. The calls of a script but the statistics are refused or done, never answered by a text or by bytes, so three numbers say all of it
 -- (`call-line`); the statistics are refused or answered by a text; a boot is accepted exactly where its number is 0.
+use Rattle.definition.specs.Basics.{everywhere}
 use Prim.Native.Nat.{ℕ, _≤_}
 use mathlib.Core.Bool.{Bool, true, false, false≢true, cond}
 use mathlib.Core.List.{List}
@@ -11,9 +12,9 @@ use lib.ListN.{length, take, length-take}
 use Rattle.definition.specs.declared.MemoryRegion.{MemoryRegion}
 use Rattle.definition.specs.declared.Refusal.{Refusal}
 use Rattle.definition.specs.declared.Refusal.the-variants as R
-use Rattle.definition.specs.Board.{standard}
+use Rattle.definition.specs.Board.{Board}
 use Rattle.definition.specs.Boot.{bootSheet}
-use Rattle.definition.specs.Calls.{Call, Answer, Refused, Done, Text, Bytes, Stats, Outcome, hands, findLevel, names, perform, sheet, step, unlessRefused}
+use Rattle.definition.specs.Calls.{mine, Call, Answer, Refused, Done, Text, Bytes, Stats, Outcome, hands, findLevel, names, perform, sheet, step, unlessRefused}
 use Rattle.definition.specs.Refusal.{lowest, numberOf}
 use Rattle.definition.specs.Script.{answerLine, isAccepted, layoutOf, lineOf}
 use Rattle.definition.specs.Store.{Store}
@@ -53,66 +54,68 @@ refused-or : (P : Answer → Bool) → ((r : Refusal) → P (Refused r) ≡ true
 refused-or P f s o none e = e
 refused-or P f s o (some r) e = f r
 
-torn-or : (P : Answer → Bool) → ((r : Refusal) → P (Refused r) ≡ true) → (w : World) (o : Outcome) (t : Bool)
-    → P (o .answer) ≡ true → P (cond t (written standard w o) (untouched w R.Torn) .answer) ≡ true
-torn-or P f w o true e = e
-torn-or P f w o false e = f R.Torn
+module _ (board : Board) where
+  torn-or : (P : Answer → Bool) → ((r : Refusal) → P (Refused r) ≡ true) → (w : World) (o : Outcome) (t : Bool)
+      → P (o .answer) ≡ true → P (cond t (written board w o) (untouched w R.Torn) .answer) ≡ true
+  torn-or P f w o true e = e
+  torn-or P f w o false e = f R.Torn
 
--- of every call, what holds of a refusal and of what it performs
-called : (P : Answer → Bool) → ((r : Refusal) → P (Refused r) ≡ true) → (c : Call) → ((s : Store) → P (perform standard s c .answer) ≡ true)
-    → (w : World) → P (call standard w c .answer) ≡ true
-unfolding call step
-called P f c h w =
-    let s = decode standard w in
-    torn-or P f w (unlessRefused s (lowest (sheet standard s (names c))) (perform standard s c)) (sound standard w)
-    (refused-or P f s (perform standard s c) (lowest (sheet standard s (names c))) (h s))
+  -- of every call, what holds of a refusal and of what it performs
+  called : (P : Answer → Bool) → ((r : Refusal) → P (Refused r) ≡ true) → (c : Call) → ((s : Store) → P (perform board s c .answer) ≡ true)
+      → (w : World) → P (call board w c .answer) ≡ true
+  unfolding call step
+  called P f c h w =
+      let s = decode board w in
+      torn-or P f w (unlessRefused s (lowest (sheet board s (names c))) (perform board s c)) (sound board w)
+      (refused-or P f s (perform board s c) (lowest (sheet board s (names c))) (h s))
 
-handed : (l : ℕ) (g : Granted) → byNumbers (hands standard l g .answer) ≡ true
-handed l g = go (g .store) (g .page)
-  where
-    go : (s : Store) (p : Option ℕ) → byNumbers (hands standard l (record { store = s; page = p }) .answer) ≡ true
-    go s none = refl
-    go s (some p) = refl
+  handed : (l : ℕ) (g : Granted) → byNumbers (hands board l g .answer) ≡ true
+  handed l g = go (g .store) (g .page)
+    where
+      go : (s : Store) (p : Option ℕ) → byNumbers (hands board l (record { store = s; page = p }) .answer) ≡ true
+      go s none = refl
+      go s (some p) = refl
 
-performed : (op : Ask) (n : ℕ → ℕ) (s : Store) → byNumbers (perform standard s (callOf op n) .answer) ≡ true
-unfolding perform
-performed A.Alloc n s = let y = layoutOf n in handed (findLevel standard y) (tryAllocFrame standard (findLevel standard y) (y .flags) s)
-performed A.Take n s = let y = layoutOf n in handed (findLevel standard y) (tryAllocSplitFrames standard (findLevel standard y) (y .flags) s)
-performed A.Split n s = refl
-performed A.Free n s = refl
-performed A.Zero n s = refl
-performed A.Dirty n s = refl
-performed A.Find n s = refl
-performed A.Queue n s = refl
-performed A.Fill n s = refl
-performed A.Copy n s = refl
-performed A.Pcopy n s = refl
-performed A.Round n s = refl
-performed A.Lend n s = refl
-performed A.Back n s = refl
-performed A.Low n s = refl
+  performed : (op : Ask) (n : ℕ → ℕ) (s : Store) → byNumbers (perform board s (callOf op n) .answer) ≡ true
+  unfolding perform mine
+  performed A.Alloc n s = let y = layoutOf n in handed (findLevel board y) (tryAllocFrame board everywhere (findLevel board y) (y .flags) s)
+  performed A.Take n s = let y = layoutOf n in handed (findLevel board y) (tryAllocSplitFrames board everywhere (findLevel board y) (y .flags) s)
+  performed A.Split n s = refl
+  performed A.Free n s = refl
+  performed A.Zero n s = refl
+  performed A.Dirty n s = refl
+  performed A.Find n s = refl
+  performed A.Queue n s = refl
+  performed A.Fill n s = refl
+  performed A.Copy n s = refl
+  performed A.Pcopy n s = refl
+  performed A.Round n s = refl
+  performed A.Lend n s = refl
+  performed A.Back n s = refl
+  performed A.Low n s = refl
 
--- the line of a call that was told so
-pub call-line : (name : List ℕ) (op : Ask) (n : ℕ → ℕ) (w : World) {y : Told} → told (call standard w (callOf op n) .answer) ≡ y
-    → toldLine name y ≡ answerLine name (call standard w (callOf op n) .answer)
-call-line name op n w e =
-    ap (toldLine name) (sym e)
-    ∙ sym (numbers-line name (call standard w (callOf op n) .answer) (called byNumbers (λ r. refl) (callOf op n) (performed op n) w))
+  -- the line of a call that was told so
+  pub call-line : (name : List ℕ) (op : Ask) (n : ℕ → ℕ) (w : World) {y : Told} → told (call board w (callOf op n) .answer) ≡ y
+      → toldLine name y ≡ answerLine name (call board w (callOf op n) .answer)
+  call-line name op n w e =
+      ap (toldLine name) (sym e)
+      ∙ sym (numbers-line name (call board w (callOf op n) .answer) (called byNumbers (λ r. refl) (callOf op n) (performed op n) w))
 
 -- ---- the boot
 
-boot-numbers : (ms : List MemoryRegion) (w : World) → byNumbers (bootCall standard ms w .answer) ≡ true
-unfolding bootCall
-boot-numbers ms w = go (lowest (bootSheet standard ms (length (w .records)) (length (w .memory))))
-  where
-    go : (r : Option Refusal) → byNumbers (unlessRefusedOn w r (booted standard ms w) .answer) ≡ true
-    go none = refl
-    go (some r) = refl
+module _ (board : Board) where
+  boot-numbers : (ms : List MemoryRegion) (w : World) → byNumbers (bootCall board ms w .answer) ≡ true
+  unfolding bootCall
+  boot-numbers ms w = go (lowest (bootSheet board ms (length (w .records)) (length (w .memory))))
+    where
+      go : (r : Option Refusal) → byNumbers (unlessRefusedOn w r (booted board ms w) .answer) ≡ true
+      go none = refl
+      go (some r) = refl
 
-pub boot-line : (name : List ℕ) (ms : List MemoryRegion) (w : World) {y : Told} → told (bootCall standard ms w .answer) ≡ y
-    → toldLine name y ≡ answerLine name (bootCall standard ms w .answer)
-boot-line name ms w e =
-    ap (toldLine name) (sym e) ∙ sym (numbers-line name (bootCall standard ms w .answer) (boot-numbers ms w))
+  pub boot-line : (name : List ℕ) (ms : List MemoryRegion) (w : World) {y : Told} → told (bootCall board ms w .answer) ≡ y
+      → toldLine name y ≡ answerLine name (bootCall board ms w .answer)
+  boot-line name ms w e =
+      ap (toldLine name) (sym e) ∙ sym (numbers-line name (bootCall board ms w .answer) (boot-numbers ms w))
 
 never-zero : (r : Refusal) → eqb (numberOf r) 0 ≡ false
 never-zero R.LongMap = refl
@@ -152,9 +155,10 @@ byText (Done a n) = false
 byText (Text t) = true
 byText (Bytes t) = false
 
-stats-told : (w : World) → byText (call standard w Stats .answer) ≡ true
-unfolding perform
-stats-told w = called byText (λ r. refl) Stats (λ s. refl) w
+module _ (board : Board) where
+  stats-told : (w : World) → byText (call board w Stats .answer) ≡ true
+  unfolding perform mine
+  stats-told w = called board byText (λ r. refl) Stats (λ s. refl) w
 
 -- what a report has of an answer: the line of a refusal, or the text, and no more text than its array holds
 pub record Tells (name : List ℕ) (a : Answer) (r : Report) : Type 0 where
@@ -180,5 +184,6 @@ tells name r (Text x) b e t =
     record { refused = λ h. absurd (h (sym n)); text = λ z. t; short = omega (arith, simp length-take at k) }
 tells name r (Bytes x) b e t = absurd (false≢true b)
 
-pub stats-tells : (name : List ℕ) (w : World) (r : Report) → Reports w r → Tells name (call standard w Stats .answer) r
-stats-tells name w r R = tells name r (call standard w Stats .answer) (stats-told w) (R .answer) (R .text)
+module _ (board : Board) where
+  pub stats-tells : (name : List ℕ) (w : World) (r : Report) → Reports board w r → Tells name (call board w Stats .answer) r
+  stats-tells name w r R = tells name r (call board w Stats .answer) (stats-told board w) (R .answer) (R .text)

@@ -11,7 +11,7 @@ use lib.Dec.{eqb}
 use lib.ListN.{length, take, set, length-append}
 use lib.Seq.{take-all, take-append-le, take-suc-set}
 use Rattle.definition.specs.declared.MemoryRegion.{MemoryRegion}
-use Rattle.definition.specs.Board.{standard}
+use Rattle.definition.specs.Board.{Board}
 use Rattle.definition.specs.Calls.{Call, Stats}
 use Rattle.definition.specs.Script.{AddRegion, BootNow, Ask, Asked, Command, RunningOn, answerLine, badLine, commandOn, lineOf, lineOn}
 use Rattle.definition.specs.Torn.{bootCall, call}
@@ -31,11 +31,12 @@ use Rattle.script.specs.Running.{Running, Turn, Bad, Does, Enters, Loans
 use Rattle.script.proofs.Answers.{accepted, boot-line, call-line, stats-tells}
 use Rattle.script.proofs.Writing.{wrote-nothing}
 
--- a command where it is known whether a boot was accepted
-pub does : (c : Command) (name : List ℕ) {r : Running} {l : Loans} (b : Bool) → r .booted ≡ b → {out out′ : List ℕ} {at : ℕ} {l′ : Loans} {t : Turn}
-    → ((x : RunningOn) → Stands r l x → Turned (commandOn standard x name c b) out at l′ out′ t) → Does c name r l out at l′ out′ t
-does c name b e {out} {out′} {at} {l′} {t} f x S =
-    subst (λ (y : Bool). Turned (commandOn standard x name c y) out at l′ out′ t) (sym (S .booted ∙ e)) (f x S)
+module _ (board : Board) where
+  -- a command where it is known whether a boot was accepted
+  pub does : (c : Command) (name : List ℕ) {r : Running} {l : Loans} (b : Bool) → r .booted ≡ b → {out out′ : List ℕ} {at : ℕ} {l′ : Loans} {t : Turn}
+      → ((x : RunningOn) → Stands r l x → Turned (commandOn board x name c b) out at l′ out′ t) → Does board c name r l out at l′ out′ t
+  does c name b e {out} {out′} {at} {l′} {t} f x S =
+      subst (λ (y : Bool). Turned (commandOn board x name c y) out at l′ out′ t) (sym (S .booted ∙ e)) (f x S)
 
 pub turned-bad : {r : Running} {out out′ : List ℕ} {at n : ℕ} → Wrote out at badLine out′ n → Bad r out at out′ (record { running = r; at = n })
 turned-bad w l x S = record { stands = S; wrote = w }
@@ -53,92 +54,96 @@ pub enters-none : (map : List MemoryRegion) (n : ℕ) (m : MemoryRegion) → len
 enters-none map n m k h xs l e =
     take-append-le 8 xs (m ∷ []) (omega arith) ∙ e ∙ take-all n map (omega arith) ∙ sym (take-all (n + 1) map (omega arith))
 
-pub turned-region : {r : Running} {l : Loans} (out : List ℕ) (at : ℕ) (name : List ℕ) {m : MemoryRegion} {map : List MemoryRegion} → r .booted ≡ false
-    → Enters (r .map) (r .count) m map
-    → Does (AddRegion m) name r l out at l out
-    (record { running = record { map = map; count = r .count + 1; booted = r .booted; state = r .state }; at = at })
-turned-region out at name {m} early f =
-    does (AddRegion m) name false early
-    (λ x S. record {
-      stands = record {
-        world = S .world;
-        booted = sym early;
-        long = length-append (x .map) (m ∷ []) ∙ ap (λ (k : ℕ). k + 1) (S .long);
-        front = f (x .map) (S .long) (S .front);
-      };
-      wrote = wrote-nothing out at;
-    })
+module _ (board : Board) where
+  pub turned-region : {r : Running} {l : Loans} (out : List ℕ) (at : ℕ) (name : List ℕ) {m : MemoryRegion} {map : List MemoryRegion} → r .booted ≡ false
+      → Enters (r .map) (r .count) m map
+      → Does board (AddRegion m) name r l out at l out
+      (record { running = record { map = map; count = r .count + 1; booted = r .booted; state = r .state }; at = at })
+  turned-region out at name {m} early f =
+      does board (AddRegion m) name false early
+      (λ x S. record {
+        stands = record {
+          world = S .world;
+          booted = sym early;
+          long = length-append (x .map) (m ∷ []) ∙ ap (λ (k : ℕ). k + 1) (S .long);
+          front = f (x .map) (S .long) (S .front);
+        };
+        wrote = wrote-nothing out at;
+      })
 
 -- ---- the calls
 
-module _ {r : Running} {l l′ : Loans} {out out′ : List ℕ} {at n : ℕ} {s : State} (name : List ℕ) where
-  pub turned-boot : {y : Answer} → r .booted ≡ false → BootsAll (r .map) (r .count) (worldBy (r .state) l) (worldBy s l′) y
-      → Wrote out at (lineOf name (y .number) (y .address) (y .bytes)) out′ n
-      → Does BootNow name r l out at l′ out′
-      (record { running = record { map = r .map; count = r .count; booted = eqb (y .number) 0; state = s }; at = n })
-  turned-boot {y} early B w = does BootNow name false early f
+module _ (board : Board) where
+  module _ {r : Running} {l l′ : Loans} {out out′ : List ℕ} {at n : ℕ} {s : State} (name : List ℕ) where
+    pub turned-boot : {y : Answer} → r .booted ≡ false → BootsAll board (r .map) (r .count) (worldBy (r .state) l) (worldBy s l′) y
+        → Wrote out at (lineOf name (y .number) (y .address) (y .bytes)) out′ n
+        → Does board BootNow name r l out at l′ out′
+        (record { running = record { map = r .map; count = r .count; booted = eqb (y .number) 0; state = s }; at = n })
+    turned-boot {y} early B w = does board BootNow name false early f
+      where
+        f : (x : RunningOn) → Stands r l x → Turned (commandOn board x name BootNow false) out at l′ out′
+            (record { running = record { map = r .map; count = r .count; booted = eqb (y .number) 0; state = s }; at = n })
+        f x S =
+            let b : Boots board (x .map) (x .world) (worldBy s l′) y
+            = subst (λ (v : World). Boots board (x .map) v (worldBy s l′) y) (sym (S .world)) (B (x .map) (S .long) (S .front)) in
+            record {
+              stands = record {
+                world = b .world;
+                booted = accepted (bootCall board (x .map) (x .world) .answer) (b .answer);
+                long = S .long;
+                front = S .front;
+              };
+              wrote = wrote-as (boot-line board name (x .map) (x .world) (b .answer)) w;
+            }
+
+    -- a call whose text is the one that its answer has
+    turned-as : (c : Call) (b : Bool) → true ≡ b → r .booted ≡ true → call board (worldBy (r .state) l) c .world ≡ worldBy s l′
+        → Wrote out at (answerLine name (call board (worldBy (r .state) l) c .answer)) out′ n
+        → Does board (Ask c) name r l out at l′ out′ (record { running = record { map = r .map; count = r .count; booted = b; state = s }; at = n })
+    turned-as c b e late v w =
+        does board (Ask c) name true late
+        (λ x S. record {
+          stands = record {
+            world = ap (λ (u : World). call board u c .world) (S .world) ∙ v;
+            booted = e;
+            long = S .long;
+            front = S .front;
+          };
+          wrote = wrote-as (ap (λ (u : World). answerLine name (call board u c .answer)) (sym (S .world))) w;
+        })
+
+    pub turned-call : {y : Answer} (op : Op) (k : ℕ → ℕ) → r .booted ≡ true → Leaves board (worldBy (r .state) l) (callOf op k) (worldBy s l′) y
+        → Wrote out at (lineOf name (y .number) (y .address) (y .bytes)) out′ n
+        → Does board (Ask (callOf op k)) name r l out at l′ out′
+        (record { running = record { map = r .map; count = r .count; booted = true; state = s }; at = n })
+    turned-call op k late L w =
+        turned-as (callOf op k) true refl late (L .world) (wrote-as (call-line board name op k (worldBy (r .state) l) (L .answer)) w)
+
+module _ (board : Board) where
+  -- the statistics leave all as it is
+  module _
+      {r : Running} {l : Loans} {out out′ : List ℕ} {at n : ℕ} (name : List ℕ) {p : Report} (late : r .booted ≡ true)
+      (R : Reports board (worldBy (r .state) l) p)
     where
-      f : (x : RunningOn) → Stands r l x → Turned (commandOn standard x name BootNow false) out at l′ out′
-          (record { running = record { map = r .map; count = r .count; booted = eqb (y .number) 0; state = s }; at = n })
-      f x S =
-          let b : Boots (x .map) (x .world) (worldBy s l′) y
-          = subst (λ (v : World). Boots (x .map) v (worldBy s l′) y) (sym (S .world)) (B (x .map) (S .long) (S .front)) in
-          record {
-            stands = record {
-              world = b .world;
-              booted = accepted (bootCall standard (x .map) (x .world) .answer) (b .answer);
-              long = S .long;
-              front = S .front;
-            };
-            wrote = wrote-as (boot-line name (x .map) (x .world) (b .answer)) w;
-          }
+      told-stats : {t : List ℕ} → t ≡ answerLine name (call board (worldBy (r .state) l) Stats .answer) → Wrote out at t out′ n
+          → Does board (Ask Stats) name r l out at l out′ (record { running = r; at = n })
+      told-stats e w = turned-as board name Stats (r .booted) (sym late) late (R .world) (wrote-as e w)
 
-  -- a call whose text is the one that its answer has
-  turned-as : (c : Call) (b : Bool) → true ≡ b → r .booted ≡ true → call standard (worldBy (r .state) l) c .world ≡ worldBy s l′
-      → Wrote out at (answerLine name (call standard (worldBy (r .state) l) c .answer)) out′ n
-      → Does (Ask c) name r l out at l′ out′ (record { running = record { map = r .map; count = r .count; booted = b; state = s }; at = n })
-  turned-as c b e late v w =
-      does (Ask c) name true late
-      (λ x S. record {
-        stands = record {
-          world = ap (λ (u : World). call standard u c .world) (S .world) ∙ v;
-          booted = e;
-          long = S .long;
-          front = S .front;
-        };
-        wrote = wrote-as (ap (λ (u : World). answerLine name (call standard u c .answer)) (sym (S .world))) w;
-      })
+      pub turned-refused : (p .number ≡ 0 → ⊥) → Wrote out at (lineOf name (p .number) 0 0) out′ n
+          → Does board (Ask Stats) name r l out at l out′ (record { running = r; at = n })
+      turned-refused h = told-stats (stats-tells board name (worldBy (r .state) l) p R .refused h)
 
-  pub turned-call : {y : Answer} (op : Op) (k : ℕ → ℕ) → r .booted ≡ true → Leaves (worldBy (r .state) l) (callOf op k) (worldBy s l′) y
-      → Wrote out at (lineOf name (y .number) (y .address) (y .bytes)) out′ n
-      → Does (Ask (callOf op k)) name r l out at l′ out′
-      (record { running = record { map = r .map; count = r .count; booted = true; state = s }; at = n })
-  turned-call op k late L w =
-      turned-as (callOf op k) true refl late (L .world) (wrote-as (call-line name op k (worldBy (r .state) l) (L .answer)) w)
-
--- the statistics leave all as it is
-module _
-    {r : Running} {l : Loans} {out out′ : List ℕ} {at n : ℕ} (name : List ℕ) {p : Report} (late : r .booted ≡ true)
-    (R : Reports (worldBy (r .state) l) p)
-  where
-    told-stats : {t : List ℕ} → t ≡ answerLine name (call standard (worldBy (r .state) l) Stats .answer) → Wrote out at t out′ n
-        → Does (Ask Stats) name r l out at l out′ (record { running = r; at = n })
-    told-stats e w = turned-as name Stats (r .booted) (sym late) late (R .world) (wrote-as e w)
-
-    pub turned-refused : (p .number ≡ 0 → ⊥) → Wrote out at (lineOf name (p .number) 0 0) out′ n
-        → Does (Ask Stats) name r l out at l out′ (record { running = r; at = n })
-    turned-refused h = told-stats (stats-tells name (worldBy (r .state) l) p R .refused h)
-
-    pub turned-stats : p .number ≡ 0 → Wrote out at (take (p .len) (p .text)) out′ n
-        → Does (Ask Stats) name r l out at l out′ (record { running = r; at = n })
-    turned-stats h = told-stats (stats-tells name (worldBy (r .state) l) p R .text h)
+      pub turned-stats : p .number ≡ 0 → Wrote out at (take (p .len) (p .text)) out′ n
+          → Does board (Ask Stats) name r l out at l out′ (record { running = r; at = n })
+      turned-stats h = told-stats (stats-tells board name (worldBy (r .state) l) p R .text h)
 
 -- ---- the line
 
--- a line turns out as what it was read as
-pub turns : {r : Running} {l l′ : Loans} (line : List ℕ) {out out′ : List ℕ} {at : ℕ} {t : Turn} (q : Line) → Reads line q → (o : OpOf) → q .op ≡ o
-    → ((x : RunningOn) → Stands r l x → Turned (lineOn standard x (asksIf (nameOf o) (commandOf o (numbersOf q)))) out at l′ out′ t)
-    → Turns r l line out at l′ out′ t
-turns {r} {l} {l′} line {out} {out′} {at} {t} q R o e f x S =
-    subst (λ (a : Option Asked). Turned (lineOn standard x a) out at l′ out′ t)
-    (sym (R ∙ ap (λ (p : OpOf). asksIf (nameOf p) (commandOf p (numbersOf q))) e)) (f x S)
+module _ (board : Board) where
+  -- a line turns out as what it was read as
+  pub turns : {r : Running} {l l′ : Loans} (line : List ℕ) {out out′ : List ℕ} {at : ℕ} {t : Turn} (q : Line) → Reads line q → (o : OpOf) → q .op ≡ o
+      → ((x : RunningOn) → Stands r l x → Turned (lineOn board x (asksIf (nameOf o) (commandOf o (numbersOf q)))) out at l′ out′ t)
+      → Turns board r l line out at l′ out′ t
+  turns {r} {l} {l′} line {out} {out′} {at} {t} q R o e f x S =
+      subst (λ (a : Option Asked). Turned (lineOn board x a) out at l′ out′ t)
+      (sym (R ∙ ap (λ (p : OpOf). asksIf (nameOf p) (commandOf p (numbersOf q))) e)) (f x S)

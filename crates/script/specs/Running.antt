@@ -6,7 +6,7 @@ use mathlib.Core.List.{List, [], _∷_, _++_}
 use mathlib.Core.Path.{_≡_}
 use lib.ListN.{length, take, drop, replicate}
 use Rattle.definition.specs.declared.MemoryRegion.{MemoryRegion}
-use Rattle.definition.specs.Board.{standard}
+use Rattle.definition.specs.Board.{Board, standard}
 use Rattle.definition.specs.Boot.{countersAtBoot}
 use Rattle.definition.specs.Script.{
   AddRegion,
@@ -101,11 +101,6 @@ Bad r out at out′ t = (l : Loans) (x : RunningOn) → Stands r l x → Turned 
 abbrev pub BadAny : RunningOf → List ℕ → ℕ → List ℕ → TurnOf → Type 0
 BadAny r out at out′ t = (ws : List ℕ) → Bad (runningWith r ws) out at out′ (turnWith t ws)
 
--- a command under its name
-abbrev pub Does : Command → List ℕ → Running → Loans → List ℕ → ℕ → Loans → List ℕ → Turn → Type 0
-Does c name r l out at l′ out′ t =
-    (x : RunningOn) → Stands r l x → Turned (commandOn standard x name c (x .booted)) out at l′ out′ t
-
 -- the entry of a map that a line's numbers are
 abbrev pub entryOf : (ℕ → ℕ) → MemoryRegion
 entryOf n = record { start = record { 0 = n 0 }; length = n 1; kind = kindOf (n 2) }
@@ -115,38 +110,48 @@ abbrev pub Enters : List MemoryRegion → ℕ → MemoryRegion → List MemoryRe
 Enters map n m map′ =
     (xs : List MemoryRegion) → length xs ≡ n → take 8 xs ≡ take n map → take 8 (xs ++ (m ∷ [])) ≡ take (n + 1) map′
 
-abbrev pub Adds : Running → (ℕ → ℕ) → List ℕ → ℕ → List ℕ → Turn → Type 0
-Adds r n out at out′ t = (l : Loans) → Does (AddRegion (entryOf n)) (bytesOf "region") r l out at l out′ t
-
-abbrev pub AddsAny : RunningOf → (ℕ → ℕ) → List ℕ → ℕ → List ℕ → TurnOf → Type 0
-AddsAny r n out at out′ t = (ws : List ℕ) → Adds (runningWith r ws) n out at out′ (turnWith t ws)
-
-abbrev pub Turns : Running → Loans → (line out : List ℕ) → ℕ → Loans → List ℕ → Turn → Type 0
-Turns r l line out at l′ out′ t = (x : RunningOn) → Stands r l x → Turned (lineOn standard x (readLine line)) out at l′ out′ t
-
 -- ---- the script
 
--- what a script prints, and the world that it leaves
-abbrev pub printed : Loans → List ℕ → List ℕ
-printed l script = outputOf standard (worldBy unbooted l) script
+-- the board that a script boots: the Rust's
+abbrev pub programBoard : Board
+programBoard = standard
 
-abbrev pub leftBy : Loans → List ℕ → World
-leftBy l script = worldAfter standard (worldBy unbooted l) script
+module _ (board : Board) where
+  -- a command under its name
+  abbrev pub Does : Command → List ℕ → Running → Loans → List ℕ → ℕ → Loans → List ℕ → Turn → Type 0
+  Does c name r l out at l′ out′ t =
+      (x : RunningOn) → Stands r l x → Turned (commandOn board x name c (x .booted)) out at l′ out′ t
 
--- with room enough
-pub record RanAll (script : List ℕ) (l : Loans) (out : List ℕ) (l′ : Loans) (out′ : List ℕ) (r : ℕ) : Type 0 where
-  pub written : r ≡ length (printed l script)
-  pub text : out′ ≡ printed l script ++ drop r out
-  pub records : l′ .records ≡ leftBy l script .records
-  pub memory : l′ .memory ≡ leftBy l script .memory
-  pub queue : l′ .queue ≡ leftBy l script .queue
+  abbrev pub Adds : Running → (ℕ → ℕ) → List ℕ → ℕ → List ℕ → Turn → Type 0
+  Adds r n out at out′ t = (l : Loans) → Does (AddRegion (entryOf n)) (bytesOf "region") r l out at l out′ t
 
--- the answers stand at the front of the slice, whose rest is as it was, and the loans are as the calls leave them; a slice under 512 bytes for each line plus
--- 512 is left as it is, and so are the loans
-pub record Ran (script : List ℕ) (l : Loans) (out : List ℕ) (l′ : Loans) (out′ : List ℕ) (r : ℕ) : Type 0 where
-  pub written : room script ≤ length out → r ≡ length (printed l script)
-  pub text : room script ≤ length out → out′ ≡ printed l script ++ drop r out
-  pub records : room script ≤ length out → l′ .records ≡ leftBy l script .records
-  pub memory : room script ≤ length out → l′ .memory ≡ leftBy l script .memory
-  pub queue : room script ≤ length out → l′ .queue ≡ leftBy l script .queue
-  pub tooShort : length out < room script → (r ≡ 0) × (l′ ≡ l) × (out′ ≡ out)
+  abbrev pub AddsAny : RunningOf → (ℕ → ℕ) → List ℕ → ℕ → List ℕ → TurnOf → Type 0
+  AddsAny r n out at out′ t = (ws : List ℕ) → Adds (runningWith r ws) n out at out′ (turnWith t ws)
+
+  abbrev pub Turns : Running → Loans → (line out : List ℕ) → ℕ → Loans → List ℕ → Turn → Type 0
+  Turns r l line out at l′ out′ t = (x : RunningOn) → Stands r l x → Turned (lineOn board x (readLine line)) out at l′ out′ t
+
+  -- what a script prints, and the world that it leaves
+  abbrev pub printed : Loans → List ℕ → List ℕ
+  printed l script = outputOf board (worldBy unbooted l) script
+
+  abbrev pub leftBy : Loans → List ℕ → World
+  leftBy l script = worldAfter board (worldBy unbooted l) script
+
+  -- with room enough
+  pub record RanAll (script : List ℕ) (l : Loans) (out : List ℕ) (l′ : Loans) (out′ : List ℕ) (r : ℕ) : Type 0 where
+    pub written : r ≡ length (printed l script)
+    pub text : out′ ≡ printed l script ++ drop r out
+    pub records : l′ .records ≡ leftBy l script .records
+    pub memory : l′ .memory ≡ leftBy l script .memory
+    pub queue : l′ .queue ≡ leftBy l script .queue
+
+  -- the answers stand at the front of the slice, whose rest is as it was, and the loans are as the calls leave them; a slice under 512 bytes for each line plus
+  -- 512 is left as it is, and so are the loans
+  pub record Ran (script : List ℕ) (l : Loans) (out : List ℕ) (l′ : Loans) (out′ : List ℕ) (r : ℕ) : Type 0 where
+    pub written : room script ≤ length out → r ≡ length (printed l script)
+    pub text : room script ≤ length out → out′ ≡ printed l script ++ drop r out
+    pub records : room script ≤ length out → l′ .records ≡ leftBy l script .records
+    pub memory : room script ≤ length out → l′ .memory ≡ leftBy l script .memory
+    pub queue : room script ≤ length out → l′ .queue ≡ leftBy l script .queue
+    pub tooShort : length out < room script → (r ≡ 0) × (l′ ≡ l) × (out′ ≡ out)

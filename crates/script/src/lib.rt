@@ -14,7 +14,7 @@ ghost use Rattle.definition.specs.Calls.{Stats};
 ghost use Rattle.definition.specs.Script.{BootNow, Ask as Asks, lineOf, room};
 ghost use Rattle.text.specs.Writing.{Wrote};
 ghost use Rattle.lines.specs.Reading.{askName, nameOf, callOf};
-ghost use Rattle.script.specs.Running.{Names, Fresh, Bounded, BadAny, Enters, AddsAny, Does, Turns, RanAll, Ran, runningWith, turnWith};
+ghost use Rattle.script.specs.Running.{programBoard, Names, Fresh, Bounded, BadAny, Enters, AddsAny, Does, Turns, RanAll, Ran, runningWith, turnWith};
 
 // ---- what is printed
 
@@ -140,7 +140,7 @@ fn entered(map: [MemoryRegion; 8], count: usize, entry: MemoryRegion) -> [Memory
 // An entry more of the map, which prints nothing.
 fn region(running: Running, n: [u64; 5], answer: &mut [u8], at: usize) -> Turn
     requires { ⌜ (at + 512 ≤ length (now answer)) × (running .count + 1 < 2 ^ 64) ⌝ }
-    ensures { λ r. ⌜ AddsAny running (λ i. getD n i 0) (now (answer .entry)) at (now (answer .exit)) r ⌝ }
+    ensures { λ r. ⌜ AddsAny programBoard running (λ i. getD n i 0) (now (answer .entry)) at (now (answer .exit)) r ⌝ }
     ensures { λ r. ⌜ Bounded running at r ⌝ }
 {
     if running.booted {
@@ -175,7 +175,7 @@ fn boot_now(
 ) -> Turn
     requires { ⌜ 92 ≤ length (now words) ⌝ }
     requires { ⌜ at + 512 ≤ length (now answer) ⌝ }
-    ensures { λ r. ⌜ Does BootNow (nameOf (Op.Boot)) (runningWith running (now (words .entry))) (record { records = now (records .entry); memory = now (memory .entry); queue = now (queue .entry) }) (now (answer .entry)) at (record { records = now (records .exit); memory = now (memory .entry); queue = now (queue .entry) }) (now (answer .exit)) (turnWith r (now (words .exit))) ⌝ }
+    ensures { λ r. ⌜ Does programBoard BootNow (nameOf (Op.Boot)) (runningWith running (now (words .entry))) (record { records = now (records .entry); memory = now (memory .entry); queue = now (queue .entry) }) (now (answer .entry)) at (record { records = now (records .exit); memory = now (memory .entry); queue = now (queue .entry) }) (now (answer .exit)) (turnWith r (now (words .exit))) ⌝ }
     ensures { λ r. ⌜ Bounded running at r ⌝ }
 {
     if running.booted {
@@ -183,7 +183,17 @@ fn boot_now(
     }
     let map = running.map;
     let count = running.count;
-    let o = boot::boot(running.counters, words, map, count, records, memory, queue);
+    let board = definition::standard();
+    let o = boot::boot(
+        board,
+        running.counters,
+        words,
+        map,
+        count,
+        records,
+        memory,
+        queue,
+    );
     let y = o.answer;
     let at = put_line(answer, at, Op::Boot, y);
     let counters = o.counters;
@@ -208,7 +218,7 @@ fn stats_now(
 ) -> Turn
     requires { ⌜ 92 ≤ length (now words) ⌝ }
     requires { ⌜ at + 512 ≤ length (now answer) ⌝ }
-    ensures { λ r. ⌜ Does (Asks Stats) (nameOf (Op.Stats)) (runningWith running (now (words .entry))) (record { records = now (records .entry); memory = now (memory .entry); queue = now (queue .entry) }) (now (answer .entry)) at (record { records = now (records .entry); memory = now (memory .entry); queue = now (queue .entry) }) (now (answer .exit)) (turnWith r (now (words .entry))) ⌝ }
+    ensures { λ r. ⌜ Does programBoard (Asks Stats) (nameOf (Op.Stats)) (runningWith running (now (words .entry))) (record { records = now (records .entry); memory = now (memory .entry); queue = now (queue .entry) }) (now (answer .entry)) at (record { records = now (records .entry); memory = now (memory .entry); queue = now (queue .entry) }) (now (answer .exit)) (turnWith r (now (words .entry))) ⌝ }
     ensures { λ r. ⌜ Bounded running at r ⌝ }
 {
     if !running.booted {
@@ -238,7 +248,7 @@ fn call_now(
 ) -> Turn
     requires { ⌜ 92 ≤ length (now words) ⌝ }
     requires { ⌜ at + 512 ≤ length (now answer) ⌝ }
-    ensures { λ r. ⌜ Does (Asks (callOf op (λ i. getD n i 0))) (askName op) (runningWith running (now (words .entry))) (record { records = now (records .entry); memory = now (memory .entry); queue = now (queue .entry) }) (now (answer .entry)) at (record { records = now (records .exit); memory = now (memory .exit); queue = now (queue .exit) }) (now (answer .exit)) (turnWith r (now (words .exit))) ⌝ }
+    ensures { λ r. ⌜ Does programBoard (Asks (callOf op (λ i. getD n i 0))) (askName op) (runningWith running (now (words .entry))) (record { records = now (records .entry); memory = now (memory .entry); queue = now (queue .entry) }) (now (answer .entry)) at (record { records = now (records .exit); memory = now (memory .exit); queue = now (queue .exit) }) (now (answer .exit)) (turnWith r (now (words .exit))) ⌝ }
     ensures { λ r. ⌜ Bounded running at r ⌝ }
 {
     if !running.booted {
@@ -271,7 +281,7 @@ fn take_turn(
 ) -> Turn
     requires { ⌜ 92 ≤ length (now words) ⌝ }
     requires { ⌜ (at + 512 ≤ length (now answer)) × (running .count + 1 < 2 ^ 64) ⌝ }
-    ensures { λ r. ⌜ Turns (runningWith running (now (words .entry))) (record { records = now (records .entry); memory = now (memory .entry); queue = now (queue .entry) }) (now (line .entry)) (now (answer .entry)) at (record { records = now (records .exit); memory = now (memory .exit); queue = now (queue .exit) }) (now (answer .exit)) (turnWith r (now (words .exit))) ⌝ }
+    ensures { λ r. ⌜ Turns programBoard (runningWith running (now (words .entry))) (record { records = now (records .entry); memory = now (memory .entry); queue = now (queue .entry) }) (now (line .entry)) (now (answer .entry)) at (record { records = now (records .exit); memory = now (memory .exit); queue = now (queue .exit) }) (now (answer .exit)) (turnWith r (now (words .exit))) ⌝ }
     ensures { λ r. ⌜ Bounded running at r ⌝ }
 {
     let read = lines::read_line(line);
@@ -297,7 +307,7 @@ fn run_all(
 ) -> usize
     requires { ⌜ now words ≡ replicate 92 0 ⌝ }
     requires { ⌜ room (now script) ≤ length (now answer) ⌝ }
-    ensures { λ r. ⌜ RanAll (now (script .entry)) (record { records = now (records .entry); memory = now (memory .entry); queue = now (queue .entry) }) (now (answer .entry)) (record { records = now (records .exit); memory = now (memory .exit); queue = now (queue .exit) }) (now (answer .exit)) r ⌝ }
+    ensures { λ r. ⌜ RanAll programBoard (now (script .entry)) (record { records = now (records .entry); memory = now (memory .entry); queue = now (queue .entry) }) (now (answer .entry)) (record { records = now (records .exit); memory = now (memory .exit); queue = now (queue .exit) }) (now (answer .exit)) r ⌝ }
 {
     let mut w = text::put_text(answer, 0, b"op,refusal,address,bytes\n");
     let mut running = fresh();
@@ -331,7 +341,7 @@ pub extern "C" fn jilakkor_run(
     queue: &mut [u64],
     answer: &mut [u8],
 ) -> usize
-    ensures { λ r. ⌜ Ran (now (script .entry)) (record { records = now (records .entry); memory = now (memory .entry); queue = now (queue .entry) }) (now (answer .entry)) (record { records = now (records .exit); memory = now (memory .exit); queue = now (queue .exit) }) (now (answer .exit)) r ⌝ }
+    ensures { λ r. ⌜ Ran programBoard (now (script .entry)) (record { records = now (records .entry); memory = now (memory .entry); queue = now (queue .entry) }) (now (answer .entry)) (record { records = now (records .exit); memory = now (memory .exit); queue = now (queue .exit) }) (now (answer .exit)) r ⌝ }
 {
     if answer.len() < 512 {
         return 0;

@@ -8,7 +8,7 @@ use borrow.Author.Tests.{ne-eqb}
 use lib.ListN.{getD}
 use Rattle.definition.specs.declared.Counters.{Counters}
 use Rattle.definition.specs.declared.Refusal.{Refusal}
-use Rattle.definition.specs.Board.{standard}
+use Rattle.definition.specs.Board.{Board}
 use Rattle.definition.specs.Calls.{Answer as AnswerOf, Call, Refused, Done, Text, Bytes, step}
 use Rattle.definition.specs.Store.{Store}
 use Rattle.definition.specs.World.{World, decode, encode}
@@ -16,12 +16,12 @@ use Rattle.definition.specs.Torn.{Left, call, sound, written as writtenWorld}
 use Rattle.bookkeeping.proofs.Answers.{answered}
 use Rattle.words.proofs.Words.{counters-again}
 use Rattle.audit.proofs.Sheets.{sound-is}
-use Rattle.world.specs.Fit.{standard-fit}
 use Rattle.world.proofs.Calling.{torn-call}
 use Rattle.world.proofs.RoundTrip.{round-trip}
 use Rattle.exam.specs.declared.Answer.{Answer}
 use Rattle.exam.specs.Promise.{told}
 use Rattle.exam.proofs.Promises.{Small}
+use Rattle.words.specs.Words.{boardIn}
 use Rattle.service.specs.Serving.{
   Lent,
   Served,
@@ -47,21 +47,21 @@ refused-by (Done a n) d = absurd (d refl)
 refused-by (Text t) d = absurd (d refl)
 refused-by (Bytes t) d = absurd (d refl)
 
-module _ (w : World) (c : Call) where
-  whole-call : sound standard w ≡ true → call standard w c ≡ writtenWorld standard w (step standard (decode standard w) c)
+module _ (board : Board) (w : World) (c : Call) where
+  whole-call : sound board w ≡ true → call board w c ≡ writtenWorld board w (step board (decode board w) c)
   unfolding call
   whole-call e = rw e refl
 
-  pub call-untouched : Small w → (told (call standard w c .answer) .number ≡ 0 → ⊥) → call standard w c .world ≡ w
-  call-untouched small d = go (sound standard w) refl
+  pub call-untouched : Small w → (told (call board w c .answer) .number ≡ 0 → ⊥) → call board w c .world ≡ w
+  call-untouched small d = go (sound board w) refl
     where
-      go : (t : Bool) → sound standard w ≡ t → call standard w c .world ≡ w
-      go false e = ap (λ (x : Left). x .world) (torn-call standard w c e)
+      go : (t : Bool) → sound board w ≡ t → call board w c .world ≡ w
+      go false e = ap (λ (x : Left). x .world) (torn-call board w c e)
       go true e =
-          let f = refused-by (step standard (decode standard w) c .answer) (rw (whole-call e) at d) in
+          let f = refused-by (step board (decode board w) c .answer) (rw (whole-call e) at d) in
           ap (λ (x : Left). x .world) (whole-call e)
-          ∙ ap (λ (s : Store). encode standard s w) (answered standard (decode standard w) c .untouched (f .0) (f .1))
-          ∙ round-trip standard-fit w (sound-is standard w e) small
+          ∙ ap (λ (s : Store). encode board s w) (answered board (decode board w) c .untouched (f .0) (f .1))
+          ∙ round-trip w (sound-is board w e) small
 
 -- ---- the words and the answer
 
@@ -70,11 +70,11 @@ unfolding tells
 tells-none y ys d = rw (ne-eqb (y .number) 0 d) refl
 
 module _ (c : Call) (l : Lent) where
-  serves-made : isLent l ≡ true → served c l ≡ written stateOver l (call standard (worldIn l) c)
+  serves-made : isLent l ≡ true → served c l ≡ written stateOver l (call (boardIn (l .words)) (worldIn l) c)
   unfolding served
   serves-made e = rw e refl
 
-  serves-with-made : (k : Counters) → isLentKept l ≡ true → servedWith c k l ≡ countedBy l (call standard (worldWith k l) c)
+  serves-with-made : (k : Counters) → isLentKept l ≡ true → servedWith c k l ≡ countedBy l (call (boardIn (l .words)) (worldWith k l) c)
   unfolding servedWith
   serves-with-made k e = rw e refl
 
@@ -88,11 +88,11 @@ module _ (c : Call) (l : Lent) (small : (i : ℕ) → getD (l .records) i 0 < 25
       go false e = ap (λ (x : Served). x .lent) (serves-torn c l e)
       go true e =
           let m = serves-made c l e in
-          let n : told (call standard (worldIn l) c .answer) .number ≡ 0 → ⊥ = rw m at d in
+          let n : told (call (boardIn (l .words)) (worldIn l) c .answer) .number ≡ 0 → ⊥ = rw m at d in
           ap (λ (x : Served). x .lent) m
           ∙ rw (
-            call-untouched (worldIn l) c small n,
-            tells-none (told (call standard (worldIn l) c .answer)) (l .answer) n,
+            call-untouched (boardIn (l .words)) (worldIn l) c small n,
+            tells-none (told (call (boardIn (l .words)) (worldIn l) c .answer)) (l .answer) n,
             kept-same l (lent-kept l e) (worldIn l .counters),
             counters-again (l .words) (lent-long l e),
           ) refl
@@ -105,10 +105,10 @@ module _ (c : Call) (l : Lent) (small : (i : ℕ) → getD (l .records) i 0 < 25
       go false e = rw (serves-with-torn c l k e) (refl, refl)
       go true e =
           let m = serves-with-made c l k e in
-          let n : told (call standard (worldWith k l) c .answer) .number ≡ 0 → ⊥ = rw m at d in
+          let n : told (call (boardIn (l .words)) (worldWith k l) c .answer) .number ≡ 0 → ⊥ = rw m at d in
           rw (
             m,
-            call-untouched (worldWith k l) c small n,
-            tells-none (told (call standard (worldWith k l) c .answer)) (l .answer) n,
+            call-untouched (boardIn (l .words)) (worldWith k l) c small n,
+            tells-none (told (call (boardIn (l .words)) (worldWith k l) c .answer)) (l .answer) n,
             kept-same l e k,
           ) (refl, refl)

@@ -12,7 +12,7 @@ use Rattle.definition.specs.declared.Counters.{Counters}
 use Rattle.definition.specs.declared.MemoryRegion.{MemoryRegion}
 use Rattle.definition.specs.declared.Refusal.{Refusal}
 use Rattle.definition.specs.declared.Refusal.the-variants.{Torn}
-use Rattle.definition.specs.Board.{standard}
+use Rattle.definition.specs.Board.{Board, standard}
 use Rattle.definition.specs.Boot.{bootSheet}
 use Rattle.definition.specs.Refusal.{lowest}
 use Rattle.definition.specs.Calls.{Answer as AnswerOf, Call, Read, Refused, Done, Text, Bytes, Stats, answerNumber, names, perform, sheet, step, unlessRefused}
@@ -20,7 +20,7 @@ use Rattle.definition.specs.World.{World, decode}
 use Rattle.definition.specs.Torn.{bootCall, booted as bootedWorld, call, sound, untouched, unlessRefused as unlessBootRefused, written as writtenWorld}
 use Rattle.definition.proofs.Tests.{and-left, and-right}
 use Rattle.record.specs.Records.{withBytes}
-use Rattle.words.specs.Words.{Beside, wordIn, isKept, countersIn, counterWords}
+use Rattle.words.specs.Words.{boardIn, Beside, wordIn, isKept, countersIn, counterWords}
 use Rattle.words.proofs.Words.{beside-same, kept-again, kept-from, counters-again}
 use Rattle.world.specs.Refusals.{numberIf}
 use Rattle.exam.specs.declared.Answer.{Answer}
@@ -100,7 +100,7 @@ module _ (c : Call) (l : Lent) where
 -- ---- a call that is made: it leaves words that stand beside those that it was given, so that they are these with its state written over them
 
 module _ {c : Call} (l : Lent) (k : Counters) {k′ : Counters} {words records memory queue : List ℕ} {y : Answer}
-    (L : Leaves (worldWith k l) c (worldOf (stateWith k′ words) records memory queue) y)
+    (L : Leaves (boardIn (l .words)) (worldWith k l) c (worldOf (stateWith k′ words) records memory queue) y)
     {answer : List ℕ} {r : ℕ} (told-answer : answer ≡ tells y (l .answer)) (told-number : r ≡ y .number) (e : isLentKept l ≡ true) where
   pub serves-with : length words ≡ length (l .words) → Beside (l .words) words
       → ServesWith c k l k′ (record { words = words; records = records; memory = memory; queue = queue; answer = answer }) r
@@ -171,11 +171,11 @@ module _ (a off len : ℕ) (l : Lent) where
         bytes = λ z. absurd (omega arith);
       }
 
-  module _ (k : Counters) {p : Place} (F : Finds (worldWith k l) (Read a off len) len p) (e : isLentKept l ≡ true)
+  module _ (k : Counters) {p : Place} (F : Finds (boardIn (l .words)) (worldWith k l) (Read a off len) len p) (e : isLentKept l ≡ true)
       {answer : List ℕ} {r : ℕ} (told-answer : answer ≡ tells (record { number = p .number; address = p .at; bytes = len }) (l .answer)) (number : r ≡ p .number) where
     read-number : r ≡ servedWith (Read a off len) k l .served .number
     unfolding servedWith
-    read-number = rw e (number ∙ F .numbers .number ∙ answer-number (call standard (worldWith k l) (Read a off len) .answer))
+    read-number = rw e (number ∙ F .numbers .number ∙ answer-number (call (boardIn (l .words)) (worldWith k l) (Read a off len) .answer))
 
     placed : r ≡ 0 → wordIn answer 0 ≡ p .at
     unfolding tells withBytes
@@ -202,38 +202,38 @@ module _ (a off len : ℕ) (l : Lent) where
 
 -- ---- the statistics
 
-stats-or : (w : World) (t : Bool) (o : Option Refusal)
-    → let x = cond t (writtenWorld standard w (unlessRefused (decode standard w) o (perform standard (decode standard w) Stats))) (untouched w Torn) .answer in
+stats-or : (b : Board) (w : World) (t : Bool) (o : Option Refusal)
+    → let x = cond t (writtenWorld b w (unlessRefused (decode b w) o (perform b (decode b w) Stats))) (untouched w Torn) .answer in
     told x .bytes ≡ length (textOf x)
 unfolding perform
-stats-or w false o = refl
-stats-or w true (some r) = refl
-stats-or w true none = refl
+stats-or b w false o = refl
+stats-or b w true (some r) = refl
+stats-or b w true none = refl
 
 -- they answer a text, or a refusal and none
-stats-bytes : (w : World) → told (call standard w Stats .answer) .bytes ≡ length (textOf (call standard w Stats .answer))
+stats-bytes : (b : Board) (w : World) → told (call b w Stats .answer) .bytes ≡ length (textOf (call b w Stats .answer))
 unfolding call step
-stats-bytes w = stats-or w (sound standard w) (lowest (sheet standard (decode standard w) (names Stats)))
+stats-bytes b w = stats-or b w (sound b w) (lowest (sheet b (decode b w) (names Stats)))
 
 -- no more text than the report's array holds
-pub report-short : {w : World} {p : Report} → ReportsOf w p → p .len ≤ length (p .text)
-report-short {w} {p} R =
-    let e : told (call standard w Stats .answer) .bytes ≡ p .len = ap (λ (y : Answer). y .bytes) (R .answer) in
-    omega (arith, stats-bytes w, simp length-take at (ap length (R .text)))
+pub report-short : {b : Board} {w : World} {p : Report} → ReportsOf b w p → p .len ≤ length (p .text)
+report-short {b} {w} {p} R =
+    let e : told (call b w Stats .answer) .bytes ≡ p .len = ap (λ (y : Answer). y .bytes) (R .answer) in
+    omega (arith, stats-bytes b w, simp length-take at (ap length (R .text)))
 
 cond-same : {O : Type 0} (t : Bool) (x : O) → cond t x x ≡ x
 cond-same true x = refl
 cond-same false x = refl
 
-module _ {O : Type 0} (fit : Bool) (w : World) {made refused : O} (text : List ℕ) where
-  pub reports-short : length text < 368 → ReportsBy O fit w made refused refused text text
+module _ {b : Board} {O : Type 0} (fit : Bool) (w : World) {made refused : O} (text : List ℕ) where
+  pub reports-short : length text < 368 → ReportsBy b O fit w made refused refused text text
   reports-short h = let n = lt-leb 368 (length text) h in record { loans = rw n refl; report = rw n refl }
 
-  pub reports-torn : fit ≡ false → made ≡ refused → ReportsBy O fit w made refused refused text text
+  pub reports-torn : fit ≡ false → made ≡ refused → ReportsBy b O fit w made refused refused text text
   reports-torn e m = record { loans = rw m (cond-same (leb 368 (length text)) refused); report = rw (e, and-false (leb 368 (length text))) refl }
 
 module _ (l : Lent) (text : List ℕ) where
-  pub reports : (k : Counters) {p : Report} → ReportsOf (worldWith k l) p
+  pub reports : (k : Counters) {p : Report} → ReportsOf (boardIn (l .words)) (worldWith k l) p
       → {answer text′ : List ℕ} {r : ℕ} → answer ≡ tells (record { number = p .number; address = 0; bytes = p .len }) (l .answer) → r ≡ p .number
       → 368 ≤ length text → isLentKept l ≡ true
       → text′ ≡ withBytes text 0 (take (p .len) (p .text))
@@ -260,14 +260,14 @@ module _ (l : Lent) (text : List ℕ) where
 
 -- ---- a boot
 
-boot-or : (ms : List MemoryRegion) (w : World) (o : Option Refusal)
-    → let x = unlessBootRefused w o (bootedWorld standard ms w) in (told (x .answer) .number ≡ 0 → ⊥) → x .world ≡ w
-boot-or ms w (some r) d = refl
-boot-or ms w none d = absurd (d refl)
+boot-or : (b : Board) (ms : List MemoryRegion) (w : World) (o : Option Refusal)
+    → let x = unlessBootRefused w o (bootedWorld b ms w) in (told (x .answer) .number ≡ 0 → ⊥) → x .world ≡ w
+boot-or b ms w (some r) d = refl
+boot-or b ms w none d = absurd (d refl)
 
-boot-leaves : (ms : List MemoryRegion) (w : World) → (told (bootCall standard ms w .answer) .number ≡ 0 → ⊥) → bootCall standard ms w .world ≡ w
+boot-leaves : (b : Board) (ms : List MemoryRegion) (w : World) → (told (bootCall b ms w .answer) .number ≡ 0 → ⊥) → bootCall b ms w .world ≡ w
 unfolding bootCall
-boot-leaves ms w = boot-or ms w (lowest (bootSheet standard ms (length (w .records)) (length (w .memory))))
+boot-leaves b ms w = boot-or b ms w (lowest (bootSheet b ms (length (w .records)) (length (w .memory))))
 
 module _ (l : Lent) (e : isRoomyKept l ≡ true) where
   pub roomy-words : 92 ≤ length (l .words)
@@ -290,12 +290,12 @@ module _ (ms : List MemoryRegion) (l : Lent) where
 
   -- one that is made: refused it leaves all loans as they were, accepted it has written them
   module _ (k : Counters) {k′ : Counters} {words records : List ℕ} {y : Answer} (e : isRoomyKept l ≡ true)
-      (B : BootsOf ms (worldWith k l) (worldOf (stateWith k′ words) records (l .memory) (l .queue)) y) (O : BootsOver (l .words) words y)
+      (B : BootsOf standard ms (worldWith k l) (worldOf (stateWith k′ words) records (l .memory) (l .queue)) y) (O : BootsOver (l .words) words y)
       {answer : List ℕ} {r : ℕ} (told-answer : answer ≡ tells y (l .answer)) (told-number : r ≡ y .number) where
     same-world : eqb (y .number) 0 ≡ false → worldOf (stateWith k′ words) records (l .memory) (l .queue) ≡ worldWith k l
     same-world f =
         sym (B .world)
-        ∙ boot-leaves ms (worldWith k l) (λ z. eqb-false (y .number) 0 f (sym (ap (λ (x : Answer). x .number) (B .answer)) ∙ z))
+        ∙ boot-leaves standard ms (worldWith k l) (λ z. eqb-false (y .number) 0 f (sym (ap (λ (x : Answer). x .number) (B .answer)) ∙ z))
 
     abbrev pub bootLeaves : Counted
     bootLeaves = record { counters = k′; served = refusedAs (record { words = words; records = records; memory = l .memory; queue = l .queue; answer = answer }) r }

@@ -10,7 +10,7 @@ use lib.Dec.{eqb, leb}
 use lib.ListN.{length, take, drop}
 use Rattle.definition.specs.declared.Counters.{Counters}
 use Rattle.definition.specs.declared.MemoryRegion.{MemoryRegion}
-use Rattle.definition.specs.Board.{standard}
+use Rattle.definition.specs.Board.{Board, standard}
 use Rattle.definition.specs.Boot.{bootSheet}
 use Rattle.definition.specs.Refusal.{lowest}
 use Rattle.definition.specs.Calls.{Call, Read, Stats}
@@ -22,7 +22,7 @@ use Rattle.exam.specs.declared.Answer.{Answer}
 use Rattle.exam.specs.Promise.{told}
 use Rattle.counts.specs.Counting.{textOf}
 use Rattle.copies.specs.Copies.{bytesOf}
-use Rattle.words.specs.Words.{wordIn, keptWords, stateWords, rowsIn, queuedIn, passIn, countersIn, isKept, keptIn, keptOf, counterWords}
+use Rattle.words.specs.Words.{boardIn, wordIn, keptWords, stateWords, rowsIn, queuedIn, passIn, countersIn, isKept, keptIn, keptOf, counterWords}
 
 -- the loans of a call, whole
 pub record Lent : Type 0 where
@@ -99,7 +99,7 @@ abbrev pub isLent : Lent → Bool
 isLent l = leb stateWords (length (l .words)) && (isKept (l .words) && hasRoom l)
 
 unfoldable pub served : Call → Lent → Served
-served c l = cond (isLent l) (written stateOver l (call standard (worldIn l) c)) (refusedAs l 6)
+served c l = cond (isLent l) (written stateOver l (call (boardIn (l .words)) (worldIn l) c)) (refusedAs l 6)
 
 abbrev pub Serves : Call → Lent → Lent → ℕ → Type 0
 Serves c l l′ r = served c l ≡ record { lent = l′; number = r }
@@ -122,7 +122,7 @@ abbrev pub stays : Counters → Lent → ℕ → Counted
 stays k l n = record { counters = k; served = refusedAs l n }
 
 unfoldable pub servedWith : Call → Counters → Lent → Counted
-servedWith c k l = cond (isLentKept l) (countedBy l (call standard (worldWith k l) c)) (stays k l 6)
+servedWith c k l = cond (isLentKept l) (countedBy l (call (boardIn (l .words)) (worldWith k l) c)) (stays k l 6)
 
 abbrev pub ServesWith : Call → Counters → Lent → Counters → Lent → ℕ → Type 0
 ServesWith c k l k′ l′ r = servedWith c k l ≡ record { counters = k′; served = record { lent = l′; number = r } }
@@ -130,17 +130,17 @@ ServesWith c k l k′ l′ r = servedWith c k l ≡ record { counters = k′; se
 -- ---- a call that answers by bytes, in either form of the counters: `w` is the world that the loans hold
 
 -- the statistics stand in front of the text, which has room for 368 bytes; else the call is refused 6. Where there is room, `made` is what the call leaves.
-pub record ReportsBy (O : Type 0) (fit : Bool) (w : World) (made refused left : O) (text text′ : List ℕ) : Type 0 where
+pub record ReportsBy (b : Board) (O : Type 0) (fit : Bool) (w : World) (made refused left : O) (text text′ : List ℕ) : Type 0 where
   pub loans : cond (leb 368 (length text)) made refused ≡ left
-  pub report : text′ ≡ cond (leb 368 (length text) && fit) (withBytes text 0 (textOf (call standard w Stats .answer))) text
+  pub report : text′ ≡ cond (leb 368 (length text) && fit) (withBytes text 0 (textOf (call b w Stats .answer))) text
 
 abbrev pub Reports : Lent → List ℕ → Lent → List ℕ → ℕ → Type 0
 Reports l text l′ text′ r =
-    ReportsBy Served (isLent l) (worldIn l) (served Stats l) (refusedAs l 6) (record { lent = l′; number = r }) text text′
+    ReportsBy (boardIn (l .words)) Served (isLent l) (worldIn l) (served Stats l) (refusedAs l 6) (record { lent = l′; number = r }) text text′
 
 abbrev pub ReportsWith : Counters → Lent → List ℕ → Counters → Lent → List ℕ → ℕ → Type 0
 ReportsWith k l text k′ l′ text′ r =
-    ReportsBy Counted (isLentKept l) (worldWith k l) (servedWith Stats k l) (stays k l 6)
+    ReportsBy (boardIn (l .words)) Counted (isLentKept l) (worldWith k l) (servedWith Stats k l) (stays k l 6)
     (record { counters = k′; served = record { lent = l′; number = r } }) text text′
 
 -- a read tells where the bytes stand in the lent memory, and how many they are; `n` is the number of the call
@@ -151,7 +151,7 @@ pub record PlacesBy (w : World) (n : ℕ) (a off len : ℕ) (l l′ : Lent) (r :
   pub memory : l′ .memory ≡ l .memory
   pub queue : l′ .queue ≡ l .queue
   pub answer : l′ .answer ≡ cond (eqb r 0) (withBytes (l .answer) 0 (wordIn (l′ .answer) 0 ∷ len ∷ [])) (l .answer)
-  pub bytes : r ≡ 0 → take len (drop (wordIn (l′ .answer) 0) (l .memory)) ≡ bytesOf (call standard w (Read a off len) .answer)
+  pub bytes : r ≡ 0 → take len (drop (wordIn (l′ .answer) 0) (l .memory)) ≡ bytesOf (call (boardIn (l .words)) w (Read a off len) .answer)
 
 abbrev pub Places : (a off len : ℕ) → Lent → Lent → ℕ → Type 0
 Places a off len l = PlacesBy (worldIn l) (served (Read a off len) l .number) a off len l

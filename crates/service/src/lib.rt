@@ -371,7 +371,7 @@ fn is_roomy(words: &[u64], answer: &[u64]) -> bool
 fn short_boot(map: [MemoryRegion; 8], count: usize, records: usize, memory: usize) -> u32
     ensures { λ r. ⌜ ShortBoots map count records memory r ⌝ }
 {
-    let number = boot::refusal_of_map(map, count, records, memory);
+    let number = boot::refusal_of_map(definition::standard(), map, count, records, memory);
     if number == 0 {
         return 5;
     }
@@ -395,7 +395,8 @@ pub fn serve_boot_with(
         let number = short_boot(map, count, records.len(), memory.len());
         return Counted { counters, number };
     }
-    let o = boot::boot(counters, words, map, count, records, memory, queue);
+    let board = definition::standard();
+    let o = boot::boot(board, counters, words, map, count, records, memory, queue);
     let fresh = o.counters;
     let number = tell(answer, o.answer);
     Counted {

@@ -9,7 +9,7 @@ use mathlib.Core.Path.{_≡_, refl, sym, ap, _∙_}
 use native.Mathlib.Omega.{arith}
 use lib.Dec.{eqb}
 use lib.ListN.{length}
-use Rattle.world.specs.Fit.{Fit}
+use Rattle.definition.specs.Board.{Fit}
 use Rattle.definition.specs.declared.MemoryRegion.{MemoryRegion}
 use Rattle.definition.specs.declared.Refusal.{Refusal}
 use Rattle.definition.specs.declared.Refusal.the-variants.{Torn}
@@ -25,7 +25,7 @@ use Rattle.definition.specs.World.{World, memoryOf, encode}
 use Rattle.definition.proofs.Tests.{and-left, and-right}
 use Rattle.bookkeeping.specs.Claim.{State}
 use Rattle.bookkeeping.proofs.Answers.{answered}
-use Rattle.bookkeeping.proofs.Bookkeeping.{bookkeepingOf}
+use Rattle.bookkeeping.proofs.Bookkeeping.{bookkeeping}
 use Rattle.theorems.specs.Demands.{Accepted, BootAnswered, Answered, Along, Demand3}
 use Rattle.theorems.specs.Demands.Along.{along-none, along-more}
 use Rattle.theorems.proofs.Runs.{Holds, holds-sound, holds-decode, call-is, call-holds, all-hold, all-booked, boot-accepted, boot-holds}
@@ -95,9 +95,10 @@ module _ {board : Board} (fit : Fit board) where
       let H = boot-holds board fit map w ok in
       let K = all-hold fit H calls in
       let claim =
-      bookkeepingOf board (omega (arith, fit .least)) map (length (w .records)) (length (w .memory)) (boot-accepted board map w ok) (memoryOf board (w .memory) (keptRegions board map))
+      bookkeeping fit map (length (w .records)) (length (w .memory)) (boot-accepted board map w ok) (memoryOf board (w .memory) (keptRegions board map))
       (length (w .queue)) calls in
       record {
+        regions = ap (λ k. k .regions) (all-booked fit H calls) ∙ K .kept;
         afterwards = rw (holds-decode fit K, all-booked fit H calls) (claim .afterwards);
         whole = holds-sound fit K;
         along = all-answered fit H calls;

@@ -8,8 +8,9 @@ use mathlib.Core.Path.{_≡_, refl, sym, ap, _∙_, subst}
 use native.Mathlib.Omega.{arith}
 use lib.ListN.{length, getD, length-append, List·getD-append}
 use lib.Seq.{getD-append-add}
-use Rattle.world.proofs.Bytes.{address-is, byte-inside, offset-small, pages-none, pages-sum}
-use Rattle.world.specs.Fit.{Fit}
+use Rattle.definition.proofs.Boards.{page-positive}
+use Rattle.definition.proofs.Bytes.{address-is, byte-inside, offset-small, pages-none, pages-sum}
+use Rattle.definition.specs.Board.{Fit}
 use Rattle.definition.specs.declared.Record.{Record}
 use Rattle.definition.specs.Basics.{any, sum, range}
 use Rattle.definition.specs.Board.{Board}
@@ -187,7 +188,7 @@ module _ (board : Board) (fit : Fit board) where
             let i : ℕ = board .page * (a / board .page - first board r) + a % board .page in
             let sums = pages-sum (board .page) {p = a / board .page} (first board r) (a / board .page - first board r) (omega arith) in
             let k : board .page * first board r + i ≡ a = omega (arith, sums, address-is (board .page) a) in
-            let low : i < board .page * managed board r = byte-inside (board .page) (a / board .page - first board r) (managed board r) (a % board .page) (omega arith) (offset-small (board .page) (omega (arith, fit .least)) a) in
+            let low : i < board .page * managed board r = byte-inside (board .page) (a / board .page - first board r) (managed board r) (a % board .page) (omega arith) (offset-small (board .page) (page-positive fit) a) in
             byte-after pre (here ++ rest ++ xs) i (board .page * pageNumber board base r (a / board .page) + a % board .page) (omega arith)
             ∙ (ap (λ (l : List ℕ). getD l i 0) (append-assoc here rest xs)
             ∙ (List·getD-append here (rest ++ xs) 0 i (omega (arith, run-length (board .page * first board r) (board .page * managed board r)))

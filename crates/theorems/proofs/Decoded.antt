@@ -2,16 +2,16 @@
 -- its memory. A reader takes from here that a world holds all of a store whose memory is 0 wherever no region manages it.
 use Prim.Native.Nat.{ℕ, zero, suc, _+_, _-_, _/_, _≤_}
 use mathlib.Core.Bool.{Bool, true, false, cond, _||_}
-use mathlib.Core.List.{List, [], _∷_, map}
+use mathlib.Core.List.{List, _∷_, map}
 use mathlib.Core.Option.{none, some}
 use mathlib.Core.Path.{_≡_, refl, sym, ap, ap₂, _∙_, fun-ext}
 use native.Mathlib.Omega.{arith}
 use lib.ListN.{length, take, drop}
 use lib.Seq.{take-at}
-use Rattle.world.proofs.Bytes.{pages-of}
-use Rattle.world.specs.Fit.{Fit}
+use Rattle.definition.proofs.Boards.{page-positive}
+use Rattle.definition.proofs.Bytes.{pages-of}
+use Rattle.definition.specs.Board.{Fit}
 use Rattle.definition.specs.declared.Counters.{Counters}
-use Rattle.definition.specs.declared.MemoryRegion.{MemoryRegion}
 use Rattle.definition.specs.declared.Pass.{Pass}
 use Rattle.definition.specs.declared.Record.{Record}
 use Rattle.definition.specs.Basics.{any}
@@ -86,11 +86,11 @@ module _ {board : Board} (fit : Fit board) where
 
     region-back : (f : ℕ → Record) (base : ℕ) → Sheet board f fs base r → decodeRow board f base (encodeRow board base r) ≡ r
     region-back f base S =
-        same-region (pages-of (board .page) (omega (arith, fit .least)) (r .start)) refl
+        same-region (pages-of (board .page) (page-positive fit) (r .start)) refl
         (fun-ext (λ k.
         ap (map (λ (q : ℕ). first board (bareRegion board (encodeRow board base r)) + (q - base))) (S .lists k)
         ∙ map-back (λ (q : ℕ). first board (bareRegion board (encodeRow board base r)) + (q - base)) (pageNumber board base r)
-        (all-to (λ q i. omega (arith, pages-of (board .page) (omega (arith, fit .least)) (r .start))) (free-low k))))
+        (all-to (λ q i. omega (arith, pages-of (board .page) (page-positive fit) (r .start))) (free-low k))))
 
   regions-back : {f : ℕ → Record} {fs : Frames} {base : ℕ} {rs : List AllocationRegion} → All (Kept board fs) rs → Sheets board f fs base rs
       → decodeRows board f base (encodeRows board base rs) ≡ rs
@@ -135,7 +135,7 @@ either-way true h = refl
 either-way false h = sym (h refl)
 
 module _ {board : Board} (fit : Fit board) where
-  module _ {map : List MemoryRegion} {s : Store} {k : Book} (w : World) (G : Good board map s k) (F : Fits board s w) (Z : ZeroElsewhere board s) where
+  module _ {s : Store} {k : Book} (w : World) (G : Good board s k) (F : Fits board s w) (Z : ZeroElsewhere board s) where
     abbrev rs : List AllocationRegion
     rs = s .allocator .regions
 
@@ -147,7 +147,7 @@ module _ {board : Board} (fit : Fit board) where
 
     used-are : usedRows (v .rows) ≡ encodeRows board 0 rs
     unfolding encode
-    used-are = used-rows (G .asBoot)
+    used-are = used-rows (G .placed .asBoot)
 
     regions-are : decodeRows board (recordAt (v .records)) 0 (usedRows (v .rows)) ≡ rs
     regions-are = ap (decodeRows board (recordAt (v .records)) 0) used-are ∙ regions-back fit (good-kept G) (all-regions fit w G F)

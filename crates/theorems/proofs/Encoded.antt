@@ -2,12 +2,11 @@
 -- store. A reader takes from here that the bytes which a call leaves pass the test that the next call makes of them.
 use Prim.Native.Nat.{ℕ, _+_, _*_, _≤_}
 use mathlib.Core.Bool.{Bool, true, false}
-use mathlib.Core.List.{List, [], _∷_, map}
+use mathlib.Core.List.{List, [], _∷_}
 use mathlib.Core.Path.{_≡_, refl, sym, ap, ap₂, _∙_}
 use native.Mathlib.Omega.{arith}
 use borrow.Author.Tests.{le-leb, eq-eqb}
 use lib.ListN.{length, length-append, length-drop}
-use Rattle.definition.specs.declared.MemoryRegion.{MemoryRegion}
 use Rattle.definition.specs.declared.Record.{Record}
 use Rattle.definition.specs.Basics.{all, sum}
 use Rattle.definition.specs.Board.{Board}
@@ -20,7 +19,7 @@ use Rattle.definition.specs.World.{World, encodeRows, encode}
 use Rattle.definition.specs.Torn as Torn
 use Rattle.definition.specs.Torn.{Placed, placed, placedFrom, recordsOf, regionsOf, loansLong, tiled, heldAlone, listsWalk, unheldListed, Sound, sound}
 use Rattle.definition.proofs.Tests.{and-true}
-use Rattle.world.specs.Fit.{Fit}
+use Rattle.definition.specs.Board.{Fit}
 use Rattle.world.proofs.Sheets.{managed-most}
 use Rattle.world.proofs.Spans.{managed-spans}
 use Rattle.bookkeeping.specs.Blocks.{All, tables}
@@ -85,7 +84,7 @@ module _ (board : Board) where
     pub queue : s .room ≡ length (w .queue)
 
 module _ {board : Board} (fit : Fit board) where
-  module _ {map : List MemoryRegion} {s : Store} {k : Book} (w : World) (G : Good board map s k) (F : Fits board s w) where
+  module _ {s : Store} {k : Book} (w : World) (G : Good board s k) (F : Fits board s w) where
     abbrev rs : List AllocationRegion
     rs = s .allocator .regions
 
@@ -97,7 +96,7 @@ module _ {board : Board} (fit : Fit board) where
 
     pub written-records : Written board (recordsOf v) fs 0 rs
     unfolding encode
-    written-records = regions-written board fs rs _ (all-fitting 0 (good-kept G) (omega (arith, managed-most board rs, G .pages)))
+    written-records = regions-written board fs rs _ (all-fitting 0 (good-kept G) (omega (arith, managed-most board rs, G .placed .pages)))
 
     pub all-regions : Sheets board (recordsOf v) fs 0 rs
     all-regions = all-sheets fit (good-kept G) written-records
@@ -108,7 +107,7 @@ module _ {board : Board} (fit : Fit board) where
 
     pub placed-are : placed board (v .rows) ≡ placedIn board 0 rs
     unfolding encode
-    placed-are = ap (placedFrom board 0) (used-rows (G .asBoot))
+    placed-are = ap (placedFrom board 0) (used-rows (G .placed .asBoot))
 
     pub records-length : length (v .records) ≡ length (w .records)
     unfolding encode
@@ -127,11 +126,11 @@ module _ {board : Board} (fit : Fit board) where
     loans =
         let m : managedPages board (regionsOf board (v .rows)) ≡ managedPages board rs =
         ap (λ l. managedPages board (regionsOf board l)) rows-are
-        ∙ (ap (managedPages board) (regions-bare fit (G .asBoot)) ∙ managed-spans board .same rs) in
+        ∙ (ap (managedPages board) (regions-bare fit (G .placed .asBoot)) ∙ managed-spans board .same rs) in
         rw (m, records-length, memory-as-long) (and-true (le-leb _ _ (F .records)) (le-leb _ _ (F .memory)))
 
     totals : total (regionsOf board (v .rows)) ≡ total rs
-    totals = ap (λ l. total (regionsOf board l)) rows-are ∙ (ap total (regions-bare fit (G .asBoot)) ∙ total-bare rs)
+    totals = ap (λ l. total (regionsOf board l)) rows-are ∙ (ap total (regions-bare fit (G .placed .asBoot)) ∙ total-bare rs)
 
     idle : sum (λ r. listedPages r + tables board r) rs ≡ Torn.idlePages board (placed board (v .rows))
     unfolding Torn.idlePages
@@ -151,7 +150,7 @@ module _ {board : Board} (fit : Fit board) where
     unfolding encode tiled heldAlone listsWalk unheldListed
     encoded =
         record {
-          rows = rw rows-are (rows-sound fit (G .asBoot) (G .few) (G .apart) (G .pages));
+          rows = rw rows-are (rows-sound fit (G .placed .asBoot) (G .placed .few) (G .placed .apart) (G .placed .pages));
           loans = loans;
           tiling = rw placed-are (each-row _ (λ base r S. S .tiled) all-regions);
           alone = rw placed-are (each-row _ (λ base r S. S .alone) all-regions);
@@ -181,5 +180,5 @@ module _ {board : Board} where
       (and-true (S .totals) (and-true (S .kernel) (and-true (S .page) (and-true (S .waiting) (and-true (S .queue) (S .pass))))))))))))
 
 module _ {board : Board} (fit : Fit board) where
-  pub encoded-sound : {map : List MemoryRegion} {s : Store} {k : Book} (w : World) → Good board map s k → Fits board s w → sound board (encode board s w) ≡ true
+  pub encoded-sound : {s : Store} {k : Book} (w : World) → Good board s k → Fits board s w → sound board (encode board s w) ≡ true
   encoded-sound {s = s} w G F = sound-test (encode board s w) (encoded fit w G F)

@@ -9,7 +9,6 @@ use native.Mathlib.Decide.{ℕ-discrete, decLt}
 use native.Mathlib.Omega.{arith}
 use borrow.Author.Tests.{lt-leb}
 use lib.Dec.{leb}
-use Rattle.definition.specs.declared.MemoryRegion.{MemoryRegion}
 use Rattle.definition.specs.Basics.{any}
 use Rattle.definition.specs.Board.{Board}
 use Rattle.definition.specs.Frame.{Frame, Frames, size}
@@ -131,5 +130,5 @@ module _ {board : Board} where
       go false c i rest = or-else (contains board r q) (isManaged board rs q) (λ n. rest i)
 
   -- the regions of a good store
-  pub good-kept : {map : List MemoryRegion} {s : Store} {k : Book} → Good board map s k → All (Kept board (s .allocator .frames)) (s .allocator .regions)
-  good-kept G = all-kept (G .asBoot) (G .tiled) (G .lists) (G .six)
+  pub good-kept : {s : Store} {k : Book} → Good board s k → All (Kept board (s .allocator .frames)) (s .allocator .regions)
+  good-kept G = all-kept (G .placed .asBoot) (G .tiled) (G .lists) (G .six)

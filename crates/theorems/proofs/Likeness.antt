@@ -7,7 +7,7 @@ use mathlib.Core.Option.{Option, none, some}
 use mathlib.Core.Path.{_≡_, refl, sym, ap, ap₂, _∙_, subst}
 use native.Mathlib.Omega.{arith}
 use lib.ListN.{length}
-use Rattle.world.specs.Fit.{Fit}
+use Rattle.definition.specs.Board.{Fit}
 use Rattle.definition.specs.declared.MemoryRegion.{MemoryRegion}
 use Rattle.definition.specs.declared.Refusal.{Refusal}
 use Rattle.definition.specs.Basics.{isSome}
@@ -23,35 +23,35 @@ use Rattle.definition.specs.Torn.{bootCall, booted}
 use Rattle.definition.specs.World.{World, memoryOf}
 use Rattle.definition.proofs.Tests.{and-left}
 use Rattle.likeness.specs.Likeness.{Sane, groundAlong}
-use Rattle.likeness.proofs.Likeness.{alike-run}
+use Rattle.likeness.proofs.Likeness.{likeness-run}
 use Rattle.bookkeeping.specs.Claim as Claim
 use Rattle.bookkeeping.specs.Claim.{State, next, after, Bookkeeping}
 use Rattle.bookkeeping.specs.Good.{Good}
-use Rattle.bookkeeping.proofs.Bookkeeping.{bookkeepingOf}
+use Rattle.bookkeeping.proofs.Bookkeeping.{bookkeeping}
 use Rattle.theorems.specs.Demands.{Accepted, groundAll, Demand2}
-use Rattle.theorems.proofs.Runs.{Holds, keptPages, holds-decode, call-holds, all-hold, all-answers, stores-same, boot-accepted, boot-holds}
+use Rattle.theorems.proofs.Runs.{Holds, holds-decode, call-holds, all-hold, all-answers, stores-same, boot-accepted, boot-holds}
 use Rattle.theorems.proofs.Sanity.{sane-of}
 
 -- ---- the stores after an accepted boot
 
 module _ (board : Board) where
-  record Reached (map : List MemoryRegion) (s : Store) : Type 0 where
+  record Reached (s : Store) : Type 0 where
     state : State
     is : state .store ≡ s
-    good : (cs : List Call) → Good board map (after board (keptPages board map) state cs .store) (after board (keptPages board map) state cs .book)
-    books : (cs : List Call) → Bookkeeping board map (after board (keptPages board map) state cs .store) (after board (keptPages board map) state cs .book)
+    good : (cs : List Call) → Good board (after board state cs .store) (after board state cs .book)
+    books : (cs : List Call) → Bookkeeping board (after board state cs .store) (after board state cs .book)
 
 module _ {board : Board} (fit : Fit board) where
-  reached-sane : {map : List MemoryRegion} (s : Store) → Reached board map s → Sane s
+  reached-sane : (s : Store) → Reached board s → Sane s
   unfolding after
   reached-sane s R = subst Sane (R .is) (sane-of fit (R .good []) (R .books []))
 
 module _ {board : Board} where
-  reached-next : {map : List MemoryRegion} (s : Store) (c : Call) → Reached board map s → Reached board map (step board s c .store)
+  reached-next : (s : Store) (c : Call) → Reached board s → Reached board (step board s c .store)
   unfolding after next
-  reached-next {map} s c R =
+  reached-next s c R =
       record {
-        state = next board (keptPages board map) (R .state) c;
+        state = next board (R .state) c;
         is = ap (λ (t : Store). step board t c .store) (R .is);
         good = λ cs. R .good (c ∷ cs);
         books = λ cs. R .books (c ∷ cs);
@@ -89,21 +89,21 @@ module _ {board : Board} (fit : Fit board) where
       let H = boot-holds board fit map w ok in
       let K = all-hold fit H calls in
       let begun = Claim.booted board map (memoryOf board (w .memory) (keptRegions board map)) (length (w .queue)) in
-      let reached : Reached board map (begun .store) =
+      let reached : Reached board (begun .store) =
       record {
         state = begun;
         is = refl;
         good = H .good;
         books =
             λ cs.
-            bookkeepingOf board (omega (arith, fit .least)) map (length (w .records)) (length (w .memory)) (boot-accepted board map w ok) (memoryOf board (w .memory) (keptRegions board map))
+            bookkeeping fit map (length (w .records)) (length (w .memory)) (boot-accepted board map w ok) (memoryOf board (w .memory) (keptRegions board map))
             (length (w .queue)) cs .afterwards;
       } in
       record {
         boots = holds-decode fit H;
         alike =
             ap (λ (s : Store). Rust.run board s calls) (holds-decode fit H)
-            ∙ (alike-run board (record { least = omega (arith, fit .least); most = omega (arith, fit .most) }) (Reached board map) (reached-sane fit) reached-next (begun .store) reached calls (sym (ground-same fit H calls) ∙ ground)
+            ∙ (likeness-run board fit (Reached board) (reached-sane fit) reached-next (begun .store) reached calls (sym (ground-same fit H calls) ∙ ground)
             ∙ ap {B = Option Ran} some
-            (same-ran (sym (holds-decode fit K ∙ stores-same board (keptPages board map) begun calls)) (sym (all-answers fit H calls))));
+            (same-ran (sym (holds-decode fit K ∙ stores-same board begun calls)) (sym (all-answers fit H calls))));
       }

@@ -8,17 +8,19 @@ use mathlib.Core.Path.{_≡_, refl, sym, ap, _∙_}
 use native.Mathlib.Omega.{arith}
 use lib.Dec.{ltb, eqb}
 use lib.ListN.{length}
-use Rattle.world.proofs.Bytes.{page-below, page-reached}
+use Rattle.definition.proofs.Boards.{page-positive}
+use Rattle.definition.proofs.Bytes.{page-below, page-reached}
+use Rattle.definition.proofs.Passing.{Passed, passed}
 use Rattle.definition.specs.declared.FrameAllocFlags.{FrameAllocFlags}
 use Rattle.definition.specs.declared.MemoryRegion.{MemoryRegion}
 use Rattle.definition.specs.declared.Pass.{Pass}
 use Rattle.definition.specs.declared.Refusal.{Refusal}
-use Rattle.definition.specs.Board.{Board, standard}
-use Rattle.definition.specs.Basics.{any, Popped, popBack}
+use Rattle.definition.specs.Board.{Board}
+use Rattle.definition.specs.Basics.{everywhere, any, Popped, popBack}
 use Rattle.definition.specs.Frame.{Frame, withZeroed}
 use Rattle.definition.specs.Allocator.{AllocationRegion, PhysicalFrameAllocator, managed, contains, isManaged, doAlloc}
 use Rattle.definition.specs.Boot.{keptRegions, boot}
-use Rattle.definition.specs.Book.{Book}
+use Rattle.definition.specs.Book.{Book, emptyBook}
 use Rattle.definition.specs.Refusal.{lowest}
 use Rattle.definition.specs.Store.{Memory, Store, withMemory, withQueue, withAllocator, mark}
 use Rattle.definition.specs.World.{numberIn, byteAt, memoryOf}
@@ -80,18 +82,19 @@ use Rattle.definition.specs.Calls.{
   Stats,
   names,
   findLevel,
+  mine,
   sheet,
   hands,
   perform,
   unlessRefused,
   step,
 }
-use Rattle.world.specs.Fit.{Fit}
+use Rattle.definition.specs.Board.{Fit}
 use Rattle.world.proofs.Spans.{bare, bared, manages-spans}
 use Rattle.bookkeeping.specs.Blocks.{emptied}
 use Rattle.bookkeeping.specs.Good.{Good}
 use Rattle.bookkeeping.proofs.Invariant.{within-facts, or-false}
-use Rattle.bookkeeping.proofs.Sheets.{Passed, passed, named}
+use Rattle.bookkeeping.proofs.Sheets.{named}
 use Rattle.theorems.proofs.Heads.{frame-managed, good-kept}
 use Rattle.theorems.proofs.Decoded.{ZeroElsewhere}
 
@@ -115,19 +118,19 @@ module _ (b : Board) (a : ℕ) where
       go true = zero-either (within (b .page * p) (frameBytes b (withAllocator s x) p) a) (s .memory a) z
       go false = z
 
-  alloc-zero : (l : ℕ) (flags : FrameAllocFlags) (s : Store) → s .memory a ≡ 0 → tryAllocFrame b l flags s .store .memory a ≡ 0
+  alloc-zero : (l : ℕ) (flags : FrameAllocFlags) (s : Store) → s .memory a ≡ 0 → tryAllocFrame b everywhere l flags s .store .memory a ≡ 0
   unfolding tryAllocFrame
-  alloc-zero l flags s z = let x = doAlloc l (flags .zeroed) (s .allocator) in grant-zero _ flags s (x .allocator) (x .page) z
+  alloc-zero l flags s z = let x = doAlloc everywhere l (flags .zeroed) (s .allocator) in grant-zero _ flags s (x .allocator) (x .page) z
 
   then-memory : (t : Store) (o : Option ℕ) → thenSplitFrame (record { store = t; page = o }) .store .memory ≡ t .memory
   unfolding splitFrame
   then-memory t none = refl
   then-memory t (some p) = refl
 
-  take-zero : (l : ℕ) (flags : FrameAllocFlags) (s : Store) → s .memory a ≡ 0 → tryAllocSplitFrames b l flags s .store .memory a ≡ 0
+  take-zero : (l : ℕ) (flags : FrameAllocFlags) (s : Store) → s .memory a ≡ 0 → tryAllocSplitFrames b everywhere l flags s .store .memory a ≡ 0
   unfolding tryAllocSplitFrames
   take-zero l flags s z =
-      let t = tryAllocFrame b l flags s in ap (λ (m : Memory). m a) (then-memory (t .store) (t .page)) ∙ alloc-zero l flags s z
+      let t = tryAllocFrame b everywhere l flags s in ap (λ (m : Memory). m a) (then-memory (t .store) (t .page)) ∙ alloc-zero l flags s z
 
   hands-memory : (l : ℕ) (t : Store) (o : Option ℕ) → hands b l (record { store = t; page = o }) .store .memory ≡ t .memory
   hands-memory l t none = refl
@@ -160,7 +163,7 @@ module _ (b : Board) (a : ℕ) where
           on false = more (withQueue s (e .rest))
 
   after-memory : (p : Pass) (r : Reclaimed) → afterRound b p r .store .memory ≡ r .store .memory
-  after-memory p r = go (ltb (b .maxRounds) (p .rounds))
+  after-memory p r = go (ltb (b .«max_rounds») (p .rounds))
     where
       go : (t : Bool) → cond t (endPass (r .store) (worked p (r .freed))) (goOn (r .store) (worked p (r .freed))) .store .memory ≡ r .store .memory
       go true = refl
@@ -170,8 +173,8 @@ module _ (b : Board) (a : ℕ) where
   unfolding reclaimRound
   round-memory s = go (shouldReclaim b (s .counters))
     where
-      go : (t : Bool) → cond t (afterRound b (s .pass) (reclaimUpTo b (b .perRound) s)) (endPass s (s .pass)) .store .memory ≡ s .memory
-      go true = after-memory (s .pass) (reclaimUpTo b (b .perRound) s) ∙ sweep-memory (b .perRound) s
+      go : (t : Bool) → cond t (afterRound b (s .pass) (reclaimUpTo b (b .«per_round») s)) (endPass s (s .pass)) .store .memory ≡ s .memory
+      go true = after-memory (s .pass) (reclaimUpTo b (b .«per_round») s) ∙ sweep-memory (b .«per_round») s
       go false = refl
 
   -- what writes anything else does so in a range of a frame
@@ -202,12 +205,12 @@ module _ (b : Board) (a : ℕ) where
         go false u = rw (off-frames p doff len h) z
 
     perform-zero : (c : Call) → Passed b s (names c) → perform b s c .store .memory a ≡ 0
-    unfolding perform splitFrame zeroFrame setNotZero fillFrame writeFrame copyContentsFromPhysaddr filled written moved
+    unfolding perform mine splitFrame zeroFrame setNotZero fillFrame writeFrame copyContentsFromPhysaddr filled written moved
     perform-zero (Alloc y) x =
-        let t = tryAllocFrame b (findLevel b y) (y .flags) s in
+        let t = tryAllocFrame b everywhere (findLevel b y) (y .flags) s in
         ap (λ (m : Memory). m a) (hands-memory (findLevel b y) (t .store) (t .page)) ∙ alloc-zero (findLevel b y) (y .flags) s z
     perform-zero (Take y) x =
-        let t = tryAllocSplitFrames b (findLevel b y) (y .flags) s in
+        let t = tryAllocSplitFrames b everywhere (findLevel b y) (y .flags) s in
         ap (λ (m : Memory). m a) (hands-memory (findLevel b y) (t .store) (t .page)) ∙ take-zero (findLevel b y) (y .flags) s z
     perform-zero (Split p) x = z
     perform-zero (Free p) x = ap (λ (m : Memory). m a) (free-memory s (p / b .page)) ∙ z
@@ -239,7 +242,7 @@ module _ (b : Board) (a : ℕ) where
 -- ---- the frames of a good store are managed
 
 module _ {board : Board} (fit : Fit board) where
-  module _ {map : List MemoryRegion} {s : Store} {k : Book} (G : Good board map s k) where
+  module _ {s : Store} {k : Book} (G : Good board s k) where
     frame-in : (p q : ℕ) (o : Option Frame) → s .allocator .frames p ≡ o → p ≤ q → q < p + sizeOf o → isManaged board (s .allocator .regions) q ≡ true
     frame-in p q none e l h = absurd (omega arith)
     frame-in p q (some f) e l h = go (isManaged board (s .allocator .regions) p) refl
@@ -257,9 +260,9 @@ module _ {board : Board} (fit : Fit board) where
         go true e =
             let x = within-facts (board .page * p + off) len a e in
             absurd (false≢true (sym n ∙ frame-in p (a / board .page) (s .allocator .frames p) refl
-            (page-reached (board .page) (omega (arith, fit .least)) (omega arith)) (page-below (board .page) (omega arith))))
+            (page-reached (board .page) (page-positive fit) (omega arith)) (page-below (board .page) (omega arith))))
 
--- ---- the regions manage what the map's do
+-- ---- the regions manage what the book's do
 
 pub emptied-bared : (rs : List AllocationRegion) → emptied rs ≡ bared rs
 unfolding emptied
@@ -267,18 +270,20 @@ emptied-bared [] = refl
 emptied-bared (r ∷ rs) = ap (λ (l : List AllocationRegion). bare r ∷ l) (emptied-bared rs)
 
 module _ {board : Board} where
-  pub same-managed : {map : List MemoryRegion} {s : Store} {k : Book} → Good board map s k → (p : ℕ)
-      → isManaged board (s .allocator .regions) p ≡ isManaged board (keptRegions board map) p
+  pub same-managed : {s : Store} {k : Book} → Good board s k → (p : ℕ)
+      → isManaged board (s .allocator .regions) p ≡ isManaged board (k .regions) p
   same-managed {s = s} G p =
       let rs = s .allocator .regions in
       sym (manages-spans board p .same rs) ∙ ap (λ (l : List AllocationRegion). isManaged board l p) (sym (emptied-bared rs) ∙ G .regions)
 
 module _ {board : Board} (fit : Fit board) where
   -- a call keeps the bytes that no region manages at 0
-  pub step-elsewhere : {map : List MemoryRegion} {s t : Store} {j k : Book} (c : Call) → Good board map s j → step board s c .store ≡ t → Good board map t k
-      → ZeroElsewhere board s → ZeroElsewhere board t
-  step-elsewhere {s = s} c G e H Z a n =
-      let m : isManaged board (s .allocator .regions) (a / board .page) ≡ false = same-managed G (a / board .page) ∙ (sym (same-managed H (a / board .page)) ∙ n) in
+  pub step-elsewhere : {s t : Store} {j k : Book} (c : Call) → Good board s j → step board s c .store ≡ t → Good board t k
+      → k .regions ≡ j .regions → ZeroElsewhere board s → ZeroElsewhere board t
+  step-elsewhere {s = s} c G e H same Z a n =
+      let p = a / board .page in
+      let m : isManaged board (s .allocator .regions) p ≡ false =
+      same-managed G p ∙ (ap (λ (l : List AllocationRegion). isManaged board l p) (sym same) ∙ (sym (same-managed H p) ∙ n)) in
       rw (← e) (step-zero board a s (Z a m) (apart-from fit G a m) c)
 
 module _ (board : Board) where
@@ -291,9 +296,9 @@ module _ (board : Board) where
       rw (x .0) (number-none (base + managed board r) rs p (x .1))
 
 module _ {board : Board} where
-  pub boot-elsewhere : {map : List MemoryRegion} {k : Book} (bytes : List ℕ) (room : ℕ)
-      → Good board map (boot board map (memoryOf board bytes (keptRegions board map)) room) k
+  pub boot-elsewhere : (map : List MemoryRegion) (bytes : List ℕ) (room : ℕ)
+      → Good board (boot board map (memoryOf board bytes (keptRegions board map)) room) (emptyBook (keptRegions board map))
       → ZeroElsewhere board (boot board map (memoryOf board bytes (keptRegions board map)) room)
   unfolding boot
-  boot-elsewhere {map} bytes room G a n =
+  boot-elsewhere map bytes room G a n =
       ap (byteAt board bytes a) (number-none board 0 (keptRegions board map) (a / board .page) (sym (same-managed G (a / board .page)) ∙ n))

@@ -9,8 +9,9 @@ use native.Mathlib.Omega.{arith}
 use borrow.Author.Tests.{lt-ltb, le-leb, lt-leb, eq-eqb, leb-true, leb-false}
 use lib.Dec.{leb, eqb}
 use lib.ListN.{length, length-map}
-use Rattle.world.proofs.Bytes.{pages-of as whole-of}
-use Rattle.world.specs.Fit.{Fit}
+use Rattle.definition.proofs.Boards.{page-positive}
+use Rattle.definition.proofs.Bytes.{pages-of as whole-of}
+use Rattle.definition.specs.Board.{Fit}
 use Rattle.definition.specs.declared.Record.{Record}
 use Rattle.definition.specs.Basics.{all, sum, range, bit}
 use Rattle.definition.specs.Board.{Board}
@@ -211,7 +212,7 @@ module _ {board : Board} (fit : Fit board) where
         let w = H .is .frame in
         let m = marks-of w in
         let s = size-pos (w .level) in
-        let place : Torn.frameNumber board x (num h) ≡ h = omega (arith, H .low, whole-of (board .page) (omega (arith, fit .least)) (r .start)) in
+        let place : Torn.frameNumber board x (num h) ≡ h = omega (arith, H .low, whole-of (board .page) (page-positive fit) (r .start)) in
         let aligned : Torn.frameNumber board x (num h) % size (w .level) ≡ 0 = ap (λ (y : ℕ). y % size (w .level)) place ∙ H .is .aligned in
         let inside : all (λ q. isBlank (f q)) (range (num h + 1) (size (w .level) - 1)) ≡ true =
         in-range (λ q. isBlank (f q)) (num h + 1) (size (w .level) - 1) (λ q a b.

@@ -8,7 +8,8 @@ use native.Mathlib.Omega.{arith}
 use borrow.Author.Tests.{lt-ltb, le-leb, eq-eqb, ne-eqb}
 use lib.ListN.{length, drop, replicate, length-append, length-replicate}
 use lib.Seq.{drop-at}
-use Rattle.world.proofs.Bytes.{pages-aligned, pages-of}
+use Rattle.definition.proofs.Boards.{page-positive}
+use Rattle.definition.proofs.Bytes.{pages-aligned, pages-of}
 use Rattle.definition.specs.declared.Row.{Row}
 use Rattle.definition.specs.Basics.{all, sum, range}
 use Rattle.definition.specs.Board.{Board}
@@ -17,7 +18,7 @@ use Rattle.definition.specs.Allocator.{AllocationRegion, tablePages, managed, t
 use Rattle.definition.specs.World.{noRow, usedRows, encodeRow, encodeRows}
 use Rattle.definition.specs.Torn.{isNoRow, bareRegions, regionsOf, rowAsBoot, sixLists, rowsAsBoot}
 use Rattle.definition.proofs.Tests.{and-true}
-use Rattle.world.specs.Fit.{Fit}
+use Rattle.definition.specs.Board.{Fit}
 use Rattle.world.proofs.Spans.{bared, overlap-spans}
 use Rattle.bookkeeping.specs.Blocks.{All}
 use Rattle.bookkeeping.specs.Blocks.All.{all-none, all-more}
@@ -62,7 +63,7 @@ module _ (board : Board) (fit : Fit board) where
   unfolding bareRegions encodeRows
   rows-bare base [] = refl
   rows-bare base (r ∷ rs) =
-      ap₂ (λ (x : AllocationRegion) (y : List AllocationRegion). x ∷ y) (bare-same (pages-of (board .page) (omega (arith, fit .least)) (r .start)) refl) (rows-bare (base + managed board r) rs)
+      ap₂ (λ (x : AllocationRegion) (y : List AllocationRegion). x ∷ y) (bare-same (pages-of (board .page) (page-positive fit) (r .start)) refl) (rows-bare (base + managed board r) rs)
 
 module _ {board : Board} (fit : Fit board) where
   pub regions-bare : {rs : List AllocationRegion} → All (AsBoot board) rs → regionsOf board (rowsFor board rs) ≡ bared rs

@@ -8,14 +8,13 @@ use mathlib.Core.Path.{_≡_, refl, sym, ap, ap₂, _∙_, subst}
 use native.Mathlib.Omega.{arith}
 use lib.ListN.{length, drop}
 use lib.Seq.{drop-at}
-use Rattle.world.proofs.Bytes.{pages-same}
+use Rattle.definition.proofs.Bytes.{pages-same}
 use Rattle.definition.specs.declared.Counters.{Counters}
 use Rattle.definition.specs.declared.MemoryRegion.{MemoryRegion}
 use Rattle.definition.specs.declared.Pass.{Pass}
 use Rattle.definition.specs.declared.Row.{Row}
 use Rattle.definition.specs.declared.Refusal.{Refusal}
 use Rattle.definition.specs.Board.{Board}
-use Rattle.definition.specs.Allocator.{total}
 use Rattle.definition.specs.Boot.{keptRegions, bootSheet, boot, managedPages}
 use Rattle.definition.specs.Book.{Book, noteAnswer}
 use Rattle.definition.specs.Calls.{Call, Answer, step, run}
@@ -24,12 +23,14 @@ use Rattle.definition.specs.Store.{Store}
 use Rattle.definition.specs.Torn as Torn
 use Rattle.definition.specs.Torn.{sound, call, bootCall, booted, written}
 use Rattle.definition.specs.World.{World, regionsBytes, memoryBytes, memoryOf, decode, encode}
-use Rattle.world.specs.Fit.{Fit}
+use Rattle.definition.specs.Board.{Fit}
 use Rattle.world.proofs.Spans.{managed-spans}
 use Rattle.bookkeeping.specs.Claim as Claim
 use Rattle.bookkeeping.specs.Claim.{State, next, after}
 use Rattle.bookkeeping.specs.Good.{Good}
-use Rattle.bookkeeping.proofs.Good.{accepted, good}
+use Rattle.bookkeeping.proofs.Accepts.{accepted}
+use Rattle.bookkeeping.proofs.Good.{good}
+use Rattle.bookkeeping.proofs.Regions.{next-regions}
 use Rattle.bookkeeping.proofs.Rooms.{step-room}
 use Rattle.theorems.specs.Demands.{Accepted, worldAfter, answersOf, bookAfter, Tied}
 use Rattle.theorems.specs.Stands.{Stands}
@@ -93,10 +94,6 @@ module _ (board : Board) where
 -- ---- a world and the store that it stands for
 
 module _ (board : Board) where
-  -- the pages that a map keeps
-  abbrev pub keptPages : List MemoryRegion → ℕ
-  keptPages map = total (keptRegions board map)
-
   -- the loans of v are as long as those of w, and the same behind the map's managed pages
   pub record Beside (map : List MemoryRegion) (w v : World) : Type 0 where
     pub recordsLong : length (v .records) ≡ length (w .records)
@@ -108,22 +105,23 @@ module _ (board : Board) where
   -- the world v, which came of w, stands for the store of the state x, from which every list of calls leads to a good store
   pub record Holds (map : List MemoryRegion) (w v : World) (x : State) : Type 0 where
     pub good : (cs : List Call)
-        → Good board map (after board (keptPages map) x cs .store) (after board (keptPages map) x cs .book)
+        → Good board (after board x cs .store) (after board x cs .book)
     pub elsewhere : ZeroElsewhere board (x .store)
     pub fits : Fits board (x .store) v
     pub written : encode board (x .store) v ≡ v
+    -- the book has the map's regions
+    pub kept : x .book .regions ≡ keptRegions board map
     pub beside : Beside map w v
 
 module _ {board : Board} where
-  managed-is : {map : List MemoryRegion} {s : Store} {k : Book} → Good board map s k
-      → managedPages board (s .allocator .regions) ≡ managedPages board (keptRegions board map)
+  managed-is : {s : Store} {k : Book} → Good board s k → managedPages board (s .allocator .regions) ≡ managedPages board (k .regions)
   managed-is {s = s} G =
       let rs = s .allocator .regions in
       sym (managed-spans board .same rs) ∙ ap (managedPages board) (sym (emptied-bared rs) ∙ G .regions)
 
 module _ {board : Board} (fit : Fit board) where
   -- what is written anew fits as what was there
-  fits-again : {map : List MemoryRegion} {s : Store} {k : Book} (v : World) → Good board map s k → Fits board s v → Fits board s (encode board s v)
+  fits-again : {s : Store} {k : Book} (v : World) → Good board s k → Fits board s v → Fits board s (encode board s v)
   fits-again v G F =
       record {
         records = omega (arith, F .records, records-length fit v G F);
@@ -132,21 +130,25 @@ module _ {board : Board} (fit : Fit board) where
       }
 
   -- and changes nothing behind the managed pages
-  beside-again : {map : List MemoryRegion} {s : Store} {k : Book} (w v : World) → Good board map s k → Fits board s v → Beside board map w v
-      → Beside board map w (encode board s v)
-  beside-again {map} {s} w v G F L =
+  beside-again : {map : List MemoryRegion} {s : Store} {k : Book} (w v : World) → Good board s k → k .regions ≡ keptRegions board map → Fits board s v
+      → Beside board map w v → Beside board map w (encode board s v)
+  beside-again {map} {s} w v G K F L =
+      let m = managed-is G ∙ ap (managedPages board) K in
       record {
         recordsLong = records-length fit v G F ∙ L .recordsLong;
         memoryLong = memory-as-long fit v G F ∙ L .memoryLong;
         queueLong = queue-length fit v G F ∙ L .queueLong;
-        records = past-records board s v (16 * managedPages board (keptRegions board map)) (ap (λ (n : ℕ). 16 * n) (managed-is G)) ∙ L .records;
-        memory = past-memory board fit s v (board .page * managedPages board (keptRegions board map)) (ap (λ (n : ℕ). board .page * n) (managed-is G)) ∙ L .memory;
+        records = past-records board s v (16 * managedPages board (keptRegions board map)) (ap (λ (n : ℕ). 16 * n) m) ∙ L .records;
+        memory = past-memory board fit s v (board .page * managedPages board (keptRegions board map)) (ap (λ (n : ℕ). board .page * n) m) ∙ L .memory;
       }
 
   module _ {map : List MemoryRegion} {w v : World} {x : State} (H : Holds board map w v x) where
-    pub here : Good board map (x .store) (x .book)
+    pub here : Good board (x .store) (x .book)
     unfolding after
     here = H .good []
+
+    managed-here : managedPages board (x .store .allocator .regions) ≡ managedPages board (keptRegions board map)
+    managed-here = managed-is here ∙ ap (managedPages board) (H .kept)
 
     pub holds-sound : sound board v ≡ true
     holds-sound = subst (λ (u : World). sound board u ≡ true) (H .written) (encoded-sound fit v here (H .fits))
@@ -156,11 +158,11 @@ module _ {board : Board} (fit : Fit board) where
 
     pub holds-records : v .records ≡ encode board (x .store) w .records
     holds-records =
-        ap (λ (u : World). u .records) (sym (H .written)) ∙ same-records board (x .store) v w (rw (managed-is here) (H .beside .records))
+        ap (λ (u : World). u .records) (sym (H .written)) ∙ same-records board (x .store) v w (rw managed-here (H .beside .records))
 
     pub holds-memory : v .memory ≡ encode board (x .store) w .memory
     holds-memory =
-        ap (λ (u : World). u .memory) (sym (H .written)) ∙ same-memory board (x .store) v w (rw (managed-is here) (H .beside .memory))
+        ap (λ (u : World). u .memory) (sym (H .written)) ∙ same-memory board (x .store) v w (rw managed-here (H .beside .memory))
 
     pub stands : Stands board w v (x .store)
     stands =
@@ -180,34 +182,37 @@ module _ {board : Board} (fit : Fit board) where
     unfolding call
     call-is c = rw (holds-sound, holds-decode)
 
-    there : (c : Call) → Good board map (step board (x .store) c .store) (next board (keptPages board map) x c .book)
+    there : (c : Call) → Good board (step board (x .store) c .store) (next board x c .book)
     unfolding after next
     there c = H .good (c ∷ [])
 
-    pub call-holds : (c : Call) → Holds board map w (call board v c .world) (next board (keptPages board map) x c)
+    pub call-holds : (c : Call) → Holds board map w (call board v c .world) (next board x c)
     unfolding after next
     call-holds c =
         let t = step board (x .store) c .store in
+        let same = next-regions board x c in
+        let m = managed-is (there c) ∙ ap (managedPages board) (same ∙ H .kept) in
         let F : Fits board t v =
         record {
-          records = omega (arith, H .fits .records, managed-is here, managed-is (there c));
-          memory = omega (arith, H .fits .memory, pages-same (board .page) (managed-is here), pages-same (board .page) (managed-is (there c)));
+          records = omega (arith, H .fits .records, managed-here, m);
+          memory = omega (arith, H .fits .memory, pages-same (board .page) managed-here, pages-same (board .page) m);
           queue = step-room board (x .store) c ∙ H .fits .queue;
         } in
         rw (call-is c)
         (record {
           good = λ cs. H .good (c ∷ cs);
-          elsewhere = step-elsewhere fit c here refl (there c) (H .elsewhere);
+          elsewhere = step-elsewhere fit c here refl (there c) same (H .elsewhere);
           fits = fits-again v (there c) F;
           written = encode-twice board fit t v;
-          beside = beside-again w v (there c) F (H .beside);
+          kept = same ∙ H .kept;
+          beside = beside-again w v (there c) (same ∙ H .kept) F (H .beside);
         })
 
 -- ---- every list of calls
 
 module _ {board : Board} (fit : Fit board) where
   module _ {map : List MemoryRegion} {w : World} where
-    pub all-hold : {v : World} {x : State} → Holds board map w v x → (cs : List Call) → Holds board map w (worldAfter board v cs) (after board (keptPages board map) x cs)
+    pub all-hold : {v : World} {x : State} → Holds board map w v x → (cs : List Call) → Holds board map w (worldAfter board v cs) (after board x cs)
     unfolding worldAfter after
     all-hold H [] = H
     all-hold H (c ∷ cs) = all-hold (call-holds fit H c) cs
@@ -219,19 +224,19 @@ module _ {board : Board} (fit : Fit board) where
         ap₂ (λ (y : Answer) (ys : List Answer). y ∷ ys) (ap (λ l. l .answer) (call-is fit H c)) (all-answers (call-holds fit H c) cs)
 
     pub all-booked : {v : World} {x : State} → Holds board map w v x → (cs : List Call)
-        → bookAfter board (keptPages board map) (x .book) cs (answersOf board v cs) ≡ after board (keptPages board map) x cs .book
+        → bookAfter board (x .book) cs (answersOf board v cs) ≡ after board x cs .book
     unfolding bookAfter answersOf after next
     all-booked H [] = refl
     all-booked {v} {x} H (c ∷ cs) =
-        ap (λ (y : Answer). bookAfter board (keptPages board map) (noteAnswer board (keptPages board map) (x .book) c y) cs (answersOf board (call board v c .world) cs))
+        ap (λ (y : Answer). bookAfter board (noteAnswer board (x .book) c y) cs (answersOf board (call board v c .world) cs))
         (ap (λ l. l .answer) (call-is fit H c))
         ∙ all-booked (call-holds fit H c) cs
 
 module _ (board : Board) where
-  pub stores-same : (pages : ℕ) (x : State) (cs : List Call) → after board pages x cs .store ≡ run board (x .store) cs .store
+  pub stores-same : (x : State) (cs : List Call) → after board x cs .store ≡ run board (x .store) cs .store
   unfolding after next run
-  stores-same pages x [] = refl
-  stores-same pages x (c ∷ cs) = stores-same pages (next board pages x c) cs
+  stores-same x [] = refl
+  stores-same x (c ∷ cs) = stores-same (next board x c) cs
 
 -- ---- from an accepted boot
 
@@ -257,13 +262,12 @@ module _ (board : Board) (fit : Fit board) where
     unfolding bootCall
     boot-is = rw passed
 
-    always : (cs : List Call) → Good board map (after board (keptPages board map) begun cs .store)
-        (after board (keptPages board map) begun cs .book)
+    always : (cs : List Call) → Good board (after board begun cs .store) (after board begun cs .book)
     always cs =
-        good board (omega (arith, fit .least)) map (length (w .records)) (length (w .memory)) passed (memoryOf board (w .memory) (keptRegions board map))
+        good fit map (length (w .records)) (length (w .memory)) passed (memoryOf board (w .memory) (keptRegions board map))
         (length (w .queue)) cs
 
-    first-good : Good board map (begun .store) (begun .book)
+    first-good : Good board (begun .store) (begun .book)
     unfolding after
     first-good = always []
 
@@ -273,7 +277,7 @@ module _ (board : Board) (fit : Fit board) where
 
     pub boot-holds : Holds board map w (bootCall board map w .world) begun
     boot-holds =
-        let a = accepted board (omega (arith, fit .least)) map (length (w .records)) (length (w .memory)) passed in
+        let a = accepted fit map (length (w .records)) (length (w .memory)) passed in
         let F : Fits board (begun .store) w =
         record {
           records = omega (arith, a .recordsLong, managed-is first-good);
@@ -283,10 +287,11 @@ module _ (board : Board) (fit : Fit board) where
         rw boot-is
         (record {
           good = always;
-          elsewhere = boot-elsewhere (w .memory) (length (w .queue)) first-good;
+          elsewhere = boot-elsewhere map (w .memory) (length (w .queue)) first-good;
           fits = fits-again fit w first-good F;
           written = encode-twice board fit (begun .store) w;
-          beside = beside-again fit w w first-good F (record { recordsLong = refl; memoryLong = refl; queueLong = refl; records = refl; memory = refl });
+          kept = refl;
+          beside = beside-again fit w w first-good refl F (record { recordsLong = refl; memoryLong = refl; queueLong = refl; records = refl; memory = refl });
         })
 
     pub tied : (calls : List Call) → Tied board map w calls

@@ -9,14 +9,14 @@ use native.Mathlib.Omega.{arith}
 use borrow.Author.Tests.{eq-eqb, eqb-true}
 use lib.Dec.{eqb}
 use lib.ListN.{length}
-use Rattle.world.proofs.Bytes.{bytes-order, pages-none}
-use Rattle.world.specs.Fit.{Fit}
-use Rattle.definition.specs.declared.MemoryRegion.{MemoryRegion}
-use Rattle.definition.specs.Basics.{all, any, sum, range, bit}
+use Rattle.definition.proofs.Boards.{page-positive}
+use Rattle.definition.proofs.Bytes.{bytes-order, pages-none}
+use Rattle.definition.specs.Board.{Fit}
+use Rattle.definition.specs.Basics.{everywhere, all, any, sum, range, bit}
 use Rattle.definition.specs.Board.{Board}
 use Rattle.definition.specs.Frame.{Frame, Frames, size, slot}
-use Rattle.definition.specs.Allocator.{AllocationRegion, isEmpty, isListed, total}
-use Rattle.definition.specs.Boot.{keptRegions, managedPages}
+use Rattle.definition.specs.Allocator.{AllocationRegion, isListed}
+use Rattle.definition.specs.Boot.{managedPages}
 use Rattle.definition.specs.Book.{Held, Book}
 use Rattle.definition.specs.Rust.{oldCount}
 use Rattle.definition.specs.Store.{Store}
@@ -29,7 +29,7 @@ use Rattle.bookkeeping.specs.Blocks.All.{all-none, all-more}
 use Rattle.bookkeeping.specs.Claim.{bytesOf, Bookkeeping}
 use Rattle.bookkeeping.specs.Good.{same, heldAs, inBook, listedPages, IsFree, Lists, Good}
 use Rattle.bookkeeping.proofs.Blocks.{sum-append}
-use Rattle.bookkeeping.proofs.Boots.{map-sums, total-emptied}
+use Rattle.bookkeeping.proofs.Accepts.{emptied-sums}
 
 -- ---- where a frame of a level or above is listed, as many pages are idle
 
@@ -57,13 +57,14 @@ sum-has v a (suc n) k l h = go (eqb a k) refl (sum-has v (a + 1) n k)
     go true e more = omega (arith, ap v (eqb-true a k e))
     go false e more = let n : a ≡ k → ⊥ = λ d. false≢true (sym e ∙ eq-eqb a k d) in omega (arith, more (omega arith) (omega arith))
 
-some-times : (xs : List ℕ) (n : ℕ) → not (isEmpty xs) ≡ true → n ≤ n * length xs
+some-times : (xs : List ℕ) (n : ℕ) → any everywhere xs ≡ true → n ≤ n * length xs
+unfolding any
 some-times [] n e = absurd (false≢true e)
 some-times (x ∷ xs) n e = omega arith
 
-region-idle : (l : ℕ) (r : AllocationRegion) → any (λ k. not (isEmpty (r .free k))) (range (slot l false) (6 - slot l false)) ≡ true → size l ≤ listedPages r
+region-idle : (l : ℕ) (r : AllocationRegion) → any (λ k. any everywhere (r .free k)) (range (slot l false) (6 - slot l false)) ≡ true → size l ≤ listedPages r
 region-idle l r e =
-    let k = any-range (λ k. not (isEmpty (r .free k))) (l * 2) (6 - l * 2) e in
+    let k = any-range (λ k. any everywhere (r .free k)) (l * 2) (6 - l * 2) e in
     let big : size l ≤ size (k .at / 2) = size-rises (omega (arith, k .low)) in
     omega (
       arith,
@@ -73,13 +74,13 @@ region-idle l r e =
     )
 
 module _ (board : Board) where
-  all-idle : (l : ℕ) (rs : List AllocationRegion) → isListed l rs ≡ true → size l ≤ sum (λ r. listedPages r + tables board r) rs
+  all-idle : (l : ℕ) (rs : List AllocationRegion) → isListed everywhere l rs ≡ true → size l ≤ sum (λ r. listedPages r + tables board r) rs
   unfolding isListed any sum
   all-idle l [] e = absurd (false≢true e)
-  all-idle l (r ∷ rs) e = go (any (λ k. not (isEmpty (r .free k))) (range (slot l false) (6 - slot l false))) refl e (all-idle l rs)
+  all-idle l (r ∷ rs) e = go (any (λ k. any everywhere (r .free k)) (range (slot l false) (6 - slot l false))) refl e (all-idle l rs)
     where
-      go : (t : Bool) → any (λ k. not (isEmpty (r .free k))) (range (slot l false) (6 - slot l false)) ≡ t → t || isListed l rs ≡ true
-          → (isListed l rs ≡ true → size l ≤ sum (λ r. listedPages r + tables board r) rs)
+      go : (t : Bool) → any (λ k. any everywhere (r .free k)) (range (slot l false) (6 - slot l false)) ≡ t → t || isListed everywhere l rs ≡ true
+          → (isListed everywhere l rs ≡ true → size l ≤ sum (λ r. listedPages r + tables board r) rs)
           → size l ≤ listedPages r + tables board r + sum (λ r. listedPages r + tables board r) rs
       go true i j more = omega (arith, region-idle l r i)
       go false i j more = omega (arith, more j)
@@ -164,7 +165,7 @@ unfolding sum holding
 page-sum [] = refl
 page-sum (h ∷ hs) = rw (same-false (h .kernel), not-cond (h .kernel) (size (h .level)), page-sum hs)
 
--- ---- the pages counted are the map's
+-- ---- the pages counted are the regions'
 
 module _ (board : Board) where
   bytes-sum : (xs : List Block) → sum (bytesOf board) xs ≡ board .page * sum pagesOf xs
@@ -185,7 +186,7 @@ both-sum (x ∷ xs) = go (x .mark) (both-sum xs)
 -- ---- the four facts
 
 module _ {board : Board} (fit : Fit board) where
-  module _ {map : List MemoryRegion} {s : Store} {k : Book} (G : Good board map s k) (B : Bookkeeping board map s k) where
+  module _ {s : Store} {k : Book} (G : Good board s k) (B : Bookkeeping board s k) where
     idle : IdleCovers s
     idle l e = rw (G .idle) (all-idle board l (s .allocator .regions) e)
 
@@ -203,11 +204,10 @@ module _ {board : Board} (fit : Fit board) where
 
     fits : CountsFit s
     fits =
-        let kept = keptRegions board map in
+        let kept = k .regions in
         let xs = listed (s .allocator .regions) in
         let ys = holding (k .held) in
-        let few : sum pagesOf (xs ++ ys) ≤ managedPages board kept = bytes-order (board .page) (omega (arith, fit .least)) (omega (arith, bytes-sum board (xs ++ ys), B .adds)) in
-        let most : total kept ≡ total (s .allocator .regions) = ap total (sym (G .regions)) ∙ total-emptied board (s .allocator .regions) in
+        let few : sum pagesOf (xs ++ ys) ≤ managedPages board kept = bytes-order (board .page) (page-positive fit) (omega (arith, bytes-sum board (xs ++ ys), B .adds)) in
         omega (
           arith,
           B .idle,
@@ -216,9 +216,9 @@ module _ {board : Board} (fit : Fit board) where
           both-sum ys,
           sum-append pagesOf xs ys,
           few,
-          map-sums board map,
-          most,
-          G .pages,
+          emptied-sums board (s .allocator .regions) (G .placed .asBoot),
+          ap (λ l. managedPages board l + sum (tables board) l) (G .regions),
+          G .placed .pages,
         )
 
     pub sane-of : Sane s

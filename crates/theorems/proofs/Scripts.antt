@@ -7,7 +7,7 @@ use mathlib.Core.Option.{Option, none, some}
 use mathlib.Core.Path.{_≡_, refl, ap, ap₂, subst}
 use native.Mathlib.Omega.{arith}
 use lib.ListN.{length}
-use Rattle.world.specs.Fit.{Fit}
+use Rattle.definition.specs.Board.{Fit}
 use Rattle.definition.specs.declared.MemoryRegion.{MemoryRegion}
 use Rattle.definition.specs.declared.Refusal.{Refusal}
 use Rattle.definition.specs.Board.{Board}

@@ -1,6 +1,5 @@
 -- Demands 2 and 3 over worlds, the bytes that a boot and a list of calls are given and leave, where each call gets the world as the last left it. A reader should
 -- hold the fields of `Demand3`, `Answered` and `Demand2` against the demands' sentences; `bootCall` and `call` are what the exported functions promise to do.
-use Prim.Native.Nat.{ℕ}
 use mathlib.Core.Bool.{Bool, true, false, _&&_}
 use mathlib.Core.List.{List, [], _∷_}
 use mathlib.Core.Logic.{_↔_}
@@ -11,7 +10,6 @@ use Rattle.definition.specs.declared.MemoryRegion.{MemoryRegion}
 use Rattle.definition.specs.declared.Refusal.{Refusal}
 use Rattle.definition.specs.declared.Refusal.the-variants.{Torn}
 use Rattle.definition.specs.Board.{Board}
-use Rattle.definition.specs.Allocator.{total}
 use Rattle.definition.specs.Boot.{keptRegions, bootSheet, boot}
 use Rattle.definition.specs.Book.{Book, emptyBook, noteAnswer}
 use Rattle.definition.specs.Calls.{Layout, Call, Answer, Refused, names, badLayout, noLevel, findLevel, sheet, run}
@@ -34,11 +32,11 @@ unfoldable pub answersOf : Board → World → List Call → List Answer
 answersOf b w [] = []
 answersOf b w (c ∷ cs) = call b w c .answer ∷ answersOf b (call b w c .world) cs
 
--- the book that an onlooker keeps of calls and their answers, where the kept regions have so many pages
-unfoldable pub bookAfter : Board → ℕ → Book → List Call → List Answer → Book
-bookAfter b pages k [] ys = k
-bookAfter b pages k (c ∷ cs) [] = k
-bookAfter b pages k (c ∷ cs) (y ∷ ys) = bookAfter b pages (noteAnswer b pages k c y) cs ys
+-- the book that an onlooker keeps of calls and their answers
+unfoldable pub bookAfter : Board → Book → List Call → List Answer → Book
+bookAfter b k [] ys = k
+bookAfter b k (c ∷ cs) [] = k
+bookAfter b k (c ∷ cs) (y ∷ ys) = bookAfter b (noteAnswer b k c y) cs ys
 
 -- ---- the same from the state of one boot
 
@@ -52,7 +50,7 @@ abbrev pub answersAll : Board → List MemoryRegion → World → List Call → 
 answersAll b map w calls = answersOf b (bootCall b map w .world) calls
 
 abbrev pub bookAll : Board → List MemoryRegion → World → List Call → Book
-bookAll b map w calls = bookAfter b (total (keptRegions b map)) emptyBook calls (answersAll b map w calls)
+bookAll b map w calls = bookAfter b (emptyBook (keptRegions b map)) calls (answersAll b map w calls)
 
 -- ---- demand 3
 
@@ -86,8 +84,10 @@ pub data Along (b : Board) : World → List Call → Type 0 where
 
 -- "For every list of calls .. from the state of one accepted boot, where each gets the state as the last left it and nobody else writes the loans"
 pub record Demand3 (b : Board) (map : List MemoryRegion) (w : World) (calls : List Call) : Type 0 where
+  -- "each managed page of the map": the book's regions, of which `Bookkeeping` speaks, are those that boot keeps of the map
+  pub regions : bookAll b map w calls .regions ≡ keptRegions b map
   -- "after it": the listed and held frames, the counters, the zeroed lists and the queue, read out of the bytes
-  pub afterwards : Bookkeeping b map (decode b (afterAll b map w calls)) (bookAll b map w calls)
+  pub afterwards : Bookkeeping b (decode b (afterAll b map w calls)) (bookAll b map w calls)
   -- the bytes pass the torn sheet, so that no further call is refused 6
   pub whole : sound b (afterAll b map w calls) ≡ true
   pub along : Along b (bootCall b map w .world) calls

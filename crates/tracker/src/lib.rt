@@ -1,10 +1,11 @@
 // The nine counters of the store, after tracker.rs's MemoryTracker: grants and frees counted, whether memory is low, the pager's loan, and the
 // statistics as text. Counters go in and come out by value, where the Rust has atomics.
+use definition::Board;
 use definition::Counters;
 ghost use mathlib.Core.Path.{_≡_};
 ghost use Prim.Native.Nat.{_+_, _-_, _^_, _<_, _≤_};
 ghost use lib.ListN.{length};
-ghost use Rattle.definition.specs.Board.{standard};
+ghost use Rattle.definition.specs.Board.{Fit};
 ghost use Rattle.definition.specs.Tracker.{
   countAlloc,
   countFree,
@@ -86,31 +87,29 @@ pub fn untrack_frame_pager(c: Counters, count: usize) -> Counters
     d
 }
 
-// tracker.rs 176: memory is low where the page data reach the idle pages divided by this.
-const IDLE_DIVISOR: usize = 2;
-
-// tracker.rs 169: or where the idle pages are fewer than this many times the kernel's.
-const KERNEL_MULTIPLE: usize = 2;
-
-// tracker.rs 173
-pub fn page_cond(c: Counters) -> bool
-    ensures { λ r. ⌜ r ≡ pageCond standard c ⌝ }
+// tracker.rs 173: memory is low where the page data reach a part of the idle pages.
+pub fn page_cond(board: Board, c: Counters) -> bool
+    requires { ⌜ Fit board ⌝ }
+    ensures { λ r. ⌜ r ≡ pageCond board c ⌝ }
 {
-    c.page_data >= c.idle / IDLE_DIVISOR
+    c.page_data >= c.idle / board.idle_divisor
 }
 
-// tracker.rs 166. The Rust multiplies the kernel's pages, and the product may not fit; the idle pages divided and rounded down say the same.
-pub fn kern_cond(c: Counters) -> bool
-    ensures { λ r. ⌜ r ≡ kernCond standard c ⌝ }
+// tracker.rs 166: or where the idle pages are fewer than so many times the kernel's. The Rust multiplies the kernel's pages, and the
+// product may not fit; the idle pages divided and rounded down say the same.
+pub fn kern_cond(board: Board, c: Counters) -> bool
+    requires { ⌜ Fit board ⌝ }
+    ensures { λ r. ⌜ r ≡ kernCond board c ⌝ }
 {
-    c.idle / KERNEL_MULTIPLE < c.kernel_used
+    c.idle / board.kernel_multiple < c.kernel_used
 }
 
 // tracker.rs 180: memory is low.
-pub fn should_reclaim(c: Counters) -> bool
-    ensures { λ r. ⌜ r ≡ shouldReclaim standard c ⌝ }
+pub fn should_reclaim(board: Board, c: Counters) -> bool
+    requires { ⌜ Fit board ⌝ }
+    ensures { λ r. ⌜ r ≡ shouldReclaim board c ⌝ }
 {
-    page_cond(c) || kern_cond(c)
+    page_cond(board, c) || kern_cond(board, c)
 }
 
 // How many hundredths of the total `n` is; 01: "With total 0, percentages print 0".

@@ -9,6 +9,8 @@ use native.Mathlib.Decide.{ℕ-discrete, decLt}
 use native.Mathlib.Omega.{arith}
 use lib.ListN.{length, getD, set, take, drop, replicate, length-append, length-take, length-drop, take-append-drop, List·getD-append}
 use lib.Seq.{ext-getD, set-getD, set-set, getD-append-add, getD-take, getD-drop, length-take-le, take-add}
+use Rattle.definition.specs.Board.{Fit, standard}
+use Rattle.definition.proofs.Boards.{standard-fit}
 use Rattle.definition.specs.declared.Counters.{Counters}
 use Rattle.definition.specs.declared.Pass.{Pass}
 use Rattle.definition.specs.declared.Row.{Row}
@@ -17,6 +19,7 @@ use Rattle.record.specs.Records.{withBytes}
 use Rattle.record.proofs.Bytes.{with-length, with-in, with-out}
 use Rattle.words.specs.Words.{
   Beside,
+  boardIn,
   InUse,
   RowBeside,
   RowsBeside,
@@ -52,6 +55,20 @@ unfolding counterWords
 length-counters c = refl
 
 -- ---- what stays, of changes one after another
+
+-- the board of any words is the standard one: for what is said of one board by name
+pub board-is : (ws : List ℕ) → boardIn ws ≡ standard
+unfolding boardIn
+board-is ws = refl
+
+-- the board of the words is fit, and stays with all that is beside what a call changes
+pub fit-in : (ws : List ℕ) → Fit (boardIn ws)
+unfolding boardIn
+fit-in ws = standard-fit
+
+pub board-beside : {ws vs : List ℕ} → Beside ws vs → boardIn vs ≡ boardIn ws
+unfolding boardIn
+board-beside b = refl
 
 pub beside-same : {ws : List ℕ} → Beside ws ws
 beside-same = record { version = refl; unused = λ k a b. refl; behind = refl }

@@ -12,6 +12,7 @@ use Rattle.definition.specs.declared.Links.{Links}
 use Rattle.definition.specs.declared.Row.{Row}
 use Rattle.definition.specs.declared.Counters.{Counters}
 use Rattle.definition.specs.declared.Pass.{Pass}
+use Rattle.definition.specs.Board.{Board, standard}
 use Rattle.definition.specs.Boot.{mostRows}
 use Rattle.definition.specs.World.{noLinks, noRow}
 use Rattle.record.specs.Records.{withBytes}
@@ -28,6 +29,10 @@ keptWords = 92
 
 abbrev pub stateWords : ℕ
 stateWords = 101
+
+-- the board that the words are of: every state is of the standard one, and no word holds its numbers
+unfoldable pub boardIn : List ℕ → Board
+boardIn ws = standard
 
 -- ---- read
 

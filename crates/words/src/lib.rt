@@ -1,6 +1,7 @@
 // The state of a store as 101 words of 64 bits, in a lent slice: a row, the queue's count, the pass or the counters are read where they stand, and written there.
 // Any words of the right number and version are some state; whether it is a sound one is the audit's to say. What each word is stands in specs/Words.antt.
 use address::PhysAddr;
+use definition::Board;
 use definition::Counters;
 use definition::Links;
 use definition::Pass;
@@ -10,6 +11,7 @@ ghost use mathlib.Core.Path.{_≡_};
 ghost use Prim.Native.Nat.{_+_, _*_, _%_, _/_, _≤_, _<_};
 ghost use lib.ListN.{length, drop};
 ghost use Rattle.definition.specs.Basics.{all};
+ghost use Rattle.definition.specs.Board.{Fit};
 ghost use Rattle.definition.specs.Torn.{isNoLinks, isNoRow};
 ghost use Rattle.definition.specs.World.{noRow};
 ghost use Rattle.record.specs.Records.{withBytes};
@@ -34,11 +36,21 @@ ghost use Rattle.words.specs.Words.{
   withList,
   keptOf,
   counterWords,
+  boardIn,
   RowBeside,
   RowsBeside,
   QueuedBeside,
   PassBeside,
 };
+
+// ---- the board
+
+// The board that the words are of: every state is of the standard one, and no word holds its numbers.
+pub fn board_in(words: &[u64]) -> Board
+    ensures { λ r. ⌜ (r ≡ boardIn (now (words .entry))) × Fit r ⌝ }
+{
+    definition::standard()
+}
 
 // ---- read
 

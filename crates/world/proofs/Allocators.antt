@@ -12,7 +12,7 @@ use lib.Dec.{leb}
 use lib.ListN.{length, set}
 use Rattle.definition.specs.declared.Record.{Record}
 use Rattle.definition.specs.declared.Row.{Row}
-use Rattle.definition.specs.Basics.{any}
+use Rattle.definition.specs.Basics.{everywhere, any}
 use Rattle.definition.specs.Board.{Board}
 use Rattle.definition.specs.Frame.{Found, Frames, Levels, allocate, free}
 use Rattle.definition.specs.Allocator.{
@@ -84,16 +84,16 @@ module _ {board : Board} where
 module _ (l : ℕ) (z o : Bool) (fs : Frames) where
   -- what the region i gives
   abbrev pub given : List AllocationRegion → ℕ → Found
-  given rs i = allocate l (levelsOf fs (regionAt rs i)) z o
+  given rs i = allocate everywhere l (levelsOf fs (regionAt rs i)) z o
 
-  pub pass-none : (rs : List AllocationRegion) → ((i : ℕ) → i < length rs → given rs i .page ≡ none) → pass l z o fs rs ≡ record { allocator = record { frames = fs; regions = rs }; page = none }
+  pub pass-none : (rs : List AllocationRegion) → ((i : ℕ) → i < length rs → given rs i .page ≡ none) → pass everywhere l z o fs rs ≡ record { allocator = record { frames = fs; regions = rs }; page = none }
   unfolding pass
   pass-none [] h = refl
   pass-none (r ∷ rs) h = rw (h 0 (omega arith), pass-none rs (λ i k. h (suc i) (omega arith))) refl
 
   pub pass-found
       : (rs : List AllocationRegion) (i p : ℕ) → i < length rs → ((j : ℕ) → j < i → given rs j .page ≡ none) → given rs i .page ≡ some p
-      → pass l z o fs rs
+      → pass everywhere l z o fs rs
       ≡ record {
         allocator = record { frames = given rs i .levels .frames; regions = set rs i (withFree (regionAt rs i) (given rs i .levels .free)) };
         page = some p;

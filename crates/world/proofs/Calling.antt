@@ -31,7 +31,6 @@ use Rattle.definition.specs.Refusal.{lowest, numberOf}
 use Rattle.definition.specs.Calls.{Call, Answer, Refused, Outcome, names, perform, sheet, step}
 use Rattle.definition.specs.World.{World, decode, encode}
 use Rattle.definition.specs.Torn.{Left, Sound, call, sound}
-use Rattle.world.specs.Fit.{Fit}
 use Rattle.world.specs.Refusals.{numberIf}
 use Rattle.world.proofs.RoundTrip.{round-trip}
 
@@ -40,7 +39,6 @@ module _ (board : Board) where
   unfolding call
   torn-call w c e = rw e refl
 
-module _ {board : Board} (fit : Fit board) where
   module _ (w : World) (c : Call) (t : sound board w ≡ true) where
     abbrev found : Option Refusal
     found = lowest (sheet board (decode board w) (names c))
@@ -49,7 +47,7 @@ module _ {board : Board} (fit : Fit board) where
         : Sound board w → ((i : ℕ) → getD (w .records) i 0 < 256) → (r : Refusal) → found ≡ some r
         → call board w c ≡ record { world = w; answer = Refused r }
     unfolding call step
-    refused-call S small r e = rw (t, e) (ap (λ (v : World). record { world = v; answer = Refused r }) (round-trip fit w S small))
+    refused-call S small r e = rw (t, e) (ap (λ (v : World). record { world = v; answer = Refused r }) (round-trip w S small))
 
     pub done-call
         : (o : Outcome) (v : World) → found ≡ none → perform board (decode board w) c ≡ o → encode board (o .store) w ≡ v

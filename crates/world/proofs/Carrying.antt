@@ -11,7 +11,7 @@ use native.Mathlib.Numerals.{add-one}
 use native.Mathlib.Omega.{arith}
 use borrow.Author.Tests.{eq-eqb, ne-eqb}
 use Rattle.definition.specs.Board.{Board}
-use Rattle.definition.specs.Basics.{Popped, behind, popBack, upd}
+use Rattle.definition.specs.Basics.{everywhere, Popped, orThis, popLast, popBack, upd}
 use Rattle.definition.specs.Frame.{
   Found,
   Frame,
@@ -67,12 +67,12 @@ module _ {board : Board} where
 -- ---- the back of a list
 
 pop-all : {P : ℕ → Type 0} {xs : List ℕ} → All P xs → (e : Popped) → popBack xs ≡ some e → All P (e .rest) × P (e .last)
-unfolding popBack
+unfolding popLast
 pop-all all-none e d = let z : _≡_ {A = ℕ} 0 1 = cc in absurd (omega arith)
 pop-all {P} (all-more {x = x} {xs = xs} a rest) e d = go (popBack xs) refl (pop-all rest)
   where
     go : (o : Option Popped) → popBack xs ≡ o → ((u : Popped) → popBack xs ≡ some u → All P (u .rest) × P (u .last)) → All P (e .rest) × P (e .last)
-    go none h ih = let k : e ≡ record { rest = []; last = x } = cc in rw k (all-none, a)
+    go none h ih = let k : e ≡ record { rest = xs; last = x } = cc in rw k (rest, a)
     go (some u) h ih =
         let k : e ≡ record { rest = x ∷ u .rest; last = u .last } = cc in
         let m = ih u h in
@@ -82,14 +82,14 @@ abbrev mapped : (ℕ → ℕ) → Option Popped → Option Popped
 mapped g none = none
 mapped g (some e) = some (record { rest = map g (e .rest); last = g (e .last) })
 
-map-behind : (g : ℕ → ℕ) (x : ℕ) (o : Option Popped) → behind (g x) (mapped g o) ≡ mapped g (behind x o)
-map-behind g x none = refl
-map-behind g x (some e) = refl
+map-behind : (g : ℕ → ℕ) (x : ℕ) (xs : List ℕ) (o : Option Popped) → orThis true (g x) (map g xs) (mapped g o) ≡ mapped g (orThis true x xs o)
+map-behind g x xs none = refl
+map-behind g x xs (some e) = refl
 
 pop-map : (g : ℕ → ℕ) (xs : List ℕ) → popBack (map g xs) ≡ mapped g (popBack xs)
-unfolding popBack
+unfolding popLast
 pop-map g [] = refl
-pop-map g (x ∷ xs) = ap (behind (g x)) (pop-map g xs) ∙ map-behind g x (popBack xs)
+pop-map g (x ∷ xs) = ap (orThis true (g x) (map g xs)) (pop-map g xs) ∙ map-behind g x xs (popBack xs)
 
 module _ {board : Board} where
   module _ {from base pages : ℕ} where
@@ -157,7 +157,7 @@ module _ {board : Board} where
     pub alike-nothing : {s t : Levels} → Shifted board from base pages s t → Alike board from base pages t (nothing s) (nothing t)
     alike-nothing S = record { carried = carried-none S; page = refl; inside = λ p e. let z : _≡_ {A = ℕ} 0 1 = cc in absurd (omega arith) }
 
-    pub alike-pop : {s t : Levels} → Shifted board from base pages s t → (k : ℕ) → Alike board from base pages t (popFrom s k) (popFrom t k)
+    pub alike-pop : {s t : Levels} → Shifted board from base pages s t → (k : ℕ) → Alike board from base pages t (popFrom everywhere s k) (popFrom everywhere t k)
     unfolding popFrom
     alike-pop {s} {t} S k = rw (S .free k, pop-map (shift from base) (s .free k)) (go (popBack (s .free k)) refl)
       where
@@ -193,13 +193,13 @@ module _ {board : Board} where
         go none e = rw (or-none a a2 e, or-none b b2 (A .page ∙ ap (shifted from base) e)) B
         go (some p) e = rw (or-page a a2 p e, or-page b b2 (shift from base p) (A .page ∙ ap (shifted from base) e)) A
 
-    pub alike-level : {s t : Levels} → Shifted board from base pages s t → (l : ℕ) (z o : Bool) → Alike board from base pages t (levelAllocate s l z o) (levelAllocate t l z o)
+    pub alike-level : {s t : Levels} → Shifted board from base pages s t → (l : ℕ) (z o : Bool) → Alike board from base pages t (levelAllocate everywhere s l z o) (levelAllocate everywhere t l z o)
     unfolding levelAllocate
     alike-level S l z true = alike-pop S (slot l true)
     alike-level {s} {t} S l true false =
-        alike-or (popFrom s (slot l false)) (popFrom t (slot l false)) (popFrom s (slot l true)) (popFrom t (slot l true)) (alike-pop S (slot l false)) (alike-pop S (slot l true))
+        alike-or (popFrom everywhere s (slot l false)) (popFrom everywhere t (slot l false)) (popFrom everywhere s (slot l true)) (popFrom everywhere t (slot l true)) (alike-pop S (slot l false)) (alike-pop S (slot l true))
     alike-level {s} {t} S l false false =
-        alike-or (popFrom s (slot l false)) (popFrom t (slot l false)) (nothing s) (nothing t) (alike-pop S (slot l false)) (alike-nothing S)
+        alike-or (popFrom everywhere s (slot l false)) (popFrom everywhere t (slot l false)) (nothing s) (nothing t) (alike-pop S (slot l false)) (alike-nothing S)
 
     -- ---- a split
 
@@ -256,10 +256,10 @@ module _ {board : Board} where
 
     alike-parted
         : {t : Levels} (l : ℕ) (z o : Bool) (a b : Found) → Alike board from base pages t a b
-        → ((p : ℕ) → a .page ≡ some p → p + 512 * size l ≤ base + managed board pages) → Alike board from base pages t (thenSplit l z o a) (thenSplit l z o b)
+        → ((p : ℕ) → a .page ≡ some p → p + 512 * size l ≤ base + managed board pages) → Alike board from base pages t (thenSplit everywhere l z o a) (thenSplit everywhere l z o b)
     alike-parted {t} l z o a b A fits = go (a .page) refl
       where
-        go : (x : Option ℕ) → a .page ≡ x → Alike board from base pages t (thenSplit l z o a) (thenSplit l z o b)
+        go : (x : Option ℕ) → a .page ≡ x → Alike board from base pages t (thenSplit everywhere l z o a) (thenSplit everywhere l z o b)
         go none e = rw (parted-none l z o a e, parted-none l z o b (A .page ∙ ap (shifted from base) e)) A
         go (some p) e =
             let C = carried-then (A .carried) (carried-split (A .carried .same) p l (A .inside p e .low) (fits p e)) in
@@ -268,21 +268,21 @@ module _ {board : Board} where
 
     pub alike-do
         : {s t : Levels} → Shifted board from base pages s t → Good board s none from base pages → (left l : ℕ) → l + left ≡ 3 → (z o : Bool)
-        → Alike board from base pages t (doAllocate left l s z o) (doAllocate left l t z o)
+        → Alike board from base pages t (doAllocate everywhere left l s z o) (doAllocate everywhere left l t z o)
     unfolding doAllocate
     alike-do S G zero l h z o = alike-nothing S
     alike-do {s} {t} S G (suc left) l h z o =
         let F = fine-do left (l + 1) z o G (omega arith) in
-        let up = doAllocate left (l + 1) s z o in
-        alike-or (levelAllocate s l z o) (levelAllocate t l z o) (thenSplit l z o up) (thenSplit l z o (doAllocate left (l + 1) t z o)) (alike-level S l z o)
-        (alike-parted l z o up (doAllocate left (l + 1) t z o) (alike-do S G left (l + 1) (omega arith) z o)
+        let up = doAllocate everywhere left (l + 1) s z o in
+        alike-or (levelAllocate everywhere s l z o) (levelAllocate everywhere t l z o) (thenSplit everywhere l z o up) (thenSplit everywhere l z o (doAllocate everywhere left (l + 1) t z o)) (alike-level S l z o)
+        (alike-parted l z o up (doAllocate everywhere left (l + 1) t z o) (alike-do S G left (l + 1) (omega arith) z o)
         (λ p e. splits l (subst (λ (x : Option ℕ). Good board (up .levels) x from base pages) e (F .good)) (F .ready p e) .high))
 
     pub alike-allocate
         : {s t : Levels} → Shifted board from base pages s t → Good board s none from base pages → (l : ℕ) → l < 3 → (z o : Bool)
-        → Alike board from base pages t (allocate l s z o) (allocate l t z o)
+        → Alike board from base pages t (allocate everywhere l s z o) (allocate everywhere l t z o)
     unfolding allocate
-    alike-allocate {s} {t} S G l h z o = go (doAllocate (3 - l) l s z o) (doAllocate (3 - l) l t z o) (alike-do S G (3 - l) l (omega arith) z o)
+    alike-allocate {s} {t} S G l h z o = go (doAllocate everywhere (3 - l) l s z o) (doAllocate everywhere (3 - l) l t z o) (alike-do S G (3 - l) l (omega arith) z o)
       where
         go : (a b : Found) → Alike board from base pages t a b → Alike board from base pages t (setAllocated a) (setAllocated b)
         go a b A = at (a .page) refl

@@ -13,10 +13,9 @@ use Rattle.definition.specs.Store.{Store}
 use Rattle.definition.specs.World.{World, decode, encode, recordAt}
 use Rattle.definition.specs.Torn.{Sound, recordsOf, regionsOf}
 use Rattle.record.specs.Records.{pagesIn}
-use Rattle.world.specs.Fit.{Fit}
 use Rattle.world.specs.Stands.{Stands}
 use Rattle.world.specs.Tables.{Sane, Table, Turned}
-use Rattle.world.proofs.Bytes.{pages-same}
+use Rattle.definition.proofs.Bytes.{pages-same}
 use Rattle.world.proofs.Encoding.{ends-agree, stands-encode}
 use Rattle.world.proofs.RoundTrip.{decode-stands}
 use Rattle.world.proofs.Sheets.{AsBoot, as-boot, managed-most, rows-apart, sound-rows}
@@ -25,7 +24,7 @@ use Rattle.world.proofs.Writing.{Rewritten}
 
 -- ---- the table of a sound world
 
-module _ {board : Board} (fit : Fit board) where
+module _ {board : Board} where
   module _ (w : World) (S : Sound board w) where
     abbrev pub regionsIn : List AllocationRegion
     regionsIn = decode board w .allocator .regions
@@ -33,21 +32,21 @@ module _ {board : Board} (fit : Fit board) where
     pub sound-sane : Sane board (recordAt (w .records)) (pagesIn (w .records)) (w .rows)
     sound-sane =
         let b = as-boot (w .rows) (S .rows) in
-        let d = decode-stands fit w S in
+        let d = decode-stands w S in
         record {
           eight = d .eight;
           unused = d .unused;
-          good = sound-rows fit w S;
+          good = sound-rows w S;
           apart = rows-apart w S;
           most = omega (arith, b .most, managed-most board (regionsOf board (w .rows)));
         }
 
     pub sound-table : Table board (recordAt (w .records)) (pagesIn (w .records)) (w .rows) (decode board w .allocator)
-    sound-table = record { sane = sound-sane; stands = decode-stands fit w S .rows }
+    sound-table = record { sane = sound-sane; stands = decode-stands w S .rows }
 
     -- nothing is written
     pub unwritten : Rewritten board regionsIn (w .memory) (decode board w .memory) (w .memory)
-    unwritten = record { memory = decode-stands fit w S .memory; as-long = refl; beyond = refl }
+    unwritten = record { memory = decode-stands w S .memory; as-long = refl; beyond = refl }
 
     module _
         (s : Store) (v : World) (turned : Turned board (recordAt (w .records)) (w .rows) (recordAt (v .records)) (pagesIn (v .records)) (v .rows) (s .allocator))
@@ -68,7 +67,7 @@ module _ {board : Board} (fit : Fit board) where
         same-managed = spans-turned (managed-spans board) sound-table turned-here
 
         managed-is : managedPages board (s .allocator .regions) ≡ managedPages board (regionsOf board (w .rows))
-        managed-is = same-managed ∙ spans-bare (managed-spans board) (decode-stands fit w S .rows)
+        managed-is = same-managed ∙ spans-bare (managed-spans board) (decode-stands w S .rows)
 
         here : Rewritten board (s .allocator .regions) (w .memory) (s .memory) (v .memory)
         here = rewritten-same board regionsIn (s .allocator .regions) same-spans written
@@ -86,7 +85,7 @@ module _ {board : Board} (fit : Fit board) where
               queue = queue;
               queued = queued;
               room = room;
-              fits = omega (arith, here .as-long, pages-same (board .page) same-managed, decode-stands fit w S .fits);
+              fits = omega (arith, here .as-long, pages-same (board .page) same-managed, decode-stands w S .fits);
               memory = here .memory;
             }
 

@@ -1,4 +1,3 @@
-pub mod Bytes
 pub mod Clauses
 pub mod Regions
 pub mod Sheets

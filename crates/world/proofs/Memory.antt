@@ -12,7 +12,7 @@ use Rattle.definition.specs.Boot.{managedPages, overlap}
 use Rattle.definition.specs.Allocator.{AllocationRegion, first, managed}
 use Rattle.definition.specs.Store.{Memory}
 use Rattle.definition.specs.World.{memoryOf, memoryBytes}
-use Rattle.world.proofs.Bytes.{address-is, offset-of, offset-small, page-below, page-of, pages-none, some-byte}
+use Rattle.definition.proofs.Bytes.{address-is, offset-of, offset-small, page-below, page-of, pages-none, some-byte}
 use Rattle.world.proofs.Numbering.{EachPage, each-first, each-rest, overlap-rest}
 use Rattle.world.proofs.Parts.{part, part-front, part-none, part-join, run-part}
 

@@ -25,7 +25,7 @@ use Rattle.region.specs.Rep.{Inside, fromOf, managed, stateOf}
 use Rattle.world.specs.Stands.{Disjoint, Good, baseAt, regionAt, rowAt}
 use Rattle.world.specs.Stands.Disjoint.{disjoint-more}
 use Rattle.world.specs.Tables.{Sane, Spotted}
-use Rattle.world.proofs.Bytes.{address-by, offset-at, offset-on, offsets-on, page-at, page-below, page-from, pages-order, some-byte}
+use Rattle.definition.proofs.Bytes.{address-by, offset-at, offset-on, offsets-on, page-at, page-below, page-from, pages-order, some-byte}
 use Rattle.world.proofs.Numbering.{EachPage, each-first, each-rest, overlap-rest}
 use Rattle.world.proofs.Sheets.{each-at, good-at}
 use Rattle.world.proofs.Tables.{used-row}

@@ -20,11 +20,10 @@ use Rattle.definition.proofs.Tests.{and-right}
 use Rattle.definition.specs.World.{World, usedRows, recordAt, frameOf, frameAt, bareRegion, decodeRow, decodeRows, decode, encode}
 use Rattle.list.proofs.Laws.{all-map}
 use Rattle.region.specs.Rep.{fromOf, managed, stateOf}
-use Rattle.world.specs.Fit.{Fit}
 use Rattle.world.specs.Stands.{GoodRows, StandRows, Stands}
 use Rattle.world.specs.Stands.GoodRows.{good-none, good-more}
 use Rattle.world.specs.Stands.StandRows.{stand-none, stand-more}
-use Rattle.world.proofs.Bytes.{pages-same}
+use Rattle.definition.proofs.Bytes.{pages-same}
 use Rattle.world.proofs.Encoding.{stands-encode}
 use Rattle.world.proofs.Memory.{memory-back}
 use Rattle.world.proofs.Numbering.{EachPage, each-first, each-rest, overlap-rest}
@@ -94,7 +93,7 @@ module _ (board : Board) where
 
 -- ---- the world
 
-module _ {board : Board} (fit : Fit board) where
+module _ {board : Board} where
   module _ (w : World) (sound : Sound board w) where
     boot : AsBoot board (w .rows)
     boot = as-boot (w .rows) (sound .rows)
@@ -121,7 +120,7 @@ module _ {board : Board} (fit : Fit board) where
         record {
           eight = boot .eight;
           unused = unused-rows (w .rows) (boot .eight) (boot .six) (boot .unused);
-          rows = rows-stand (sound-rows fit w sound) disjoint (λ p q h. ap (frameAt (recordAt (w .records))) h);
+          rows = rows-stand (sound-rows w sound) disjoint (λ p q h. ap (frameAt (recordAt (w .records))) h);
           counters = refl;
           pass = refl;
           queue = refl;

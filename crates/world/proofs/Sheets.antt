@@ -12,7 +12,7 @@ use lib.Dec.{eqb, ltb}
 use lib.ListN.{getD, length, drop}
 use Rattle.definition.specs.declared.Record.{Record}
 use Rattle.definition.specs.declared.Row.{Row}
-use Rattle.definition.specs.Board.{Board}
+use Rattle.definition.specs.Board.{Board, Fit}
 use Rattle.definition.specs.Basics.{all, any, sum}
 use Rattle.definition.specs.Frame.{Levels}
 use Rattle.definition.specs.Allocator.{AllocationRegion, tablePages, total}
@@ -27,12 +27,12 @@ use Rattle.region.specs.Rep.{Rep, SoundRow, WholeRow, fromOf, managed, stateOf}
 use Rattle.region.proofs.Laws.{apart}
 use Rattle.scan.specs.Sheet.{placedAt, wholeRow}
 use Rattle.scan.proofs.Rows.{whole-rows}
-use Rattle.world.specs.Fit.{Fit}
 use Rattle.world.specs.Stands.{Disjoint, Each, Good, GoodRows, Parted, baseAt}
 use Rattle.world.specs.Stands.Disjoint.{disjoint-none, disjoint-more}
 use Rattle.world.specs.Stands.Each.{each-none, each-more}
 use Rattle.world.specs.Stands.GoodRows.{good-none, good-more}
-use Rattle.world.proofs.Bytes.{address-is, pages-bound}
+use Rattle.definition.proofs.Boards.{page-least}
+use Rattle.definition.proofs.Bytes.{address-is, pages-bound}
 use Rattle.world.proofs.Regions.{row-sheet, row-sound, row-whole}
 
 -- ---- the clauses on the rows
@@ -83,7 +83,14 @@ module _ (board : Board) where
 
 -- ---- the rows in use are good
 
-module _ {board : Board} (fit : Fit board) where
+-- 2^40 bytes are of at most 2^28 pages
+pub good-few
+    : {board : Board} → Fit board → {f : ℕ → Record} {n base : ℕ} {row : Row} → Good board f n base row
+    → row .start .0 / board .page + row .pages ≤ 268435456
+good-few {board} fit {row = row} G =
+    omega (arith, pages-bound (board .page) (page-least fit) (row .start .0 / board .page + row .pages) {n = highestAddress} (G .bounded))
+
+module _ {board : Board} where
   module _ (f : Records) (n : ℕ) where
     -- a page edge, more pages than the tables take, an end by 2^40
     good-row : {base : ℕ} {row : Row} → rowAsBoot board row ≡ true → SoundRow board f n base row → WholeRow board f base row → Good board f n base row
@@ -93,7 +100,7 @@ module _ {board : Board} (fit : Fit board) where
         let c = leb-true (row .start .0 + board .page * row .pages) highestAddress (and-right (ltb (tablePages board (row .pages)) (row .pages)) _ b) in
         record {
           aligned = eqb-true (row .start .0 % board .page) 0 (and-left _ _ t);
-          bounded = let few = pages-bound (board .page) (fit .least) (row .start .0 / board .page + row .pages) {n = highestAddress} (omega (arith, address-is (board .page) (row .start .0))) in omega arith;
+          bounded = omega (arith, address-is (board .page) (row .start .0));
           tables = ltb-true (tablePages board (row .pages)) (row .pages) (and-left _ _ b);
           sound = sound;
           whole = whole;

@@ -18,7 +18,7 @@ use Rattle.list.proofs.Laws.{all-map}
 use Rattle.region.specs.Rep.{Inside, encode, fromOf, listsOf, managed, stateOf}
 use Rattle.region.proofs.Exact.{encoded, listed-as}
 use Rattle.world.specs.Stands.{shift, StandsRow}
-use Rattle.world.proofs.Bytes.{aligned-is, pages-same}
+use Rattle.definition.proofs.Bytes.{aligned-is, pages-same}
 
 pub row-same : {a b c d : ℕ} {x y : List Links} → a ≡ b → c ≡ d → x ≡ y
     → _≡_ {A = Row} (record { start = record { 0 = a }; pages = c; lists = x }) (record { start = record { 0 = b }; pages = d; lists = y })

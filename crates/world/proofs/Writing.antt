@@ -20,7 +20,7 @@ use Rattle.definition.specs.World.{memoryBytes, numberIn}
 use Rattle.definition.proofs.Tests.{and-left, and-right}
 use Rattle.record.specs.Records.{withBytes}
 use Rattle.record.proofs.Bytes.{with-in, with-length, with-out}
-use Rattle.world.proofs.Bytes.{address-is, byte-inside, offset-small, offsets-on, pages-sum, some-byte}
+use Rattle.definition.proofs.Bytes.{address-is, byte-inside, offset-small, offsets-on, pages-sum, some-byte}
 use Rattle.world.proofs.Memory.{Holds, memory-front}
 use Rattle.world.proofs.Numbering.{EachPage}
 use Rattle.world.proofs.Parts.{part, run-part}

@@ -1,4 +1,3 @@
-pub mod Fit
 pub mod Stands
 pub mod Tables
 pub mod Refusals

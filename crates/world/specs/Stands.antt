@@ -11,7 +11,7 @@ use Rattle.definition.specs.declared.Row.{Row}
 use Rattle.definition.specs.Board.{Board}
 use Rattle.definition.specs.Frame.{Found, Frames, Levels}
 use Rattle.definition.specs.Allocator.{AllocationRegion, levelsOf, tablePages}
-use Rattle.definition.specs.Boot.{managedPages, mostRows}
+use Rattle.definition.specs.Boot.{managedPages, mostRows, highestAddress}
 use Rattle.definition.specs.Store.{Store}
 use Rattle.definition.specs.World.{World, recordAt, memoryBytes, noRow, usedRows}
 use Rattle.record.specs.Records.{pagesIn}
@@ -89,7 +89,7 @@ module _ (board : Board) where
   -- the row, whose first managed page is the page `base`, is such as boot makes, and its region is sound and whole
   pub record Good (f : ℕ → Record) (n base : ℕ) (row : Row) : Type 0 where
     pub aligned : row .start .0 % board .page ≡ 0
-    pub bounded : row .start .0 / board .page + row .pages ≤ 2 ^ 28
+    pub bounded : board .page * (row .start .0 / board .page + row .pages) ≤ highestAddress
     pub tables : tablePages board (row .pages) < row .pages
     pub sound : SoundRow board f n base row
     pub whole : WholeRow board f base row

@@ -3,11 +3,10 @@ use Prim.Native.Nat.{_-_, _<_}
 use mathlib.Core.Path.{_≡_, sym, _∙_}
 use borrow.Author.Needs.{needs}
 use lib.ListN.{length}
-use Rattle.definition.specs.Board.{standard}
 use Rattle.definition.specs.Allocator.{PhysicalFrameAllocator, isListed}
 use Rattle.definition.specs.World.{recordAt, usedRows}
 use Rattle.record.specs.Records.{pagesIn}
-use Rattle.words.specs.Words.{rowsIn}
+use Rattle.words.specs.Words.{boardIn, rowsIn}
 use Rattle.world.specs.Stands.{regionAt}
 use Rattle.world.specs.Tables.{Table}
 use Rattle.allocator.proofs.Arrays.{Onward, onward-none, onward-row, onward-found, onward-end, row-used, row-last, row-eighth, region-stands}
@@ -16,7 +15,7 @@ use Rattle.allocator.proofs.is_listed.Statement.{statement}
 use Rattle.allocator.proofs.is_listed.Tie as tie
 
 abbrev Inv-loop : tie.InvT-loop
-Inv-loop words records level i₀ i = Onward standard (recordAt records) (pagesIn records) (rowsIn words) (listsIn level) i
+Inv-loop words records level i₀ i = Onward (boardIn words) (recordAt records) (pagesIn records) (rowsIn words) (listsIn level) i
 
 abbrev μ-loop : tie.MeasureT-loop
 μ-loop words records level i₀ i = 8 - i
@@ -54,7 +53,7 @@ lists
     : (c : tie.After-lists-some Inv-loop μ-loop)
     → let k = c .before .before .before .before .before in
     let s = k .before .before .before .args in
-    (a : PhysicalFrameAllocator) → Table standard (recordAt (s .records .now)) (pagesIn (s .records .now)) (rowsIn (s .words .now)) a
+    (a : PhysicalFrameAllocator) → Table (boardIn (s .words .now)) (recordAt (s .records .now)) (pagesIn (s .records .now)) (rowsIn (s .words .now)) a
     → listsIn (s .level) (regionAt (a .regions) (k .loop .i)) ≡ c .lists-some .result
 lists c a T =
     let e = c .before in

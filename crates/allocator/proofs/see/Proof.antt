@@ -1,23 +1,28 @@
 -- `see` meets its contract. The loop's invariant is `Looking`: some region manages the page exactly if one of those that are left does, and `base` is where
 -- their pages start.
 use Prim.Native.Nat.{_-_, _/_, _<_}
+use mathlib.Core.Path.{_≡_}
 use native.Mathlib.Omega.{arith}
 use borrow.Author.Needs.{needs}
-use Rattle.definition.specs.Board.{standard}
 use Rattle.definition.specs.World.{recordAt}
 use Rattle.record.specs.Records.{pagesIn}
 use Rattle.region.specs.Rep.{managed}
-use Rattle.words.specs.Words.{rowsIn}
+use Rattle.words.specs.Words.{boardIn, rowsIn}
+use Rattle.words.proofs.Words.{fit-in}
 use Rattle.allocator.proofs.Arrays.{row-last, row-eighth}
 use Rattle.allocator.proofs.Seeing.{Looking, looking-none, Here, here, nothing-left, not-here, found-inside, found-here}
 use Rattle.allocator.proofs.see.Statement.{statement}
 use Rattle.allocator.proofs.see.Tie as tie
 
 abbrev Inv-loop : tie.InvT-loop
-Inv-loop words records pa base₀ i₀ base i = Looking standard (recordAt records) (pagesIn records) (rowsIn words) (pa .0 / 4096) base i
+Inv-loop words records pa board base₀ i₀ base i =
+    Looking (boardIn words) (recordAt records) (pagesIn records) (rowsIn words) (pa .0 / boardIn words .page) base i
 
 abbrev μ-loop : tie.MeasureT-loop
-μ-loop words records pa base₀ i₀ base i = 8 - i
+μ-loop words records pa board base₀ i₀ base i = 8 - i
+
+board-in-requires : tie.Need-board-in-requires Inv-loop μ-loop
+board-in-requires c κs = search needs
 
 loop-holds : tie.Need-loop-holds Inv-loop μ-loop
 loop-holds c = looking-none
@@ -31,7 +36,7 @@ nothing-seen-requires c κs = search needs
 returns : tie.Need-returns Inv-loop μ-loop
 returns c =
     let k = c .before .before .before .before .before in
-    let s = k .before .before .before in
+    let s = k .before .before .before .before in
     nothing-left (k .loop .inv) (c .nothing-seen .result) (c .nothing-seen .ensures)
     (row-last (s .pre .1) (k .loop .i) (k .loop .inv .onward .used) (rw (c .before .before .before .row-at .ensures) at (c .before .if1 .taken)))
 
@@ -39,15 +44,23 @@ returns c =
 turn
     : (c : tie.Else1 Inv-loop μ-loop)
     → let k = c .before .before .before .before in
-    let a = k .before .before .before .args in
-    Here standard (pagesIn (a .records .now)) (rowsIn (a .words .now)) (k .loop .base) (k .loop .i)
+    let a = k .before .before .before .before .args in
+    Here (boardIn (a .words .now)) (pagesIn (a .records .now)) (rowsIn (a .words .now)) (k .loop .base) (k .loop .i)
 turn c =
     let k = c .before .before .before .before in
-    let s = k .before .before .before in
-    here (k .loop .inv) (s .pre .1) (c .before .before .before .loop-test .taken) (rw (c .before .before .row-at .ensures) at (c .if1 .left))
+    let s = k .before .before .before .before in
+    here (k .loop .inv) (fit-in _) (s .pre .1) (c .before .before .before .loop-test .taken) (rw (c .before .before .row-at .ensures) at (c .if1 .left))
+
+-- the board that it is looked at with
+board-is
+    : (c : tie.Else1 Inv-loop μ-loop)
+    → let b = c .before .before .before .before .before in b .board-in .result ≡ boardIn (b .before .before .before .args .words .now)
+board-is c = c .before .before .before .before .before .board-in .ensures .0
 
 get-frame-requires : tie.Need-get-frame-requires Inv-loop μ-loop
-get-frame-requires c κs = let t = turn c in rw (c .before .before .row-at .ensures) (t .pages, omega (arith, t .small))
+get-frame-requires c κs =
+    let t = turn c in
+    rw (c .before .before .row-at .ensures, board-is c) (fit-in _, (t .pages, omega (arith, t .small)))
 
 enum-known-page : tie.Need-enum-known-page Inv-loop μ-loop
 enum-known-page c = search needs
@@ -55,13 +68,13 @@ enum-known-page c = search needs
 -- the page has a record
 inside
     : (c : tie.After-known-told Inv-loop μ-loop)
-    → c .before .page .given .0 .0 < pagesIn (c .before .before .before .before .before .before .before .before .before .before .before .args .records .now)
+    → c .before .page .given .0 .0 < pagesIn (c .before .before .before .before .before .before .before .before .before .before .before .before .args .records .now)
 inside c =
     let e = c .before .before .before .before in
     let k = e .before .before .before .before .loop in
     let g = c .before .before .before .get-frame in
     let v = c .before .page .given in
-    found-inside (k .inv) (turn e) (g .result) (rw (e .before .before .row-at .ensures) at (g .ensures)) (v .0 .0) (v .1)
+    found-inside (k .inv) (turn e) (g .result) (rw (e .before .before .row-at .ensures, board-is e) at (g .ensures)) (v .0 .0) (v .1)
 
 marks-requires : tie.Need-marks-requires Inv-loop μ-loop
 marks-requires c κs = inside c
@@ -75,7 +88,7 @@ returns-2 c =
     let k = e .before .before .before .before .loop in
     let g = c .before .before .before .before .before .get-frame in
     let v = c .before .before .before .page .given in
-    found-here (k .inv) (turn e) (g .result) (rw (e .before .before .row-at .ensures) at (g .ensures)) (v .0 .0) (v .1)
+    found-here (k .inv) (turn e) (g .result) (rw (e .before .before .row-at .ensures, board-is e) at (g .ensures)) (v .0 .0) (v .1)
     (c .before .marks .result) (c .level .result) (c .before .marks .ensures) (c .level .ensures)
 
 enum-told : tie.Need-enum-told Inv-loop μ-loop
@@ -84,20 +97,21 @@ enum-told c = search needs
 table-pages-requires : tie.Need-table-pages-requires Inv-loop μ-loop
 table-pages-requires c κs =
     let e = c .before .before .before in
-    let t = turn e in rw (e .before .before .row-at .ensures) (omega (arith, t .pages))
+    let t = turn e in
+    rw (e .before .before .row-at .ensures, board-is e) (fit-in _, omega (arith, t .pages))
 
 sub-base : tie.Need-sub-base Inv-loop μ-loop
 sub-base c =
     let e = c .before .before .before .before .before in
     let t = turn e in
-    let p = rw (e .before .before .row-at .ensures) at (c .before .table-pages .ensures) in
+    let p = rw (e .before .before .row-at .ensures, board-is e) at (c .before .table-pages .ensures) in
     rw (e .before .before .row-at .ensures) (omega (arith, t .tables, p))
 
 add-base : tie.Need-add-base Inv-loop μ-loop
 add-base c =
     let e = c .before .before .before .before .before in
     let t = turn e in
-    let p = rw (e .before .before .row-at .ensures) at (c .before .table-pages .ensures) in
+    let p = rw (e .before .before .row-at .ensures, board-is e) at (c .before .table-pages .ensures) in
     rw (e .before .before .row-at .ensures) (omega (arith, t .small, p))
 
 add-i : tie.Need-add-i Inv-loop μ-loop
@@ -112,8 +126,8 @@ loop-again c =
     let e = c .before .before .before .before .before in
     let k = e .before .before .before .before .loop in
     let g = c .before .before .before .before .get-frame in
-    rw (c .before .table-pages .ensures, e .before .before .row-at .ensures)
-    (not-here (k .inv) (turn e) (g .result) (rw (e .before .before .row-at .ensures) at (g .ensures)) (c .before .before .enum-told .given .1))
+    rw (c .before .table-pages .ensures, e .before .before .row-at .ensures, board-is e)
+    (not-here (k .inv) (turn e) (g .result) (rw (e .before .before .row-at .ensures, board-is e) at (g .ensures)) (c .before .before .enum-told .given .1))
 
 nothing-seen-requires-2 : tie.Need-nothing-seen-requires-2 Inv-loop μ-loop
 nothing-seen-requires-2 c κs = search needs
@@ -121,7 +135,7 @@ nothing-seen-requires-2 c κs = search needs
 returns-3 : tie.Need-returns-3 Inv-loop μ-loop
 returns-3 c =
     let k = c .before .before in
-    let s = k .before .before .before in
+    let s = k .before .before .before .before in
     nothing-left (k .loop .inv) (c .nothing-seen2 .result) (c .nothing-seen2 .ensures) (row-eighth (s .pre .1) (k .loop .i) (c .before .loop-test .left))
 
 pub see-spec : {M : Type 1} → statement M
@@ -130,6 +144,7 @@ see-spec =
     (tie.spec
     Inv-loop
     μ-loop
+    board-in-requires
     loop-holds
     row-at-requires
     nothing-seen-requires

@@ -4,14 +4,17 @@ use Rattle.allocator.proofs.Turning.{spot-good, spot-index, mark-turns}
 use Rattle.allocator.proofs.set_marks.Statement.{statement}
 use Rattle.allocator.proofs.set_marks.Tie as tie
 
+board-in-requires : tie.Need-board-in-requires
+board-in-requires c κs = search needs
+
 row-at-requires : tie.Need-row-at-requires
-row-at-requires c κs = let s = c .before .before in (s .pre .0 .0, spot-index (s .pre .0 .1) (s .pre .1 .0))
+row-at-requires c κs = let s = c .before .before .before in (s .pre .0 .0, spot-index (s .pre .0 .1) (s .pre .1 .0))
 
 set-marks-requires : tie.Need-set-marks-requires
 set-marks-requires c κs =
-    let s = c .before .before .before .before in
+    let s = c .before .before .before .before .before in
     let G = spot-good (s .pre .0 .1) (s .pre .1 .0) in
-    rw (c .before .row-at .ensures) (G .sound, (G .whole, s .pre .1 .1))
+    rw (c .before .row-at .ensures, c .before .before .board-in .ensures .0) (G .sound, (G .whole, s .pre .1 .1))
 
 same-length : tie.Need-same-length
 same-length c = search needs
@@ -19,9 +22,9 @@ same-length c = search needs
 returns : tie.Need-returns
 returns c =
     let d = c .before .before in
-    let s = d .before .before .before .before .before in
-    let e = rw (d .before .before .row-at .ensures) at (d .set-marks .ensures) in
+    let s = d .before .before .before .before .before .before in
+    let e = rw (d .before .before .row-at .ensures, d .before .before .before .board-in .ensures .0) at (d .set-marks .ensures) in
     λ a T. mark-turns T (s .args .spot) (s .pre .1 .0) (s .args .zeroed) (s .args .kernel) (e .0) (e .1)
 
 pub set-marks-spec : {M : Type 1} → statement M
-set-marks-spec = tie.close (tie.spec row-at-requires set-marks-requires same-length returns)
+set-marks-spec = tie.close (tie.spec board-in-requires row-at-requires set-marks-requires same-length returns)

@@ -4,7 +4,6 @@ use mathlib.Core.Path.{_≡_, refl, sym, ap, _∙_}
 use native.Mathlib.Omega.{arith}
 use lib.ListN.{drop}
 use borrow.Author.Needs.{needs}
-use Rattle.definition.specs.Board.{standard}
 use Rattle.definition.specs.Basics.{any}
 use Rattle.definition.specs.Boot.{shares}
 use Rattle.definition.specs.World.{usedRows, bareRegion}
@@ -18,26 +17,26 @@ use Rattle.audit.proofs.shares_behind.Statement.{statement}
 use Rattle.audit.proofs.shares_behind.Tie as tie
 
 abbrev Inv-loop : tie.InvT-loop
-Inv-loop used i rows row j₀ j =
+Inv-loop board used i rows row j₀ j =
     (used ≤ 8)
     × (j ≤ used)
-    × (any (shares standard (bareRegion standard row)) (bareRegions standard (drop (i + 1) (usedRows rows)))
-    ≡ any (shares standard (bareRegion standard row)) (bareRegions standard (drop j (usedRows rows))))
+    × (any (shares board (bareRegion board row)) (bareRegions board (drop (i + 1) (usedRows rows)))
+    ≡ any (shares board (bareRegion board row)) (bareRegions board (drop j (usedRows rows))))
 
 abbrev μ-loop : tie.MeasureT-loop
-μ-loop used i rows row j₀ j = used - j
+μ-loop board used i rows row j₀ j = used - j
 
 mul-row : tie.Need-mul-row Inv-loop μ-loop
-mul-row c = omega (arith, used-eight (c .args .t1) _ (c .good .0))
+mul-row c = omega (arith, used-eight (c .args .t2) _ (c .good .1 .0))
 
 array-copy-out-row : tie.Need-array-copy-out-row Inv-loop μ-loop
-array-copy-out-row c = omega (arith, used-eight (c .args .t1) _ (c .good .0))
+array-copy-out-row c = omega (arith, used-eight (c .args .t2) _ (c .good .1 .0))
 
 add-j : tie.Need-add-j Inv-loop μ-loop
 add-j c = search needs
 
 loop-holds : tie.Need-loop-holds Inv-loop μ-loop
-loop-holds c = let h = used-eight (c .before .args .t1) _ (c .before .good .0) in (omega arith, omega arith, refl)
+loop-holds c = let h = used-eight (c .before .args .t2) _ (c .before .good .1 .0) in (omega arith, omega arith, refl)
 
 mul-shares : tie.Need-mul-shares Inv-loop μ-loop
 mul-shares c = search needs
@@ -48,8 +47,11 @@ array-copy-out-shares c = search needs
 shares-requires : tie.Need-shares-requires Inv-loop μ-loop
 shares-requires c κs =
     let s = c .before .before .before .before in (
-      used-booted (s .args .t1) (s .args .i) (s .pre .2) (omega arith),
-      used-booted (s .args .t1) (c .before .before .loop .j) (s .pre .2) (omega arith),
+      s .pre .0,
+      (
+        used-booted (s .args .board) (s .args .t2) (s .args .i) (s .pre .1 .2) (omega arith),
+        used-booted (s .args .board) (s .args .t2) (c .before .before .loop .j) (s .pre .1 .2) (omega arith),
+      ),
     )
 
 returns : tie.Need-returns Inv-loop μ-loop
@@ -59,8 +61,8 @@ returns c =
     sym
     (l .inv .2
     ∙ any-off
-    (shares standard (bareRegion standard (rowAt (a .t1) (a .i))))
-    (regions-on (used-at (a .t1) (l .j) (omega arith)))
+    (shares (a .board) (bareRegion (a .board) (rowAt (a .t2) (a .i))))
+    (regions-on (a .board) (used-at (a .t2) (l .j) (omega arith)))
     (sym (c .before .shares .ensures) ∙ c .if1 .taken))
 
 add-j-2 : tie.Need-add-j-2 Inv-loop μ-loop
@@ -77,8 +79,8 @@ loop-again c =
       search needs,
       l .inv .2
           ∙ any-on
-          (shares standard (bareRegion standard (rowAt (a .t1) (a .i))))
-          (regions-on (used-at (a .t1) (l .j) (omega arith)))
+          (shares (a .board) (bareRegion (a .board) (rowAt (a .t2) (a .i))))
+          (regions-on (a .board) (used-at (a .t2) (l .j) (omega arith)))
           (sym (c .before .shares .ensures) ∙ c .if1 .left),
     )
 
@@ -90,8 +92,8 @@ returns-2 c =
     sym
     (l .inv .2
     ∙ ap
-    (λ rows. any (shares standard (bareRegion standard (rowAt (a .t1) (a .i)))) (bareRegions standard rows))
-    (drop-past (usedRows (a .t1)) (l .j) (omega arith)))
+    (λ rows. any (shares (a .board) (bareRegion (a .board) (rowAt (a .t2) (a .i)))) (bareRegions (a .board) rows))
+    (drop-past (usedRows (a .t2)) (l .j) (omega arith)))
 
 pub shares-behind-spec : {M : Type 1} → statement M
 shares-behind-spec =

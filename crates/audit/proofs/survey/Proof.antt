@@ -6,7 +6,8 @@ use borrow.Author.Needs.{needs}
 use borrow.Author.Tests.{not-false, not-true}
 use lib.ListN.{length}
 use Rattle.definition.specs.World.{recordAt}
-use Rattle.words.specs.Words.{rowsIn}
+use Rattle.words.specs.Words.{boardIn, rowsIn}
+use Rattle.words.proofs.Words.{fit-in}
 use Rattle.words.proofs.Places.{in-use}
 use Rattle.audit.specs.Sheet.{rowAt}
 use Rattle.audit.proofs.Arrays.{words-eight}
@@ -15,7 +16,7 @@ use Rattle.audit.proofs.survey.Statement.{statement}
 use Rattle.audit.proofs.survey.Tie as tie
 
 abbrev Inv-loop : tie.InvT-loop
-Inv-loop records words seen₀ seen = Surveying (recordAt records) (length records / 16) (rowsIn words) seen
+Inv-loop records words seen₀ seen = Surveying (boardIn words) (recordAt records) (length records / 16) (rowsIn words) seen
 
 abbrev μ-loop : tie.MeasureT-loop
 μ-loop records words seen₀ seen = 8 - seen .used
@@ -23,7 +24,7 @@ abbrev μ-loop : tie.MeasureT-loop
 loop-holds : tie.Need-loop-holds Inv-loop μ-loop
 loop-holds c =
     let a = c .before .before .args in
-    survey-none (recordAt (a .records .now)) (length (a .records .now) / 16) (rowsIn (a .words .now)) (words-eight (a .words .now))
+    survey-none (boardIn (a .words .now)) (recordAt (a .records .now)) (length (a .records .now) / 16) (rowsIn (a .words .now)) (words-eight (a .words .now))
 
 pages-at-requires : tie.Need-pages-at-requires Inv-loop μ-loop
 pages-at-requires c κs = search needs
@@ -36,7 +37,7 @@ returns c =
     let u = c .before .before in
     let k = u .before .before .before in
     let a = k .before .before .before .args in
-    survey-ended (recordAt (a .records .now)) (length (a .records .now) / 16) (rowsIn (a .words .now)) (k .loop .seen) (k .loop .inv) (omega arith)
+    survey-ended (boardIn (a .words .now)) (recordAt (a .records .now)) (length (a .records .now) / 16) (rowsIn (a .words .now)) (k .loop .seen) (k .loop .inv) (omega arith)
     (sym (u .pages-at .ensures) ∙ c .before .if2 .taken) (c .is-no-rows .result) (c .is-no-rows .ensures)
 
 -- the row has pages
@@ -58,7 +59,7 @@ returns-2 c =
     let d = c .before .before .before in
     let k = d .before .before .before .before .before in
     let a = k .before .before .before .args in
-    torn-row (recordAt (a .records .now)) (length (a .records .now) / 16) (rowsIn (a .words .now)) (k .loop .seen) (k .loop .inv) (omega arith)
+    torn-row (boardIn (a .words .now)) (recordAt (a .records .now)) (length (a .records .now) / 16) (rowsIn (a .words .now)) (k .loop .seen) (k .loop .inv) (omega arith)
     (has-pages (d .before)) (d .visit .result) (d .visit .ensures)
     (not-true _ (c .before .if3 .taken)) (c .torn-rows .result) (c .torn-rows .ensures)
 
@@ -72,15 +73,15 @@ loop-again c =
     let d = c .before .before in
     let k = d .before .before .before .before .before in
     let a = k .before .before .before .args in
-    past-row (recordAt (a .records .now)) (length (a .records .now) / 16) (rowsIn (a .words .now)) (k .loop .seen) (k .loop .inv) (omega arith)
+    past-row (boardIn (a .words .now)) (recordAt (a .records .now)) (length (a .records .now) / 16) (rowsIn (a .words .now)) (k .loop .seen) (k .loop .inv) (omega arith)
     (has-pages (d .before)) (d .visit .result) (d .visit .ensures)
-    (not-false _ (c .if3 .left))
+    (fit-in (a .words .now)) (not-false _ (c .if3 .left))
 
 returns-3 : tie.Need-returns-3 Inv-loop μ-loop
 returns-3 c =
     let k = c .before .before in
     let a = k .before .before .before .args in
-    survey-all (recordAt (a .records .now)) (length (a .records .now) / 16) (rowsIn (a .words .now)) (k .loop .seen) (k .loop .inv) (omega arith)
+    survey-all (boardIn (a .words .now)) (recordAt (a .records .now)) (length (a .records .now) / 16) (rowsIn (a .words .now)) (k .loop .seen) (k .loop .inv) (omega arith)
 
 pub survey-spec : {M : Type 1} → statement M
 survey-spec =

@@ -1,9 +1,11 @@
 -- `boot` meets its contract. A refused boot writes nothing; an accepted one has rows that the sheet accepts, which `lay_out` lays out and `put_kept` writes, and
 -- the counters of their pages.
 use mathlib.Core.Path.{_≡_, sym, _∙_}
+use native.Mathlib.Nat.{mul-le-mul}
 use native.Mathlib.Omega.{arith}
 use lib.ListN.{length}
 use Rattle.definition.specs.World.{usedRows}
+use Rattle.definition.proofs.Boards.{page-most}
 use Rattle.words.proofs.Owned.{rows-narrow}
 use Rattle.allocator.proofs.Turning.{used-most}
 use Rattle.exam.specs.Promise.{stateWith, worldOf}
@@ -35,20 +37,21 @@ returns c =
 
 -- the array has eight
 long : (c : tie.Start) → length (c .args .map) ≡ 8
-long c = map-eight (c .args .map) _ (c .good .1 .1 .0)
+long c = map-eight (c .args .map) _ (c .good .1 .1 .1 .0)
 
 kept-rows-requires : tie.Need-kept-rows-requires
 kept-rows-requires c κs =
     let E = c .before .refusal-of-map .ensures in
-    (E .few (c .if1 .left), E .near (c .if1 .left))
+    let s = c .before .before .before .before .before .before in
+    (s .pre .0, (E .few (c .if1 .left), E .near (c .if1 .left)))
 
 total-pages-requires : tie.Need-total-pages-requires
 total-pages-requires c κs =
     let d = c .before .before .before in
     let s = d .before .before .before .before .before in
     let k = c .before .kept-rows in
-    let R = accepted-kept (s .args .map) (s .args .count) _ _ _ (long s) (d .refusal-of-map .ensures) (c .before .before .if1 .left) (k .result) (k .ensures) in
-    (R .many, R .booted)
+    let R = accepted-kept (s .pre .0) (s .args .map) (s .args .count) _ _ _ (long s) (d .refusal-of-map .ensures) (c .before .before .if1 .left) (k .result) (k .ensures) in
+    (s .pre .0, (R .many, R .booted))
 
 managed-pages-requires : tie.Need-managed-pages-requires
 managed-pages-requires c κs =
@@ -56,15 +59,16 @@ managed-pages-requires c κs =
     let s = d .before .before .before .before .before in
     let k = c .before .before .kept-rows in
     let z = c .before .before .before .if1 .left in
-    let R = accepted-kept (s .args .map) (s .args .count) _ _ _ (long s) (d .refusal-of-map .ensures) z (k .result) (k .ensures) in
-    (R .many, accepted-boot (s .args .map) (s .args .count) _ _ _ (long s) (d .refusal-of-map .ensures) z (k .result) (k .ensures))
+    let R = accepted-kept (s .pre .0) (s .args .map) (s .args .count) _ _ _ (long s) (d .refusal-of-map .ensures) z (k .result) (k .ensures) in
+    (s .pre .0, (R .many, accepted-boot (s .pre .0) (s .args .map) (s .args .count) _ _ _ (long s) (d .refusal-of-map .ensures) z (k .result) (k .ensures)))
 
 lay-out-requires : tie.Need-lay-out-requires
 lay-out-requires c κs =
     let d = c .before .before .before .before .before .before in
     let s = d .before .before .before .before .before in
     let k = c .before .before .before .before .kept-rows in
-    accepted-ready (s .args .map) (s .args .count) _ _ _ (long s) (d .refusal-of-map .ensures) (c .before .before .before .before .before .if1 .left) (k .result) (k .ensures)
+    let z = c .before .before .before .before .before .if1 .left in
+    (s .pre .0, accepted-ready (s .pre .0) (s .args .map) (s .args .count) _ _ _ (long s) (d .refusal-of-map .ensures) z (k .result) (k .ensures))
 
 -- the rows laid out are as many as were kept
 many : (c : tie.After-lay-out) → c .before .before .before .before .before .kept-rows .result .used ≡ length (usedRows (c .lay-out .result))
@@ -72,7 +76,7 @@ many c =
     let k = c .before .before .before .before .before in
     let d = k .before .before in
     let s = d .before .before .before .before .before in
-    let R = accepted-kept (s .args .map) (s .args .count) _ _ _ (long s) (d .refusal-of-map .ensures) (k .before .if1 .left) (k .kept-rows .result) (k .kept-rows .ensures) in
+    let R = accepted-kept (s .pre .0) (s .args .map) (s .args .count) _ _ _ (long s) (d .refusal-of-map .ensures) (k .before .if1 .left) (k .kept-rows .result) (k .kept-rows .ensures) in
     R .many ∙ sym (laid-used (c .lay-out .ensures))
 
 cast-put-kept : tie.Need-cast-put-kept
@@ -87,7 +91,11 @@ started-requires : tie.Need-started-requires
 started-requires c κs = search needs
 
 mul-done : tie.Need-mul-done
-mul-done c = search needs
+mul-done c =
+    let g = c .before .before .before .before .before .before .before .before .before .before in
+    let d = g .before .before .before .before .before in
+    let s = d .before .before .before .before .before in
+    omega (arith, mul-le-mul (page-most (s .pre .0)) (g .managed-pages .ensures .1))
 
 done-requires : tie.Need-done-requires
 done-requires c κs = search needs
@@ -100,7 +108,7 @@ same-length-2 c = search needs
 
 returns-2 : tie.Need-returns-2
 returns-2 c =
-    let p = c .before .before .before .before in
+    let p = c .before .before .before .before .before in
     let l = p .before .before .before .before in
     let g = l .before .before in
     let t = g .before in
@@ -114,24 +122,25 @@ returns-2 c =
     let w = worldOf (stateWith (a .counters) (a .words .now)) (a .records .now) (a .memory .now) (a .queue .now) in
     let N = rows-narrow (l .lay-out .result) _ (l .lay-out .ok) in
     let U = l .lay-out .ensures .unused in
-    rw (c .done .ensures, c .before .started .ensures, p .put-kept .ensures) (
+    rw (c .done .ensures, c .before .before .started .ensures, p .put-kept .ensures) (
       λ ms e f.
           let M : Mapped (a .map) (a .count) ms = record { long = e; front = f } in
-          boots-written (a .words .now) (l .lay-out .result) (s .pre) N _ (many l) U (t .total-pages .result) (l .lay-out .last .0) (a .memory .now) (a .queue .now)
-          (boots-done w (k .kept-rows .result .rows) (l .lay-out .result) (l .lay-out .last .0) (t .total-pages .result)
-          (accepted-admitted (a .map) (a .count) _ _ _ (long s) E z (k .kept-rows .result) (k .kept-rows .ensures))
+          boots-written (a .words .now) (l .lay-out .result) (s .pre .1) N _ (many l) U (t .total-pages .result) (l .lay-out .last .1 .0) (a .memory .now) (a .queue .now)
+          (boots-done w (k .kept-rows .result .rows) (l .lay-out .result) (l .lay-out .last .1 .0) (t .total-pages .result)
+          (accepted-admitted (s .pre .0) (a .map) (a .count) _ _ _ (long s) E z (k .kept-rows .result) (k .kept-rows .ensures))
           (l .lay-out .ensures)
-          (l .lay-out .kept .0)
+          (l .lay-out .kept .1 .0)
           (λ i. omega (arith, d .before .before .before .slice-known2 .given i))
           (λ i. omega (arith, p .before .before .slice-known3 .given i))
           (t .total-pages .ensures)
+          (s .pre .0)
           ms
-          (given-near M (E .few z) (E .near z) (k .kept-rows .result) (k .kept-rows .ensures))
-          (given-kept M (E .few z) (E .near z) (k .kept-rows .result) (k .kept-rows .ensures))
+          (given-near M (E .few z) (E .near z))
+          (given-kept M (E .few z) (k .kept-rows .result) (k .kept-rows .ensures))
           (g .managed-pages .result)
           (g .managed-pages .ensures .0)
           (sym z ∙ E .number ms M)),
-      over-done (a .words .now) (l .lay-out .result) (s .pre) N _ (many l) U _,
+      over-done (a .words .now) (l .lay-out .result) (s .pre .1) N _ (many l) U _,
     )
 
 pub boot-spec : {M : Type 1} → statement M

@@ -6,6 +6,7 @@ use mathlib.Core.Path.{_≡_, refl, ap, _∙_}
 use native.Mathlib.Omega.{arith}
 use lib.ListN.{length, take, replicate}
 use borrow.Author.Needs.{needs}
+use Rattle.definition.specs.Board.{Board}
 use Rattle.definition.specs.declared.MemoryRegion.{MemoryRegion}
 use Rattle.definition.specs.declared.Row.{Row}
 use Rattle.boot.specs.Booting.{eight, keptRows}
@@ -14,17 +15,17 @@ use Rattle.boot.proofs.KeptRows.{map-eight, near-at, noEntry, turn-fits
 use Rattle.boot.proofs.kept_rows.Statement.{statement}
 use Rattle.boot.proofs.kept_rows.Tie as tie
 
-record Inv (count : ℕ) (map : List MemoryRegion) (rows : List Row) (used i : ℕ) : Type 0 where
+record Inv (board : Board) (count : ℕ) (map : List MemoryRegion) (rows : List Row) (used i : ℕ) : Type 0 where
   long : length map ≡ 8
   some : i ≤ count
-  kept : rows ≡ eight (keptRows (take i map))
-  many : used ≡ length (keptRows (take i map))
+  kept : rows ≡ eight (keptRows board (take i map))
+  many : used ≡ length (keptRows board (take i map))
 
 abbrev Inv-loop : tie.InvT-loop
-Inv-loop count map rows₀ used₀ i₀ rows used i = Inv count map rows used i
+Inv-loop board count map rows₀ used₀ i₀ rows used i = Inv board count map rows used i
 
 abbrev μ-loop : tie.MeasureT-loop
-μ-loop count map rows₀ used₀ i₀ rows used i = count - i
+μ-loop board count map rows₀ used₀ i₀ rows used i = count - i
 
 new-requires : tie.Need-new-requires Inv-loop μ-loop
 new-requires c κs = search needs
@@ -37,7 +38,7 @@ unfolding keptRows eight
 loop-holds c =
     let s = c .before .before in
     record {
-      long = map-eight (s .args .t1) _ (s .good .0);
+      long = map-eight (s .args .t2) _ (s .good .1 .0);
       some = omega arith;
       kept = ap (λ (r : Row). replicate 8 r) (c .empty-row .ensures ∙ row-at (c .before .new .ensures) refl);
       many = refl;
@@ -53,14 +54,14 @@ keep-requires : tie.Need-keep-requires Inv-loop μ-loop
 keep-requires c κs =
     let k = c .before .before in
     let s = k .before .before .before in
-    near-at (s .args .t1) (s .args .count) (k .loop .i) noEntry (s .pre .1) (omega arith) (omega arith)
+    (s .pre .0, near-at (s .args .t2) (s .args .count) (k .loop .i) noEntry (s .pre .1 .1) (omega arith) (omega arith))
 
 -- the place of a turn's row
 fits : (c : tie.After-keep Inv-loop μ-loop) → c .before .before .before .loop .used < 8
 fits c =
     let k = c .before .before .before in
     let s = k .before .before .before in
-    turn-fits (s .args .t1) (k .loop .i) noEntry (omega arith) (omega arith) (k .loop .inv .kept) (k .loop .inv .many) (c .keep .ensures)
+    turn-fits (s .args .board) (s .args .t2) (k .loop .i) noEntry (omega arith) (omega arith) (k .loop .inv .kept) (k .loop .inv .many) (c .keep .ensures)
 
 mul-rows : tie.Need-mul-rows Inv-loop μ-loop
 mul-rows c = omega (arith, fits c)
@@ -85,11 +86,11 @@ loop-again c =
     record {
       long = k .loop .inv .long;
       some = omega arith;
-      kept = turn-rows (s .args .t1) (k .loop .i) noEntry (omega arith) (omega arith) (k .loop .inv .kept) (k .loop .inv .many) (d .keep .ensures);
+      kept = turn-rows (s .args .board) (s .args .t2) (k .loop .i) noEntry (omega arith) (omega arith) (k .loop .inv .kept) (k .loop .inv .many) (d .keep .ensures);
       many =
           ⊎-elim
-          (λ w. w .1 ∙ turn-more (s .args .t1) (k .loop .i) noEntry (omega arith) (omega arith) (k .loop .inv .kept) (k .loop .inv .many) (d .keep .ensures) (w .0 .taken))
-          (λ w. w .1 ∙ turn-same (s .args .t1) (k .loop .i) noEntry (omega arith) (omega arith) (k .loop .inv .kept) (k .loop .inv .many) (d .keep .ensures) (w .0 .left))
+          (λ w. w .1 ∙ turn-more (s .args .board) (s .args .t2) (k .loop .i) noEntry (omega arith) (omega arith) (k .loop .inv .kept) (k .loop .inv .many) (d .keep .ensures) (w .0 .taken))
+          (λ w. w .1 ∙ turn-same (s .args .board) (s .args .t2) (k .loop .i) noEntry (omega arith) (omega arith) (k .loop .inv .kept) (k .loop .inv .many) (d .keep .ensures) (w .0 .left))
           (c .if1 .came);
     }
 

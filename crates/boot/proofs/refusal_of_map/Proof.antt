@@ -11,7 +11,7 @@ use Rattle.boot.proofs.refusal_of_map.Tie as tie
 returns : tie.Need-returns
 returns c =
     record {
-      number = λ ms M. given-long M (c .before .args .records) (c .before .args .memory) (c .if1 .taken);
+      number = λ ms M. given-long M (c .before .args .board) (c .before .args .records) (c .before .args .memory) (c .if1 .taken);
       few = λ z. absurd (omega arith);
       near = λ z. absurd (omega arith);
     }
@@ -23,28 +23,30 @@ returns-2 : tie.Need-returns-2
 returns-2 c =
     let a = c .before .before .before .args in
     record {
-      number = λ ms M. given-far M (omega arith) (a .records) (a .memory) (sym (c .before .any-far .ensures) ∙ c .if2 .taken);
+      number = λ ms M. given-far M (omega arith) (a .board) (a .records) (a .memory) (sym (c .before .any-far .ensures) ∙ c .if2 .taken);
       few = λ z. absurd (omega arith);
       near = λ z. absurd (omega arith);
     }
 
 kept-rows-requires : tie.Need-kept-rows-requires
-kept-rows-requires c κs = (omega arith, sym (c .before .any-far .ensures) ∙ c .if2 .left)
+kept-rows-requires c κs = (c .before .before .before .pre, (omega arith, sym (c .before .any-far .ensures) ∙ c .if2 .left))
 
 refusal-of-rows-requires : tie.Need-refusal-of-rows-requires
 refusal-of-rows-requires c κs =
     let d = c .before .before in
-    let a = d .before .before .before .args in
-    kept-ready (take (a .count) (a .map)) (sym (d .before .any-far .ensures) ∙ d .if2 .left) (c .before .kept-rows .result) (c .before .kept-rows .ensures)
+    let s = d .before .before .before in
+    let near = sym (d .before .any-far .ensures) ∙ d .if2 .left in
+    (s .pre, kept-ready (s .pre) (take (s .args .count) (s .args .map)) near (c .before .kept-rows .result) (c .before .kept-rows .ensures))
 
 returns-3 : tie.Need-returns-3
 returns-3 c =
     let d = c .before .before .before in
-    let a = d .before .before .before .args in
+    let s = d .before .before .before in
+    let a = s .args in
     let k = c .before .before .kept-rows in
     let near = sym (d .before .any-far .ensures) ∙ d .if2 .left in
     record {
-      number = λ ms M. c .refusal-of-rows .ensures ∙ given-rows M (omega arith) near (k .result) (k .ensures) (a .records) (a .memory);
+      number = λ ms M. c .refusal-of-rows .ensures ∙ given-rows M (omega arith) (k .result) (k .ensures) (s .pre) near (a .records) (a .memory);
       few = λ z. omega arith;
       near = λ z. near;
     }

@@ -12,7 +12,7 @@ overlaps-requires c κs = search needs
 returns : tie.Need-returns
 returns c =
     let a = c .before .before .args in
-    overlapping (a .rows) (a .records) (a .memory) (sym (c .before .overlaps .ensures) ∙ c .if1 .taken)
+    overlapping (a .board) (a .rows) (a .records) (a .memory) (sym (c .before .overlaps .ensures) ∙ c .if1 .taken)
 
 total-pages-requires : tie.Need-total-pages-requires
 total-pages-requires c κs = search needs
@@ -20,27 +20,27 @@ total-pages-requires c κs = search needs
 returns-2 : tie.Need-returns-2
 returns-2 c =
     let a = c .before .before .before .before .args in
-    too-many (a .rows) (a .records) (a .memory) (sym (c .before .before .before .overlaps .ensures) ∙ c .before .before .if1 .left) (omega (arith, c .before .total-pages .ensures))
+    too-many (a .board) (a .rows) (a .records) (a .memory) (sym (c .before .before .before .overlaps .ensures) ∙ c .before .before .if1 .left) (omega (arith, c .before .total-pages .ensures))
 
 loans-long-requires : tie.Need-loans-long-requires
 loans-long-requires c κs =
     let s = c .before .before .before .before in
     let a = s .args in
     let o = sym (c .before .before .before .overlaps .ensures) ∙ c .before .before .if1 .left in
-    (s .pre .many, ready-rows (a .rows) (a .records) (a .memory) (a .used) _ (s .good .0) (s .pre) o (omega (arith, c .before .total-pages .ensures)))
+    (s .pre .0, (s .pre .1 .many, ready-rows (a .board) (a .rows) (a .records) (a .memory) (a .used) _ (s .good .1 .0) (s .pre .1) o (omega (arith, c .before .total-pages .ensures))))
 
 returns-3 : tie.Need-returns-3
 returns-3 c =
     let d = c .before .before in
     let a = d .before .before .before .before .args in
-    by-loans (a .rows) (a .records) (a .memory) (sym (d .before .before .before .overlaps .ensures) ∙ d .before .before .if1 .left) (omega (arith, d .before .total-pages .ensures)) _
+    by-loans (a .board) (a .rows) (a .records) (a .memory) (sym (d .before .before .before .overlaps .ensures) ∙ d .before .before .if1 .left) (omega (arith, d .before .total-pages .ensures)) _
     (sym (c .before .loans-long .ensures) ∙ c .if3 .taken)
 
 returns-4 : tie.Need-returns-4
 returns-4 c =
     let d = c .before .before in
     let a = d .before .before .before .before .args in
-    by-loans (a .rows) (a .records) (a .memory) (sym (d .before .before .before .overlaps .ensures) ∙ d .before .before .if1 .left) (omega (arith, d .before .total-pages .ensures)) _
+    by-loans (a .board) (a .rows) (a .records) (a .memory) (sym (d .before .before .before .overlaps .ensures) ∙ d .before .before .if1 .left) (omega (arith, d .before .total-pages .ensures)) _
     (sym (c .before .loans-long .ensures) ∙ c .if3 .left)
 
 pub refusal-of-rows-spec : {M : Type 1} → statement M

@@ -3,10 +3,11 @@ use mathlib.Core.Bool.{true, false}
 use mathlib.Core.Path.{_≡_, refl, sym, _∙_}
 use borrow.Author.Needs.{needs}
 use borrow.Author.Tests.{not-true, not-false}
-use Rattle.definition.specs.Board.{standard}
+use Rattle.definition.specs.Board.{Board}
 use Rattle.definition.specs.Calls.{Call, Copy}
 use Rattle.definition.specs.World.{World}
 use Rattle.definition.specs.Torn.{sound}
+use Rattle.words.specs.Words.{boardIn}
 use Rattle.audit.proofs.Sheets.{sound-is}
 use Rattle.exam.specs.Promise.{Examined, stateWith, worldOf}
 use Rattle.exam.proofs.Promises.{Small, leaves-torn}
@@ -14,10 +15,13 @@ use Rattle.copies.proofs.Copying.{copy-done, copy-refused, looked, lowe
 use Rattle.copies.proofs.copy.Statement.{statement}
 use Rattle.copies.proofs.copy.Tie as tie
 
--- ---- the world that was given, and the call
+-- ---- the board and the world that were given, and the call
 
 abbrev start : tie.After-is-sound → tie.Start
 start c = c .before .before .before .before .before .before
+
+abbrev board : tie.After-is-sound → Board
+board c = boardIn (start c .args .words .now)
 
 abbrev world : tie.After-is-sound → World
 world c = let a = start c .args in worldOf (stateWith (a .counters) (a .words .now)) (a .records .now) (a .memory .now) (a .queue .now)
@@ -30,24 +34,24 @@ small c i = c .before .before .before .before .slice-known .given i .fits
 
 -- ---- what the tests found
 
-torn : (c : tie.Then1) → sound standard (world (c .before)) ≡ false
+torn : (c : tie.Then1) → sound (board (c .before)) (world (c .before)) ≡ false
 torn c =
     let r = c .before .is-sound in
     let w = world (c .before) in
     sym (r .ensures (w .memory) (w .queue) refl refl) ∙ not-true (r .result) (c .if1 .taken)
 
-whole : (c : tie.Else1) → sound standard (world (c .before)) ≡ true
+whole : (c : tie.Else1) → sound (board (c .before)) (world (c .before)) ≡ true
 whole c =
     let r = c .before .is-sound in
     let w = world (c .before) in
     sym (r .ensures (w .memory) (w .queue) refl refl) ∙ not-false (r .result) (c .if1 .left)
 
 to : (c : tie.After-look) → let e = c .before .before in let a = start (e .before) .args in
-    Examined (world (e .before)) (a .target .0) (a .target-offset) (a .len) (c .look .result)
+    Examined (board (e .before)) (world (e .before)) (a .target .0) (a .target-offset) (a .len) (c .look .result)
 to c = let e = c .before .before in looked (world (e .before)) (whole e) (c .look .ensures)
 
 from : (c : tie.After-look2) → let e = c .before .before .before .before in let a = start (e .before) .args in
-    Examined (world (e .before)) (a .source .0) (a .source-offset) (a .len) (c .look2 .result)
+    Examined (board (e .before)) (world (e .before)) (a .source .0) (a .source-offset) (a .len) (c .look2 .result)
 from c = let e = c .before .before .before .before in looked (world (e .before)) (whole e) (c .look2 .ensures)
 
 none : (c : tie.Else2) → (c .before .before .before .before .look .result .number ≡ 0) × (c .before .before .look2 .result .number ≡ 0)
@@ -118,7 +122,7 @@ returns-3 c =
     let a = start (e .before) .args in
     rw (c .done .ensures, c .before .raw .ensures)
     (copy-done (world (e .before)) (small (e .before)) (whole e) (to (l .before .before)) (from l) (n .0) (n .1)
-    (worldOf (stateWith (a .counters) (a .words .now)) (d .last .1 .0) (d .last .1 .1 .0) (a .queue .now)) (d .ensures (a .counters) (a .queue .now) (sound-is standard (world (e .before)) (whole e))))
+    (worldOf (stateWith (a .counters) (a .words .now)) (d .last .1 .0) (d .last .1 .1 .0) (a .queue .now)) (d .ensures (a .counters) (a .queue .now) (sound-is (board (e .before)) (world (e .before)) (whole e))))
 
 pub copy-spec : {M : Type 1} → statement M
 copy-spec =

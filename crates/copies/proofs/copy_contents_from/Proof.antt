@@ -4,10 +4,9 @@ use mathlib.Core.Path.{refl, sym, _∙_}
 use native.Mathlib.Omega.{arith}
 use borrow.Author.Needs.{needs}
 use borrow.Author.Tests.{not-true, not-false}
-use Rattle.definition.specs.Board.{standard}
-use Rattle.world.specs.Fit.{standard-fit}
+use Rattle.words.specs.Words.{boardIn}
 use Rattle.world.proofs.RoundTrip.{round-trip}
-use Rattle.allocator.specs.Spots.{numberAt}
+use Rattle.allocator.specs.Spots.{numberIn}
 use Rattle.exam.specs.Promise.{stateWith, worldOf}
 use Rattle.ranges.proofs.Held.{held-read}
 use Rattle.copies.proofs.Copying.{both-zeroed, from-dirty, from-zeroed}
@@ -17,16 +16,13 @@ use Rattle.copies.proofs.copy_contents_from.Tie as tie
 is-zeroed-requires : tie.Need-is-zeroed-requires
 is-zeroed-requires c κs = search needs
 
-mul-at : tie.Need-mul-at
-mul-at c = search needs
-
-add-at : tie.Need-add-at
-add-at c = search needs
+place-requires : tie.Need-place-requires
+place-requires c κs = search needs
 
 move-into-requires : tie.Need-move-into-requires
 move-into-requires c κs =
     let s = c .before .before .before .before .before .before .before .before .before in
-    (s .pre .0, (s .pre .1 .0, omega (arith, s .pre .1 .1 .ends)))
+    (s .pre .0, (s .pre .1 .0, omega (arith, s .pre .1 .1 .ends, c .before .before .place .ensures)))
 
 same-length : tie.Need-same-length
 same-length c = search needs
@@ -43,7 +39,8 @@ returns c n queue S =
     let P = s .pre .1 .0 in
     let Q = s .pre .1 .1 in
     rw (from-dirty w S P Q (sym (z .ensures) ∙ not-true (z .result) (c .before .before .before .before .before .before .before .before .before .if1 .taken)))
-    (c .before .before .before .before .move-into .ensures n queue S (4096 * numberAt standard (w .rows) (s .args .from .spot) + s .args .from-offset) (held-read S (Q .held) refl (s .args .from-offset) (s .args .len) (Q .range)))
+    (c .before .before .before .before .move-into .ensures n queue S (boardIn (s .args .words .now) .page * numberIn (s .args .words .now) (s .args .from .spot) + s .args .from-offset)
+    (rw (c .before .before .before .before .before .before .before .place .ensures) (held-read S (Q .held) refl (s .args .from-offset) (s .args .len) (Q .range))))
 
 is-zeroed-requires-2 : tie.Need-is-zeroed-requires-2
 is-zeroed-requires-2 c κs = search needs
@@ -56,7 +53,7 @@ returns-2 c n queue S =
     let z = c .before .before .before .is-zeroed in
     let y = c .before .is-zeroed2 in
     rw (both-zeroed w S (s .pre .1 .0) (s .pre .1 .1) (sym (z .ensures) ∙ not-false (z .result) (c .before .before .if1 .left)) (sym (y .ensures) ∙ c .if2 .taken))
-    (round-trip standard-fit w S (λ i. k .slice-known .given i .fits))
+    (round-trip w S (λ i. k .slice-known .given i .fits))
 
 zero-range-requires : tie.Need-zero-range-requires
 zero-range-requires c κs = search needs
@@ -82,8 +79,7 @@ copy-contents-from-spec =
     tie.close
     (tie.spec
     is-zeroed-requires
-    mul-at
-    add-at
+    place-requires
     move-into-requires
     same-length
     same-length-2

@@ -3,20 +3,21 @@ use mathlib.Core.Bool.{true}
 use mathlib.Core.Path.{sym, _∙_}
 use borrow.Author.Needs.{needs}
 use borrow.Author.Tests.{not-true, not-false}
+use Rattle.words.specs.Words.{boardIn}
 use Rattle.exam.specs.Promise.{stateWith, worldOf}
 use Rattle.ranges.proofs.Marking.{Remarked}
 use Rattle.copies.proofs.Writing.{zero-part, zero-whole}
 use Rattle.copies.proofs.zero_range.Statement.{statement}
 use Rattle.copies.proofs.zero_range.Tie as tie
 
-mul-fill : tie.Need-mul-fill
-mul-fill c = search needs
-
-add-fill : tie.Need-add-fill
-add-fill c = search needs
+place-requires : tie.Need-place-requires
+place-requires c κs = search needs
 
 fill-requires : tie.Need-fill-requires
 fill-requires c κs = search needs
+
+board-in-requires : tie.Need-board-in-requires
+board-in-requires c κs = search needs
 
 is-whole-requires : tie.Need-is-whole-requires
 is-whole-requires c κs = search needs
@@ -26,10 +27,11 @@ same-length c = search needs
 
 returns : tie.Need-returns
 returns c n queue S =
-    let k = c .before .before .before .before .before .before .before .before .before in
+    let k = c .before .before .before .before .before .before .before .before .before .before in
     let s = k .before .before in
     let r = c .before .is-whole in
-    rw (c .before .before .before .before .fill .ensures) (zero-part S (s .pre .1) (λ i. k .slice-known .given i .fits) (sym (r .ensures) ∙ not-true (r .result) (c .if1 .taken)))
+    rw (c .before .before .before .before .before .fill .ensures, c .before .before .before .before .before .before .before .place .ensures)
+    (zero-part S (s .pre .1) (λ i. k .slice-known .given i .fits) (sym (rw (c .before .before .board-in .ensures .0) at (r .ensures)) ∙ not-true (r .result) (c .if1 .taken)))
 
 is-kernel-requires : tie.Need-is-kernel-requires
 is-kernel-requires c κs = search needs
@@ -45,12 +47,12 @@ same-length-3 c = search needs
 
 returns-2 : tie.Need-returns-2
 returns-2 c n queue S =
-    let k = c .before .before .before .before .before .before .before .before .before .before .before .before .before .before in
+    let k = c .before .before .before .before .before .before .before .before .before .before .before .before .before .before .before in
     let s = k .before .before in
     let w = worldOf (stateWith n (s .args .words .now)) (s .args .records .now) (s .args .memory .now) queue in
     let r = c .before .before .before .before .before .before .is-whole in
     let d = c .before .before .set-marks in
-    let M : Remarked w (s .args .to) true (c .before .before .before .is-kernel .result) (d .last .1 .0) =
+    let M : Remarked (boardIn (s .args .words .now)) w (s .args .to) true (c .before .before .before .is-kernel .result) (d .last .1 .0) =
     record {
       own = c .before .before .before .is-kernel .ensures;
       turns = d .ensures;
@@ -58,16 +60,16 @@ returns-2 c n queue S =
       before = λ i. k .slice-known .given i .fits;
       after = λ i. c .slice-known4 .given i .fits;
     } in
-    rw (c .before .before .before .before .before .before .before .before .before .fill .ensures)
-    (zero-whole S (s .pre .1) M (sym (r .ensures) ∙ not-false (r .result) (c .before .before .before .before .before .if1 .left)))
+    rw (c .before .before .before .before .before .before .before .before .before .before .fill .ensures, c .before .before .before .before .before .before .before .before .before .before .before .before .place .ensures)
+    (zero-whole S (s .pre .1) M (sym (rw (c .before .before .before .before .before .before .before .board-in .ensures .0) at (r .ensures)) ∙ not-false (r .result) (c .before .before .before .before .before .if1 .left)))
 
 pub zero-range-spec : {M : Type 1} → statement M
 zero-range-spec =
     tie.close
     (tie.spec
-    mul-fill
-    add-fill
+    place-requires
     fill-requires
+    board-in-requires
     is-whole-requires
     same-length
     returns

@@ -3,6 +3,7 @@ use mathlib.Core.Path.{refl, sym, _∙_}
 use native.Mathlib.Omega.{arith}
 use borrow.Author.Needs.{needs}
 use borrow.Author.Tests.{not-true, not-false}
+use Rattle.words.specs.Words.{boardIn}
 use Rattle.definition.specs.Calls.{Back}
 use Rattle.exam.specs.Promise.{stateWith, worldOf}
 use Rattle.exam.proofs.Promises.{Small, leaves-torn}
@@ -36,7 +37,7 @@ returns-2 c =
     let q = r .ensures (s .args .memory .now) (s .args .queue .now) refl refl in
     let t = sym q ∙ not-false (r .result) (c .before .before .before .if1 .left) in
     let small : Small w = λ i. omega (arith, c .before .before .before .before .before .before .before .shared-slice-known2 .given i) in
-    rw (c .refused2 .ensures) (refuses-back w t small (s .args .count) (omega (arith, c .before .if2 .taken)))
+    rw (c .refused2 .ensures) (refuses-back (boardIn (s .args .words .now)) w t small (s .args .count) (omega (arith, c .before .if2 .taken)))
 
 untrack-frame-pager-requires : tie.Need-untrack-frame-pager-requires
 untrack-frame-pager-requires c κs = search needs
@@ -52,7 +53,7 @@ returns-3 c =
     let q = r .ensures (s .args .memory .now) (s .args .queue .now) refl refl in
     let t = sym q ∙ not-false (r .result) (c .before .before .before .before .if1 .left) in
     let small : Small w = λ i. omega (arith, c .before .before .before .before .before .before .before .before .shared-slice-known2 .given i) in
-    rw (c .counted .ensures) (leaves-back w t small (s .args .count) (omega (arith, c .before .before .if2 .left)) (c .before .untrack-frame-pager .result) (c .before .untrack-frame-pager .ensures))
+    rw (c .counted .ensures) (leaves-back (boardIn (s .args .words .now)) w t small (s .args .count) (omega (arith, c .before .before .if2 .left)) (c .before .untrack-frame-pager .result) (c .before .untrack-frame-pager .ensures))
 
 pub back-spec : {M : Type 1} → statement M
 back-spec =

@@ -3,6 +3,7 @@ use mathlib.Core.Path.{refl, sym, _∙_}
 use native.Mathlib.Omega.{arith}
 use borrow.Author.Needs.{needs}
 use borrow.Author.Tests.{not-true, not-false}
+use Rattle.words.specs.Words.{boardIn}
 use Rattle.definition.specs.Calls.{Lend}
 use Rattle.exam.specs.Promise.{stateWith, worldOf}
 use Rattle.exam.proofs.Promises.{Small, leaves-torn}
@@ -39,7 +40,7 @@ returns-2 c =
     let q = r .ensures (s .args .memory .now) (s .args .queue .now) refl refl in
     let t = sym q ∙ not-false (r .result) (c .before .before .if1 .left) in
     let small : Small w = λ i. omega (arith, c .before .before .before .before .before .before .shared-slice-known2 .given i) in
-    rw (c .counted .ensures) (leaves-lend w t small (s .args .count) (c .before .track-frame-pager .result) (c .before .track-frame-pager .ensures))
+    rw (c .counted .ensures) (leaves-lend (boardIn (s .args .words .now)) w t small (s .args .count) (c .before .track-frame-pager .result) (c .before .track-frame-pager .ensures))
 
 pub lend-spec : {M : Type 1} → statement M
 lend-spec =

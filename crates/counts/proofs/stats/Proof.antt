@@ -3,7 +3,7 @@ use mathlib.Core.Path.{refl, sym, _∙_}
 use native.Mathlib.Omega.{arith}
 use borrow.Author.Needs.{needs}
 use borrow.Author.Tests.{not-true, not-false}
-use Rattle.definition.specs.Board.{standard}
+use Rattle.words.specs.Words.{boardIn}
 use Rattle.audit.proofs.Sheets.{sound-is}
 use Rattle.exam.specs.Promise.{stateWith, worldOf}
 use Rattle.exam.proofs.Bounds.{idle-small, kernel-small, page-small}
@@ -32,7 +32,7 @@ print-tracker-stats-requires c κs =
     let r = c .before .before .is-sound in
     let w = worldOf (stateWith (s .args .counters) (s .args .words .now)) (s .args .records .now) (s .args .memory .now) (s .args .queue .now) in
     let q = r .ensures (s .args .memory .now) (s .args .queue .now) refl refl in
-    let S = sound-is standard w (sym q ∙ not-false (r .result) (c .before .if1 .left)) in
+    let S = sound-is (boardIn (s .args .words .now)) w (sym q ∙ not-false (r .result) (c .before .if1 .left)) in
     (omega arith, idle-small w S, kernel-small w S, page-small w S)
 
 returns-2 : tie.Need-returns-2
@@ -43,7 +43,7 @@ returns-2 c =
     let q = r .ensures (s .args .memory .now) (s .args .queue .now) refl refl in
     let t = sym q ∙ not-false (r .result) (c .before .before .before .if1 .left) in
     let small : Small w = λ i. omega (arith, c .before .before .before .before .before .before .before .shared-slice-known2 .given i) in
-    reports-done w t small (c .before .print-tracker-stats .ensures .0)
+    reports-done (boardIn (s .args .words .now)) w t small (c .before .print-tracker-stats .ensures .0)
 
 pub stats-spec : {M : Type 1} → statement M
 stats-spec =

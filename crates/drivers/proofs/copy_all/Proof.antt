@@ -6,6 +6,7 @@ use native.Mathlib.Omega.{arith}
 use lib.ListN.{length}
 use Rattle.definition.specs.Calls.{Copy}
 use Rattle.exam.specs.Promise.{stateWith, worldOf}
+use Rattle.words.specs.Words.{boardIn}
 use Rattle.drivers.specs.Driving.{turn}
 use Rattle.drivers.proofs.Turns.{Onward, begun, ended, leaves-turn, onward, stopped}
 use Rattle.drivers.proofs.copy_all.Statement.{statement}
@@ -39,6 +40,7 @@ same-length-2 : tie.Need-same-length-2 Inv-loop μ-loop
 same-length-2 c = omega arith
 
 returns : tie.Need-returns Inv-loop μ-loop
+unfolding boardIn
 returns c =
     let u = c .before .before .before .before .before .before in
     let t = u .before .before .before in
@@ -51,6 +53,7 @@ loop-less : tie.Need-loop-less Inv-loop μ-loop
 loop-less c = omega arith
 
 loop-again : tie.Need-loop-again Inv-loop μ-loop
+unfolding boardIn
 loop-again c =
     let u = c .before .before .before .before .before .before in
     let t = u .before .before .before in

@@ -1,4 +1,5 @@
 -- The call is the one that the turn names.
+use Rattle.words.specs.Words.{boardIn}
 use Rattle.drivers.proofs.Turns.{leaves-turn}
 use borrow.Author.Needs.{needs}
 use Rattle.drivers.proofs.granted.Statement.{statement}
@@ -17,6 +18,7 @@ same-length-3 : tie.Need-same-length-3
 same-length-3 c = search needs
 
 returns : tie.Need-returns
+unfolding boardIn
 returns c = leaves-turn (c .before .before .before .before .before .before .alloc .ensures .0)
 
 pub granted-spec : {M : Type 1} → statement M

@@ -1,6 +1,7 @@
 -- The grant tells by its number whether there is a frame to free.
 use mathlib.Core.Path.{refl}
 use borrow.Author.Tests.{eq-eqb, ne-eqb}
+use Rattle.words.specs.Words.{boardIn}
 use Rattle.drivers.proofs.Turns.{leaves-turn}
 use borrow.Author.Needs.{needs}
 use Rattle.drivers.proofs.granted_and_freed.Statement.{statement}
@@ -37,6 +38,7 @@ same-length-6 : tie.Need-same-length-6
 same-length-6 c = search needs
 
 returns-2 : tie.Need-returns-2
+unfolding boardIn
 returns-2 c =
     let u = c .before .before .before .before in
     let t = u .before .before .before .before .before in

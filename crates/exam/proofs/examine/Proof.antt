@@ -6,10 +6,9 @@ use mathlib.Core.Path.{refl, sym, _∙_}
 use borrow.Author.Needs.{needs}
 use borrow.Author.Tests.{not-true, not-false}
 use lib.ListN.{replicate, length-replicate}
-use Rattle.definition.specs.Board.{standard}
+use Rattle.words.specs.Words.{boardIn}
 use Rattle.definition.specs.World.{decode}
 use Rattle.audit.proofs.Sheets.{sound-is}
-use Rattle.world.specs.Fit.{standard-fit}
 use Rattle.world.proofs.Leaving.{sound-sane, sound-table}
 use Rattle.exam.specs.Promise.{stateWith, worldOf}
 use Rattle.exam.proofs.Tests.{frame-seen}
@@ -42,7 +41,7 @@ look-requires c κs =
     let q : List ℕ = replicate (a .queue-len) 0 in
     let w = worldOf (stateWith (a .counters) (a .words .now)) (a .records .now) m q in
     let t = sym (r .ensures m q (length-replicate (a .memory-len) 0) (length-replicate (a .queue-len) 0)) ∙ not-false (r .result) (c .if1 .left) in
-    (s .pre, sound-sane standard-fit w (sound-is standard w t))
+    (s .pre, sound-sane w (sound-is (boardIn (s .args .words .now)) w t))
 
 returns-2 : tie.Need-returns-2
 returns-2 c memory queue a b =
@@ -50,12 +49,12 @@ returns-2 c memory queue a b =
     let r = c .before .before .is-sound in
     let w = worldOf (stateWith (s .args .counters) (s .args .words .now)) (s .args .records .now) memory queue in
     let t = sym (r .ensures memory queue a b) ∙ not-false (r .result) (c .before .if1 .left) in
-    let T = sound-table standard-fit w (sound-is standard w t) in
+    let T = sound-table w (sound-is (boardIn (s .args .words .now)) w t) in
     let l = c .look .ensures in
     record {
       torn = λ d. absurd (false≢true (sym d ∙ t));
-      number = λ d. l .number ∙ sym (frame-seen (decode standard w) (s .args .pa .0) (s .args .offset) (s .args .len) (c .look .result .seen) (l .sees (decode standard w .allocator) T));
-      sees = λ d. l .sees (decode standard w .allocator) T;
+      number = λ d. l .number ∙ sym (frame-seen (decode (boardIn (s .args .words .now)) w) (s .args .pa .0) (s .args .offset) (s .args .len) (c .look .result .seen) (l .sees (decode (boardIn (s .args .words .now)) w .allocator) T));
+      sees = λ d. l .sees (decode (boardIn (s .args .words .now)) w .allocator) T;
       leveled = λ d. l .leveled;
     }
 

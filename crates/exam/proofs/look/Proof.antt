@@ -1,30 +1,32 @@
 -- What is seen at an address, for every allocator that the table stands for.
 use borrow.Author.Needs.{needs}
-use Rattle.definition.specs.Board.{standard}
 use Rattle.definition.specs.World.{recordAt}
-use Rattle.words.specs.Words.{rowsIn}
+use Rattle.words.specs.Words.{boardIn, rowsIn}
 use Rattle.allocator.proofs.Standing.{sane-table, standing}
 use Rattle.exam.proofs.Tests.{sees-leveled}
 use Rattle.exam.proofs.look.Statement.{statement}
 use Rattle.exam.proofs.look.Tie as tie
+
+board-in-requires : tie.Need-board-in-requires
+board-in-requires c κs = search needs
 
 see-requires : tie.Need-see-requires
 see-requires c κs = search needs
 
 refusal-requires : tie.Need-refusal-requires
 refusal-requires c κs =
-    let s = c .before .before .before in
-    sees-leveled (s .pre .1) (c .see .ensures (standing standard (recordAt (s .args .records .now)) (rowsIn (s .args .words .now))) (sane-table (s .pre .1)))
+    let s = c .before .before .before .before in
+    (c .before .board-in .ensures .1, sees-leveled (s .pre .1) (c .see .ensures (standing (boardIn (s .args .words .now)) (recordAt (s .args .records .now)) (rowsIn (s .args .words .now))) (sane-table (s .pre .1))))
 
 returns : tie.Need-returns
 returns c =
-    let s = c .before .before .before .before in
+    let s = c .before .before .before .before .before in
     let e = c .before .see .ensures in
     record {
-      number = c .refusal .ensures;
-      leveled = sees-leveled (s .pre .1) (e (standing standard (recordAt (s .args .records .now)) (rowsIn (s .args .words .now))) (sane-table (s .pre .1)));
+      number = rw (← c .before .before .board-in .ensures .0) (c .refusal .ensures);
+      leveled = sees-leveled (s .pre .1) (e (standing (boardIn (s .args .words .now)) (recordAt (s .args .records .now)) (rowsIn (s .args .words .now))) (sane-table (s .pre .1)));
       sees = e;
     }
 
 pub look-spec : {M : Type 1} → statement M
-look-spec = tie.close (tie.spec see-requires refusal-requires returns)
+look-spec = tie.close (tie.spec board-in-requires see-requires refusal-requires returns)

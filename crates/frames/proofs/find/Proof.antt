@@ -2,15 +2,17 @@
 use Prim.Native.Nat.{_/_}
 use mathlib.Core.Bool.{true}
 use mathlib.Core.Path.{_≡_, refl}
+use native.Mathlib.Omega.{arith}
 use borrow.Author.Needs.{needs}
 use borrow.Author.Tests.{not-true, not-false}
-use Rattle.definition.specs.Board.{standard}
 use Rattle.definition.specs.Calls.{Find}
 use Rattle.definition.specs.Torn.{sound}
 use Rattle.definition.specs.World.{decode, recordAt}
 use Rattle.audit.proofs.Sheets.{sound-is}
-use Rattle.words.specs.Words.{rowsIn}
-use Rattle.world.specs.Fit.{standard-fit}
+use Rattle.words.specs.Words.{boardIn, rowsIn}
+use Rattle.words.proofs.Words.{fit-in}
+use Rattle.definition.proofs.Boards.{page-least}
+use Rattle.definition.proofs.Bytes.{address-is}
 use Rattle.world.proofs.Leaving.{sound-sane, sound-table}
 use Rattle.allocator.specs.Spots.{Sees}
 use Rattle.exam.specs.Promise.{stateWith, worldOf}
@@ -25,7 +27,7 @@ use Rattle.frames.proofs.find.Tie as tie
 sound-here
     : (c : tie.Else1)
     → let a = c .before .before .before .before .before .before .args in
-    sound standard (worldOf (stateWith (a .counters) (a .words .now)) (a .records .now) (a .memory .now) (a .queue .now)) ≡ true
+    sound (boardIn (a .words .now)) (worldOf (stateWith (a .counters) (a .words .now)) (a .records .now) (a .memory .now) (a .queue .now)) ≡ true
 sound-here c =
     let a = c .before .before .before .before .before .before .args in
     let r = c .before .is-sound in
@@ -34,11 +36,11 @@ sound-here c =
 sees-here
     : (c : tie.After-see)
     → let a = c .before .before .before .before .before .before .before .args in
-    Sees standard (recordAt (a .records .now)) (rowsIn (a .words .now)) (a .pa .0 / 4096) (decode standard (worldOf (stateWith (a .counters) (a .words .now)) (a .records .now) (a .memory .now) (a .queue .now)) .allocator) (c .see .result)
+    Sees (boardIn (a .words .now)) (recordAt (a .records .now)) (rowsIn (a .words .now)) (a .pa .0 / boardIn (a .words .now) .page) (decode (boardIn (a .words .now)) (worldOf (stateWith (a .counters) (a .words .now)) (a .records .now) (a .memory .now) (a .queue .now)) .allocator) (c .see .result)
 sees-here c =
     let a = c .before .before .before .before .before .before .before .args in
     let w = worldOf (stateWith (a .counters) (a .words .now)) (a .records .now) (a .memory .now) (a .queue .now) in
-    c .see .ensures (decode standard w .allocator) (sound-table standard-fit w (sound-is standard w (sound-here (c .before))))
+    c .see .ensures (decode (boardIn (a .words .now)) w .allocator) (sound-table w (sound-is (boardIn (a .words .now)) w (sound-here (c .before))))
 
 is-sound-requires : tie.Need-is-sound-requires
 is-sound-requires c κs = search needs
@@ -59,7 +61,7 @@ see-requires c κs =
     let s = c .before .before .before .before .before .before in
     let a = s .args in
     let w = worldOf (stateWith (a .counters) (a .words .now)) (a .records .now) (a .memory .now) (a .queue .now) in
-    (s .pre, sound-sane standard-fit w (sound-is standard w (sound-here c)))
+    (s .pre, sound-sane w (sound-is (boardIn (a .words .now)) w (sound-here c)))
 
 refused-requires-2 : tie.Need-refused-requires-2
 refused-requires-2 c κs = search needs
@@ -70,31 +72,37 @@ returns-2 c =
     let a = d .before .before .before .before .before .before .before .args in
     let w = worldOf (stateWith (a .counters) (a .words .now)) (a .records .now) (a .memory .now) (a .queue .now) in
     rw (c .refused2 .ensures)
-    (find-refused {w = w} (sound-here (d .before)) (bytes-small (a .records .now) (d .before .before .before .before .before .shared-slice-known2 .given)) (sees-here d) (not-true (d .see .result .managed) (c .before .if2 .taken)))
+    (find-refused (fit-in (a .words .now)) {w = w} (sound-here (d .before)) (bytes-small (a .records .now) (d .before .before .before .before .before .shared-slice-known2 .given)) (sees-here d) (not-true (d .see .result .managed) (c .before .if2 .taken)))
+
+board-in-requires : tie.Need-board-in-requires
+board-in-requires c κs = search needs
 
 raw-requires : tie.Need-raw-requires
 raw-requires c κs = search needs
 
+div-number : tie.Need-div-number
+div-number c = omega (arith, page-least (c .before .board-in .ensures .1))
+
 mul-done : tie.Need-mul-done
-mul-done c = search needs
+mul-done c = omega (arith, address-is (c .before .board-in .result .page) (c .raw .result), c .raw .ensures, c .before .before .before .before .before .before .before .before .before .before .before .good)
 
 frame-bytes-requires : tie.Need-frame-bytes-requires
 frame-bytes-requires c κs =
-    let d = c .before .before .before in
+    let d = c .before .before .before .before in
     let a = d .before .before .before .before .before .before .before .args in
     let w = worldOf (stateWith (a .counters) (a .words .now)) (a .records .now) (a .memory .now) (a .queue .now) in
-    sees-leveled (sound-sane standard-fit w (sound-is standard w (sound-here (d .before)))) (sees-here d) (not-false (d .see .result .managed) (c .before .if2 .left))
+    (c .before .board-in .ensures .1, sees-leveled (sound-sane w (sound-is (boardIn (a .words .now)) w (sound-here (d .before)))) (sees-here d) (not-false (d .see .result .managed) (c .before .before .if2 .left)))
 
 done-requires : tie.Need-done-requires
 done-requires c κs = search needs
 
 returns-3 : tie.Need-returns-3
 returns-3 c =
-    let d = c .before .before .before .before .before in
+    let d = c .before .before .before .before .before .before in
     let a = d .before .before .before .before .before .before .before .args in
     let w = worldOf (stateWith (a .counters) (a .words .now)) (a .records .now) (a .memory .now) (a .queue .now) in
-    rw (c .done .ensures, c .before .frame-bytes .ensures, c .before .before .raw .ensures)
-    (find-leaves {w = w} (sound-here (d .before)) (bytes-small (a .records .now) (d .before .before .before .before .before .shared-slice-known2 .given)) (sees-here d) (not-false (d .see .result .managed) (c .before .before .before .if2 .left)))
+    rw (c .done .ensures, c .before .frame-bytes .ensures, c .before .before .raw .ensures, c .before .before .before .board-in .ensures .0)
+    (find-leaves (fit-in (a .words .now)) {w = w} (sound-here (d .before)) (bytes-small (a .records .now) (d .before .before .before .before .before .shared-slice-known2 .given)) (sees-here d) (not-false (d .see .result .managed) (c .before .before .before .before .if2 .left)))
 
 pub find-spec : {M : Type 1} → statement M
 find-spec =
@@ -106,7 +114,9 @@ find-spec =
     see-requires
     refused-requires-2
     returns-2
+    board-in-requires
     raw-requires
+    div-number
     mul-done
     frame-bytes-requires
     done-requires

@@ -2,11 +2,9 @@
 use mathlib.Core.Path.{_≡_, refl}
 use native.Mathlib.Omega.{arith}
 use borrow.Author.Needs.{needs}
-use Rattle.definition.specs.Board.{standard}
 use Rattle.audit.proofs.Sheets.{sound-is}
-use Rattle.words.specs.Words.{rowsIn}
+use Rattle.words.specs.Words.{boardIn, rowsIn}
 use Rattle.words.proofs.Words.{beside-same}
-use Rattle.world.specs.Fit.{standard-fit}
 use Rattle.world.proofs.Leaving.{sound-sane}
 use Rattle.exam.specs.Promise.{Examined, stateWith, worldOf}
 use Rattle.exam.proofs.Bounds.{idle-small}
@@ -34,27 +32,30 @@ returns c =
     let E = x .ensures (s .args .memory .now) (s .args .queue .now) refl refl in
     (rw (c .refused .ensures) (free-refused E (bytes-small (s .args .records .now) (c .before .before .before .before .before .before .before .slice-known2 .given)) (c .before .if1 .taken)), beside-same)
 
+board-in-requires : tie.Need-board-in-requires
+board-in-requires c κs = search needs
+
 release-requires : tie.Need-release-requires
 release-requires c κs =
-    let s = c .before .before .before .before .before .before .before .before .before .before .before in
-    let x = c .before .before .before .before .examine in
+    let s = c .before .before .before .before .before .before .before .before .before .before .before .before .before in
+    let x = c .before .before .before .before .before .before .examine in
     let w = worldOf (stateWith (s .args .counters) (s .args .words .now)) (s .args .records .now) (s .args .memory .now) (s .args .queue .now) in
-    let E : Examined w (s .args .pa .0) 0 0 (x .result) = x .ensures (s .args .memory .now) (s .args .queue .now) refl refl in
-    let z : x .result .number ≡ 0 = c .before .before .before .if1 .left in
-    let S = sound-is standard w (examined-sound E z) in
-    ((s .pre, sound-sane standard-fit w S), (examined-held E z, omega (arith, idle-small w S)))
+    let E : Examined (boardIn (s .args .words .now)) w (s .args .pa .0) 0 0 (x .result) = x .ensures (s .args .memory .now) (s .args .queue .now) refl refl in
+    let z : x .result .number ≡ 0 = c .before .before .before .before .before .if1 .left in
+    let S = sound-is (boardIn (s .args .words .now)) w (examined-sound E z) in
+    ((s .pre, sound-sane w S), (examined-held E z, omega (arith, idle-small w S)))
 
 raw-requires : tie.Need-raw-requires
 raw-requires c κs = search needs
 
 frame-bytes-requires : tie.Need-frame-bytes-requires
 frame-bytes-requires c κs =
-    let s = c .before .before .before .before .before .before .before .before .before .before .before .before .before .before .before .before .before in
-    let x = c .before .before .before .before .before .before .before .before .before .before .examine in
+    let s = c .before .before .before .before .before .before .before .before .before .before .before .before .before .before .before .before .before .before .before in
+    let x = c .before .before .before .before .before .before .before .before .before .before .before .before .examine in
     let w = worldOf (stateWith (s .args .counters) (s .args .words .now)) (s .args .records .now) (s .args .memory .now) (s .args .queue .now) in
-    let E : Examined w (s .args .pa .0) 0 0 (x .result) = x .ensures (s .args .memory .now) (s .args .queue .now) refl refl in
-    let z : x .result .number ≡ 0 = c .before .before .before .before .before .before .before .before .before .if1 .left in
-    λ d. examined-held E z .leveled
+    let E : Examined (boardIn (s .args .words .now)) w (s .args .pa .0) 0 0 (x .result) = x .ensures (s .args .memory .now) (s .args .queue .now) refl refl in
+    let z : x .result .number ≡ 0 = c .before .before .before .before .before .before .before .before .before .before .before .if1 .left in
+    (c .before .before .before .before .before .before .before .before .board-in .ensures .1, λ d. examined-held E z .leveled)
 
 done-requires : tie.Need-done-requires
 done-requires c κs = search needs
@@ -67,16 +68,16 @@ same-length-4 c = search needs
 
 returns-2 : tie.Need-returns-2
 returns-2 c =
-    let s = c .before .before .before .before .before .before .before .before .before .before .before .before .before .before .before .before .before .before .before in
-    let x = c .before .before .before .before .before .before .before .before .before .before .before .before .examine in
+    let s = c .before .before .before .before .before .before .before .before .before .before .before .before .before .before .before .before .before .before .before .before .before in
+    let x = c .before .before .before .before .before .before .before .before .before .before .before .before .before .before .examine in
     let y = c .before .before .before .before .before .before .before .release in
     let w = worldOf (stateWith (s .args .counters) (s .args .words .now)) (s .args .records .now) (s .args .memory .now) (s .args .queue .now) in
-    let E : Examined w (s .args .pa .0) 0 0 (x .result) = x .ensures (s .args .memory .now) (s .args .queue .now) refl refl in
-    let z : x .result .number ≡ 0 = c .before .before .before .before .before .before .before .before .before .before .before .if1 .left in
+    let E : Examined (boardIn (s .args .words .now)) w (s .args .pa .0) 0 0 (x .result) = x .ensures (s .args .memory .now) (s .args .queue .now) refl refl in
+    let z : x .result .number ≡ 0 = c .before .before .before .before .before .before .before .before .before .before .before .before .before .if1 .left in
     let R = y .ensures .0 in (
-      rw (c .done .ensures, c .before .frame-bytes .ensures, c .before .before .raw .ensures, R .queued, R .pass)
+      rw (c .done .ensures, c .before .frame-bytes .ensures, c .before .before .raw .ensures, c .before .before .before .before .before .before .before .before .before .before .board-in .ensures .0, R .queued, R .pass)
           (free-leaves E z (rowsIn (y .last .1 .0)) (y .result) (y .last .1 .1 .0) (R .turned) (R .counters) (y .kept .1 .1 .0)
-          (bytes-small (s .args .records .now) (c .before .before .before .before .before .before .before .before .before .before .before .before .before .before .before .before .before .slice-known2 .given)) (bytes-small (y .last .1 .1 .0) (c .before .before .before .slice-known4 .given))),
+          (bytes-small (s .args .records .now) (c .before .before .before .before .before .before .before .before .before .before .before .before .before .before .before .before .before .before .before .slice-known2 .given)) (bytes-small (y .last .1 .1 .0) (c .before .before .before .slice-known4 .given))),
       y .ensures .1,
     )
 
@@ -89,6 +90,7 @@ free-spec =
     same-length
     same-length-2
     returns
+    board-in-requires
     release-requires
     raw-requires
     frame-bytes-requires

@@ -1,13 +1,15 @@
 -- The frame that was granted is held, so it can be split.
+use Rattle.definition.specs.Basics.{everywhere}
 use Prim.Native.Nat.{ℕ}
 use mathlib.Core.Path.{_≡_, subst}
 use native.Mathlib.Omega.{arith}
 use borrow.Author.Needs.{needs}
 use borrow.Author.Tests.{not-true, not-false}
-use Rattle.definition.specs.Board.{standard}
 use Rattle.definition.specs.Tracker.{tryAllocFrame}
 use Rattle.definition.specs.World.{recordAt}
 use Rattle.record.specs.Records.{pagesIn}
+use Rattle.words.specs.Words.{boardIn}
+use Rattle.words.proofs.Words.{board-beside}
 use Rattle.exam.specs.Promise.{stateWith}
 use Rattle.grants.specs.Granting.{GivesBy, Granted}
 use Rattle.grants.proofs.Giving.{gives-split, gives-whole}
@@ -38,6 +40,7 @@ split-frame-requires c κs =
     let g = c .before .before .before .before .before .before .before .before .before .before .grant in
     let e = not-false (g .result .found) (c .before .before .if1 .left) in
     let H = g .ensures .0 .1 in
+    rw (board-beside (g .ensures .1 .1))
     ((omega (arith, g .kept .1 .0, c .before .before .before .before .before .before .before .before .before .before .before .before .before .before .before .before .before .pre .0), H .sane), (H .spot e, H .held e))
 
 same-length-4 : tie.Need-same-length-4
@@ -61,12 +64,12 @@ returns-2 c =
     let G
     = subst
     (λ (n : ℕ).
-    GivesBy (tryAllocFrame standard (a .level) (a .flags)) (recordAt (a .records .now)) (stateWith (a .counters) (a .words .now)) (a .memory .now)
+    GivesBy (boardIn (a .words .now)) (tryAllocFrame (boardIn (a .words .now)) everywhere (a .level) (a .flags)) (recordAt (a .records .now)) (stateWith (a .counters) (a .words .now)) (a .memory .now)
     (recordAt (g .last .1 .1 .0)) n (g .last .1 .1 .1 .0) r)
     k (g .ensures .1 .0)
     in
     let e = not-false (g .result .found) (c .before .before .before .before .before .if1 .left) in
-    (g .ensures .0 .0, (gives-split (a .level) (a .flags) G e (f .ensures), g .ensures .1 .1))
+    (g .ensures .0 .0, (gives-split (a .level) (a .flags) G e (rw (board-beside (g .ensures .1 .1)) at (f .ensures)), g .ensures .1 .1))
 
 pub grant-split-spec : {M : Type 1} → statement M
 grant-split-spec =

@@ -3,6 +3,7 @@ use mathlib.Core.Path.{_≡_, refl, ap, _∙_}
 use native.Mathlib.Omega.{arith}
 use borrow.Author.Needs.{needs}
 use borrow.Author.Tests.{not-true, not-false}
+use Rattle.definition.proofs.Bytes.{pages-same}
 use Rattle.definition.specs.Frame.{size}
 use Rattle.definition.specs.World.{recordAt}
 use Rattle.grants.proofs.zero_if_asked.Statement.{statement}
@@ -27,8 +28,8 @@ returns-2 c =
 level-requires : tie.Need-level-requires
 level-requires c κs = search needs
 
-cast-pages-at : tie.Need-cast-pages-at
-cast-pages-at c = search needs
+level-of-requires : tie.Need-level-of-requires
+level-of-requires c κs = search needs
 
 pages-at-requires : tie.Need-pages-at-requires
 pages-at-requires c κs = search needs
@@ -36,29 +37,35 @@ pages-at-requires c κs = search needs
 mul-fill : tie.Need-mul-fill
 mul-fill c = search needs
 
+-- the pages that are filled are the frame's
+filled-pages
+    : (c : tie.After-pages-at)
+    → let s = c .before .before .before .before .before .before .before .before .before in c .pages-at .result ≡ size (recordAt (s .args .records .now) (s .args .page) .level)
+filled-pages c = c .pages-at .ensures ∙ ap size (c .before .level-of .ensures ∙ c .before .before .level .ensures)
+
 mul-fill-2 : tie.Need-mul-fill-2
 mul-fill-2 c =
-    let s = c .before .before .before .before .before .before .before .before .before in
-    let e : c .before .pages-at .result ≡ size (recordAt (s .args .records .now) (s .args .page) .level) = c .before .pages-at .ensures ∙ ap size (c .before .before .level .ensures) in
-    omega (arith, s .pre .1)
+    let p = c .before .before .before in
+    let s = p .before .before .before .before .before .before .before .before .before in
+    omega (arith, s .pre .1, pages-same (s .args .board .page) (filled-pages p))
 
 fill-requires : tie.Need-fill-requires
 fill-requires c κs =
-    let s = c .before .before .before .before .before .before .before .before .before in
-    let e : c .before .pages-at .result ≡ size (recordAt (s .args .records .now) (s .args .page) .level) = c .before .pages-at .ensures ∙ ap size (c .before .before .level .ensures) in
-    omega (arith, s .pre .1)
+    let p = c .before .before .before in
+    let s = p .before .before .before .before .before .before .before .before .before in
+    omega (arith, s .pre .1, pages-same (s .args .board .page) (filled-pages p))
 
 same-length : tie.Need-same-length
 same-length c = search needs
 
 returns-3 : tie.Need-returns-3
 returns-3 c =
-    let l = c .before .before .before .before .before in
+    let p = c .before .before .before .before .before .before in
+    let l = p .before .before in
     let s = l .before .before .before .before .before .before .before in
     let z = l .before .before .is-zeroed in
     let m = l .before .before .before .marks in
-    let p = c .before .before .before .before .pages-at in
-    rw (not-false (s .args .zeroed) (l .before .before .before .before .if1 .left), ← m .ensures, ← z .ensures, l .before .if2 .left, ← l .level .ensures, ← p .ensures)
+    rw (not-false (s .args .zeroed) (l .before .before .before .before .if1 .left), ← m .ensures, ← z .ensures, l .before .if2 .left, ← filled-pages p)
     (c .before .before .fill .ensures)
 
 pub zero-if-asked-spec : {M : Type 1} → statement M
@@ -70,7 +77,7 @@ zero-if-asked-spec =
     is-zeroed-requires
     returns-2
     level-requires
-    cast-pages-at
+    level-of-requires
     pages-at-requires
     mul-fill
     mul-fill-2

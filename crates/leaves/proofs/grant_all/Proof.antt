@@ -4,7 +4,7 @@ use mathlib.Core.List.{List}
 use mathlib.Core.Path.{_≡_, refl}
 use native.Mathlib.Omega.{arith}
 use lib.ListN.{length}
-use Rattle.definition.specs.Board.{standard}
+use Rattle.definition.specs.Board.{Board}
 use Rattle.definition.specs.World.{recordAt}
 use Rattle.record.specs.Records.{pagesIn}
 use Rattle.words.specs.Words.{InUse, rowOf, rowsIn}
@@ -14,19 +14,19 @@ use Rattle.region.proofs.Laws.{rep-sound}
 use Rattle.leaves.proofs.grant_all.Statement.{statement}
 use Rattle.leaves.proofs.grant_all.Tie as tie
 
-record Inv (records₀ words₀ : List ℕ) (times : ℕ) (records words : List ℕ) (i : ℕ) : Type 0 where
+record Inv (board : Board) (records₀ words₀ : List ℕ) (times : ℕ) (records words : List ℕ) (i : ℕ) : Type 0 where
   some : i ≤ times
   records-same : length records ≡ length records₀
   words-same : length words ≡ length words₀
   used : InUse words 0
-  sound : SoundRow standard (recordAt records) (pagesIn records) 0 (rowOf (rowsIn words) 0)
-  whole : WholeRow standard (recordAt records) 0 (rowOf (rowsIn words) 0)
+  sound : SoundRow board (recordAt records) (pagesIn records) 0 (rowOf (rowsIn words) 0)
+  whole : WholeRow board (recordAt records) 0 (rowOf (rowsIn words) 0)
 
 abbrev Inv-loop : tie.InvT-loop
-Inv-loop records₀ words₀ level times i₀ records words i = Inv records₀ words₀ times records words i
+Inv-loop board records₀ words₀ level times i₀ records words i = Inv board records₀ words₀ times records words i
 
 abbrev μ-loop : tie.MeasureT-loop
-μ-loop records₀ words₀ level times i₀ records words i = times - i
+μ-loop board records₀ words₀ level times i₀ records words i = times - i
 
 loop-holds : tie.Need-loop-holds Inv-loop μ-loop
 loop-holds c =
@@ -68,9 +68,9 @@ loop-again c =
     let d = a .allocate in
     record {
       some = omega arith;
-      records-same = omega (arith, d .kept .0);
-      words-same = omega (arith, d .kept .1 .1 .0);
-      used = in-use-then (d .kept .1 .1 .0) (d .ensures .0 .1 .rest) (v .used);
+      records-same = omega (arith, d .kept .1 .0);
+      words-same = omega (arith, d .kept .1 .1 .1 .0);
+      used = in-use-then (d .kept .1 .1 .1 .0) (d .ensures .0 .1 .rest) (v .used);
       sound = rep-sound (d .ensures .0 .0 .became .rep);
       whole = d .ensures .1;
     }

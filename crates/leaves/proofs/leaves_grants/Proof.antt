@@ -1,10 +1,15 @@
 -- The pages that the test counts are those that the region manages, a new region is sound and whole, and its row stands in the words as it was laid out.
 use borrow.Author.Needs.{needs}
 use native.Mathlib.Omega.{arith}
+use Rattle.definition.specs.Board.{standard}
+use Rattle.definition.proofs.Boards.{standard-fit}
 use Rattle.region.proofs.Beginning.{count-is}
 use Rattle.region.proofs.Laws.{rep-sound}
 use Rattle.leaves.proofs.leaves_grants.Statement.{statement}
 use Rattle.leaves.proofs.leaves_grants.Tie as tie
+
+standard-requires : tie.Need-standard-requires
+standard-requires c κs = search needs
 
 returns : tie.Need-returns
 returns c = search needs
@@ -13,10 +18,10 @@ returns-2 : tie.Need-returns-2
 returns-2 c = search needs
 
 table-pages-requires : tie.Need-table-pages-requires
-table-pages-requires c κs = search needs
+table-pages-requires c κs = rw (c .before .before .standard .ensures) (standard-fit, omega arith)
 
 sub-if3 : tie.Need-sub-if3
-sub-if3 c = search needs
+sub-if3 c = let t = rw (c .before .before .before .standard .ensures) at (c .table-pages .ensures) in omega (arith, t)
 
 returns-3 : tie.Need-returns-3
 returns-3 c = search needs
@@ -29,9 +34,11 @@ new-requires c κs = search needs
 
 new-requires-2 : tie.Need-new-requires-2
 new-requires-2 c κs =
-    let s = c .before .before .before .before .before .before .before .before in
-    let e = count-is (record { 0 = s .args .start }) (s .args .pages) (c .before .before .before .before .table-pages .ensures) in
-    (omega arith, omega (arith, e), omega (arith, e))
+    let d = c .before .before .before .before .before .before .before in
+    let s = d .before .before in
+    let t = rw (d .standard .ensures) at (c .before .before .before .before .table-pages .ensures) in
+    let e = count-is standard (record { 0 = s .args .start }) (s .args .pages) t in
+    rw (d .standard .ensures) (standard-fit, ((omega arith, omega (arith, t)), (omega (arith, e), omega (arith, e))))
 
 slice-aggregate-keep : tie.Need-slice-aggregate-keep
 slice-aggregate-keep c = search needs
@@ -59,6 +66,7 @@ pub leaves-grants-spec : {M : Type 1} → statement M
 leaves-grants-spec =
     tie.close
     (tie.spec
+    standard-requires
     returns
     returns-2
     table-pages-requires

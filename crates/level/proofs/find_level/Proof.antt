@@ -5,7 +5,6 @@ use mathlib.Core.Path.{_≡_, sym, _∙_}
 use lib.Dec.{lit<}
 use borrow.Author.Count.{below-none, below-more}
 use borrow.Author.Needs.{needs}
-use Rattle.definition.specs.Board.{standard}
 use Rattle.definition.specs.Calls.{Layout, badLayout, bytesOfLevel}
 use Rattle.definition.specs.declared.FrameAllocFlags.{FrameAllocFlags}
 use Rattle.level.specs.Level.{serves}
@@ -18,7 +17,7 @@ layout s flags = record { size = s .args .size; align = s .args .align; flags = 
 
 -- a level does not serve
 abbrev Short : tie.Start → ℕ → Type 0
-Short s l = serves (bytesOfLevel standard l) (s .args .size) (s .args .align) ≡ false
+Short s l = serves (bytesOfLevel (s .args .board) l) (s .args .size) (s .args .align) ≡ false
 
 -- what is known where each test failed
 fine : (c : tie.Else1) (flags : FrameAllocFlags) → badLayout (layout (c .before .before) flags) ≡ false
@@ -47,7 +46,7 @@ returns-2 : tie.Need-returns-2
 returns-2 c =
     λ flags.
     let s = c .before .before .before .before in
-    sym (found-at standard (layout s flags) (fine (c .before .before) flags) 0 (lit< tt) (sym (c .before .suffices .ensures) ∙ c .if2 .taken)
+    sym (found-at (s .args .board) (layout s flags) (fine (c .before .before) flags) 0 (lit< tt) (sym (c .before .suffices .ensures) ∙ c .if2 .taken)
     (below-none (Short s)))
 
 suffices-requires-2 : tie.Need-suffices-requires-2
@@ -57,7 +56,7 @@ returns-3 : tie.Need-returns-3
 returns-3 c =
     λ flags.
     let s = c .before .before .before .before .before .before in
-    sym (found-at standard (layout s flags) (fine (c .before .before .before .before) flags) 1 (lit< tt)
+    sym (found-at (s .args .board) (layout s flags) (fine (c .before .before .before .before) flags) 1 (lit< tt)
     (sym (c .before .suffices2 .ensures) ∙ c .if3 .taken) (no-small (c .before .before)))
 
 suffices-requires-3 : tie.Need-suffices-requires-3
@@ -67,14 +66,14 @@ returns-4 : tie.Need-returns-4
 returns-4 c =
     λ flags.
     let s = c .before .before .before .before .before .before .before .before in
-    sym (found-at standard (layout s flags) (fine (c .before .before .before .before .before .before) flags) 2 (lit< tt)
+    sym (found-at (s .args .board) (layout s flags) (fine (c .before .before .before .before .before .before) flags) 2 (lit< tt)
     (sym (c .before .suffices3 .ensures) ∙ c .if4 .taken) (no-large (c .before .before)))
 
 returns-5 : tie.Need-returns-5
 returns-5 c =
     λ flags.
     let s = c .before .before .before .before .before .before .before .before in
-    sym (found-none standard (layout s flags) (fine (c .before .before .before .before .before .before) flags)
+    sym (found-none (s .args .board) (layout s flags) (fine (c .before .before .before .before .before .before) flags)
     (sym (c .before .suffices3 .ensures) ∙ c .if4 .left))
 
 pub find-level-spec : {M : Type 1} → statement M

@@ -2,9 +2,10 @@
 use mathlib.Core.Path.{_≡_, refl}
 use native.Mathlib.Omega.{arith}
 use borrow.Author.Needs.{needs}
-use Rattle.definition.specs.Board.{standard}
+use Rattle.definition.specs.Board.{Board}
 use Rattle.definition.specs.Calls.{Fill}
 use Rattle.definition.specs.World.{World, decode}
+use Rattle.words.specs.Words.{boardIn}
 use Rattle.world.proofs.Refusing.{one-frame}
 use Rattle.exam.specs.Promise.{Examined, stateWith, worldOf}
 use Rattle.exam.proofs.Promises.{examined-refused}
@@ -13,14 +14,17 @@ use Rattle.ranges.proofs.Marking.{fill-done}
 use Rattle.ranges.proofs.fill.Statement.{statement}
 use Rattle.ranges.proofs.fill.Tie as tie
 
--- the start, the world that was given there, the frame that was examined in it, and that nothing refuses it
+-- the start, the board and the world that were given there, the frame that was examined in it, and that nothing refuses it
 abbrev start : tie.After-examine → tie.Start
 start c = c .before .before .before .before .before .before
+
+abbrev board : tie.After-examine → Board
+board c = boardIn (start c .args .words .now)
 
 abbrev world : tie.After-examine → World
 world c = let a = start c .args in worldOf (stateWith (a .counters) (a .words .now)) (a .records .now) (a .memory .now) (a .queue .now)
 
-found : (c : tie.After-examine) → let a = start c .args in Examined (world c) (a .pa .0) (a .offset) (a .len) (c .examine .result)
+found : (c : tie.After-examine) → let a = start c .args in Examined (board c) (world c) (a .pa .0) (a .offset) (a .len) (c .examine .result)
 found c = c .examine .ensures (world c .memory) (world c .queue) refl refl
 
 none : (c : tie.Else1) → c .before .examine .result .number ≡ 0
@@ -40,16 +44,13 @@ returns c =
     let k = c .before .before in
     let a = start k .args in
     rw (c .refused .ensures)
-    (examined-refused (found k) (Fill (a .pa .0) (a .offset) (a .len) (a .byte)) (λ i. k .before .before .before .before .slice-known .given i .fits) (λ t. one-frame standard (decode standard (world k)) (a .pa .0) (a .offset) (a .len)) (λ h. omega arith))
+    (examined-refused (found k) (Fill (a .pa .0) (a .offset) (a .len) (a .byte)) (λ i. k .before .before .before .before .slice-known .given i .fits) (λ t. one-frame (board k) (decode (board k) (world k)) (a .pa .0) (a .offset) (a .len)) (λ h. omega arith))
 
-mul-fill : tie.Need-mul-fill
-mul-fill c = let k = c .before .before .before .before in omega (arith, examined-ends (found (k .before)) (none k), start (k .before) .good .1 .1 .1 .0 .0)
-
-add-fill : tie.Need-add-fill
-add-fill c = let k = c .before .before .before .before in omega (arith, examined-ends (found (k .before)) (none k), start (k .before) .good .1 .1 .1 .0 .0)
+place-requires : tie.Need-place-requires
+place-requires c κs = let k = c .before .before in omega (arith, examined-ends (found (k .before)) (none k), start (k .before) .good .1 .1 .1 .0 .0)
 
 fill-requires : tie.Need-fill-requires
-fill-requires c κs = let k = c .before .before .before .before in examined-ends (found (k .before)) (none k)
+fill-requires c κs = let k = c .before .before .before .before in rw (c .before .place .ensures) (examined-ends (found (k .before)) (none k))
 
 is-kernel-requires : tie.Need-is-kernel-requires
 is-kernel-requires c κs = search needs
@@ -81,7 +82,7 @@ returns-2 c =
       before = λ i. k .before .before .before .before .before .slice-known .given i .fits;
       after = λ i. c .before .before .slice-known4 .given i .fits;
     })
-    (start (k .before) .args .byte) (c .before .before .before .before .before .before .before .before .before .fill .ensures))
+    (start (k .before) .args .byte) (rw (c .before .before .before .before .before .before .before .before .before .before .before .place .ensures) at (c .before .before .before .before .before .before .before .before .before .fill .ensures)))
 
 pub fill-spec : {M : Type 1} → statement M
 fill-spec =
@@ -91,8 +92,7 @@ fill-spec =
     refused-requires
     same-length
     returns
-    mul-fill
-    add-fill
+    place-requires
     fill-requires
     is-kernel-requires
     set-marks-requires

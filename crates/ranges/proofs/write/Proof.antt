@@ -3,9 +3,10 @@ use mathlib.Core.Path.{_≡_, refl}
 use native.Mathlib.Omega.{arith}
 use borrow.Author.Needs.{needs}
 use lib.ListN.{length}
-use Rattle.definition.specs.Board.{standard}
+use Rattle.definition.specs.Board.{Board}
 use Rattle.definition.specs.Calls.{Write}
 use Rattle.definition.specs.World.{World, decode}
+use Rattle.words.specs.Words.{boardIn}
 use Rattle.world.proofs.Refusing.{one-frame}
 use Rattle.exam.specs.Promise.{Examined, stateWith, worldOf}
 use Rattle.exam.proofs.Promises.{examined-refused}
@@ -14,14 +15,17 @@ use Rattle.ranges.proofs.Marking.{write-done}
 use Rattle.ranges.proofs.write.Statement.{statement}
 use Rattle.ranges.proofs.write.Tie as tie
 
--- the start, the world that was given there, the frame that was examined in it, and that nothing refuses it
+-- the start, the board and the world that were given there, the frame that was examined in it, and that nothing refuses it
 abbrev start : tie.After-examine → tie.Start
 start c = c .before .before .before .before .before .before .before
+
+abbrev board : tie.After-examine → Board
+board c = boardIn (start c .args .words .now)
 
 abbrev world : tie.After-examine → World
 world c = let a = start c .args in worldOf (stateWith (a .counters) (a .words .now)) (a .records .now) (a .memory .now) (a .queue .now)
 
-found : (c : tie.After-examine) → let a = start c .args in Examined (world c) (a .pa .0) (a .offset) (length (a .bytes .now)) (c .examine .result)
+found : (c : tie.After-examine) → let a = start c .args in Examined (board c) (world c) (a .pa .0) (a .offset) (length (a .bytes .now)) (c .examine .result)
 found c = c .examine .ensures (world c .memory) (world c .queue) refl refl
 
 none : (c : tie.Else1) → c .before .examine .result .number ≡ 0
@@ -41,16 +45,13 @@ returns c =
     let k = c .before .before in
     let a = start k .args in
     rw (c .refused .ensures)
-    (examined-refused (found k) (Write (a .pa .0) (a .offset) (a .bytes .now)) (λ i. k .before .before .before .before .before .slice-known .given i .fits) (λ t. one-frame standard (decode standard (world k)) (a .pa .0) (a .offset) (length (a .bytes .now))) (λ h. omega arith))
+    (examined-refused (found k) (Write (a .pa .0) (a .offset) (a .bytes .now)) (λ i. k .before .before .before .before .before .slice-known .given i .fits) (λ t. one-frame (board k) (decode (board k) (world k)) (a .pa .0) (a .offset) (length (a .bytes .now))) (λ h. omega arith))
 
-mul-write : tie.Need-mul-write
-mul-write c = let k = c .before .before .before .before in omega (arith, examined-ends (found (k .before)) (none k), start (k .before) .good .1 .1 .1 .0 .0)
-
-add-write : tie.Need-add-write
-add-write c = let k = c .before .before .before .before in omega (arith, examined-ends (found (k .before)) (none k), start (k .before) .good .1 .1 .1 .0 .0)
+place-requires : tie.Need-place-requires
+place-requires c κs = let k = c .before .before in omega (arith, examined-ends (found (k .before)) (none k), start (k .before) .good .1 .1 .1 .0 .0)
 
 write-requires : tie.Need-write-requires
-write-requires c κs = let k = c .before .before .before .before in examined-ends (found (k .before)) (none k)
+write-requires c κs = let k = c .before .before .before .before in rw (c .before .place .ensures) (examined-ends (found (k .before)) (none k))
 
 is-kernel-requires : tie.Need-is-kernel-requires
 is-kernel-requires c κs = search needs
@@ -82,7 +83,7 @@ returns-2 c =
       before = λ i. k .before .before .before .before .before .before .slice-known .given i .fits;
       after = λ i. c .before .before .slice-known4 .given i .fits;
     })
-    (start (k .before) .args .bytes .now) refl (c .before .before .before .before .before .before .before .before .before .write .ensures))
+    (start (k .before) .args .bytes .now) refl (rw (c .before .before .before .before .before .before .before .before .before .before .before .place .ensures) at (c .before .before .before .before .before .before .before .before .before .write .ensures)))
 
 pub write-spec : {M : Type 1} → statement M
 write-spec =
@@ -92,8 +93,7 @@ write-spec =
     refused-requires
     same-length
     returns
-    mul-write
-    add-write
+    place-requires
     write-requires
     is-kernel-requires
     set-marks-requires

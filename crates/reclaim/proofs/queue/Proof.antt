@@ -47,17 +47,20 @@ returns-2 c =
       beside-same,
     )
 
+board-in-requires : tie.Need-board-in-requires
+board-in-requires c κs = search needs
+
 raw-requires : tie.Need-raw-requires
 raw-requires c κs = search needs
 
 mul-queue : tie.Need-mul-queue
-mul-queue c = search needs
+mul-queue c = omega (arith, c .before .before .before .if2 .left, c .before .before .before .before .before .before .before .before .before .before .before .before .before .good .1 .1 .1 .1)
 
 slice-write-queue : tie.Need-slice-write-queue
 slice-write-queue c = search needs
 
 add-put-queued : tie.Need-add-put-queued
-add-put-queued c = search needs
+add-put-queued c = omega (arith, c .before .before .before .before .if2 .left, c .before .before .before .before .before .before .before .before .before .before .before .before .before .before .good .1 .1 .1 .1)
 
 put-queued-requires : tie.Need-put-queued-requires
 put-queued-requires c κs = search needs
@@ -66,11 +69,11 @@ raw-requires-2 : tie.Need-raw-requires-2
 raw-requires-2 c κs = search needs
 
 frame-bytes-requires : tie.Need-frame-bytes-requires
-frame-bytes-requires c κs e =
-    let s = c .before .before .before .before .before .before .before .before .before .before .before .before .before .before .before .before in
-    let x = c .before .before .before .before .before .before .before .before .before .before .examine in
+frame-bytes-requires c κs =
+    let s = c .before .before .before .before .before .before .before .before .before .before .before .before .before .before .before .before .before .before in
+    let x = c .before .before .before .before .before .before .before .before .before .before .before .before .examine in
     let w = worldOf (stateWith (s .args .counters) (s .args .words .now)) (s .args .records .now) (s .args .memory .now) (s .args .queue .now) in
-    examined-held {w = w} (x .ensures (s .args .memory .now) (s .args .queue .now) refl refl) (omega (arith, c .before .before .before .before .before .before .before .before .before .if1 .left)) .leveled
+    (c .before .before .before .before .before .before .board-in .ensures .1, λ e. examined-held {w = w} (x .ensures (s .args .memory .now) (s .args .queue .now) refl refl) (omega (arith, c .before .before .before .before .before .before .before .before .before .before .before .if1 .left)) .leveled)
 
 done-requires : tie.Need-done-requires
 done-requires c κs = search needs
@@ -83,13 +86,13 @@ same-length-4 c = search needs
 
 returns-3 : tie.Need-returns-3
 returns-3 c =
-    let s = c .before .before .before .before .before .before .before .before .before .before .before .before .before .before .before .before .before .before in
-    let x = c .before .before .before .before .before .before .before .before .before .before .before .before .examine in
+    let s = c .before .before .before .before .before .before .before .before .before .before .before .before .before .before .before .before .before .before .before .before in
+    let x = c .before .before .before .before .before .before .before .before .before .before .before .before .before .before .examine in
     let w = worldOf (stateWith (s .args .counters) (s .args .words .now)) (s .args .records .now) (s .args .memory .now) (s .args .queue .now) in
-    let l = c .before .before .before .before .before .before .before .before .before .queued-in .ensures in
+    let l = c .before .before .before .before .before .before .before .before .before .before .before .queued-in .ensures in
     let Q = c .before .before .before .before .before .put-queued .ensures in (
-      rw (c .done .ensures, c .before .frame-bytes .ensures, c .before .before .raw2 .ensures, c .before .before .before .before .before .before .before .raw .ensures, Q .rows, Q .queued, Q .pass, l)
-          (queue-done w (s .args .pa .0) (x .result) (x .ensures (s .args .memory .now) (s .args .queue .now) refl refl) (λ i. omega (arith, c .before .before .before .before .before .before .before .before .before .before .before .before .before .before .before .before .shared-slice-known .given i)) (omega (arith, c .before .before .before .before .before .before .before .before .before .before .before .if1 .left)) (omega (arith, c .before .before .before .before .before .before .before .before .if2 .left, l))),
+      rw (c .done .ensures, c .before .frame-bytes .ensures, c .before .before .raw2 .ensures, c .before .before .before .before .before .before .before .raw .ensures, c .before .before .before .before .before .before .before .before .board-in .ensures .0, Q .rows, Q .queued, Q .pass, l)
+          (queue-done w (s .args .pa .0) (x .result) (x .ensures (s .args .memory .now) (s .args .queue .now) refl refl) (λ i. omega (arith, c .before .before .before .before .before .before .before .before .before .before .before .before .before .before .before .before .before .before .shared-slice-known .given i)) (omega (arith, c .before .before .before .before .before .before .before .before .before .before .before .before .before .if1 .left)) (omega (arith, c .before .before .before .before .before .before .before .before .before .before .if2 .left, l))),
       Q .beside,
     )
 
@@ -105,6 +108,7 @@ queue-spec =
     refused-requires-2
     same-length-2
     returns-2
+    board-in-requires
     raw-requires
     mul-queue
     slice-write-queue

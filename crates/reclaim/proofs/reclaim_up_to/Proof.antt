@@ -8,15 +8,15 @@ use borrow.Author.Needs.{needs}
 use Rattle.definition.specs.Boot.{recordSize}
 use Rattle.definition.specs.World.{recordAt}
 use Rattle.record.specs.Records.{pagesIn}
-use Rattle.words.specs.Words.{Beside, queuedIn, rowsIn}
-use Rattle.words.proofs.Words.{beside-same, beside-then}
+use Rattle.words.specs.Words.{Beside, boardIn, queuedIn, rowsIn}
+use Rattle.words.proofs.Words.{beside-same, beside-then, board-beside}
 use Rattle.exam.specs.Promise.{Looks, stateWith}
 use Rattle.reclaim.proofs.Reclaiming.{Going, going-all, going-drop, going-empty, going-free, going-held, going-start}
 use Rattle.reclaim.proofs.reclaim_up_to.Statement.{statement}
 use Rattle.reclaim.proofs.reclaim_up_to.Tie as tie
 
 abbrev Inv-loop : tie.InvT-loop
-Inv-loop words₀ records₀ queue limit next₀ freed₀ i₀ words records next freed i = Going (recordAt records₀) (stateWith next₀ words₀) queue limit (recordAt records) (pagesIn records) (stateWith next words) freed i × (length records ≡ length records₀) × (length words ≡ length words₀) × Beside words₀ words
+Inv-loop words₀ records₀ queue limit next₀ freed₀ i₀ words records next freed i = Going (boardIn words₀) (recordAt records₀) (stateWith next₀ words₀) queue limit (recordAt records) (pagesIn records) (stateWith next words) freed i × (length records ≡ length records₀) × (length words ≡ length words₀) × Beside words₀ words
 
 abbrev μ-loop : tie.MeasureT-loop
 μ-loop words₀ records₀ queue limit next₀ freed₀ i₀ words records next freed i = limit - i
@@ -29,9 +29,11 @@ some-left c = omega (arith, c .before .before .before .before .before .before .b
 looked
     : (c : tie.After-look Inv-loop μ-loop)
     → let k = c .before .before .before .before .before .before .before .before .before .before .before .before .before .loop in
-    Looks (recordAt (k .records)) (pagesIn (k .records)) (rowsIn (k .words)) (getD (c .before .before .before .before .before .before .before .before .before .before .before .before .before .before .before .before .before .args .queue .now) (queuedIn (k .words) - 1) 0) 0 0 (c .look .result)
+    Looks (boardIn (c .before .before .before .before .before .before .before .before .before .before .before .before .before .before .before .before .before .args .words .now)) (recordAt (k .records)) (pagesIn (k .records)) (rowsIn (k .words)) (getD (c .before .before .before .before .before .before .before .before .before .before .before .before .before .before .before .before .before .args .queue .now) (queuedIn (k .words) - 1) 0) 0 0 (c .look .result)
 looked c =
-    rw (c .before .before .before .new .ensures, c .before .before .before .before .before .before .before .put-queued .ensures .rows, c .before .before .before .before .before .before .before .before .before .before .queued-in .ensures) at (c .look .ensures)
+    let k = c .before .before .before .before .before .before .before .before .before .before .before .before .before .loop in
+    let d = c .before .before .before .before .before .before .before .put-queued in
+    rw (board-beside (beside-then (k .inv .3) (d .ensures .beside)), c .before .before .before .new .ensures, c .before .before .before .before .before .before .before .put-queued .ensures .rows, c .before .before .before .before .before .before .before .before .before .before .queued-in .ensures) at (c .look .ensures)
 
 loop-holds : tie.Need-loop-holds Inv-loop μ-loop
 loop-holds c =
@@ -76,7 +78,7 @@ look-requires : tie.Need-look-requires Inv-loop μ-loop
 look-requires c κs =
     let k = c .before .before .before .before .before .before .before .before .before .before .before .before .loop in
     let d = c .before .before .before .before .before .before .put-queued in
-    (omega (arith, k .inv .2, c .before .before .before .before .before .before .before .before .before .before .before .before .before .before .before .before .pre .0 .0, d .kept .0), rw (d .ensures .rows) (k .inv .0 .sane))
+    (omega (arith, k .inv .2, c .before .before .before .before .before .before .before .before .before .before .before .before .before .before .before .before .pre .0 .0, d .kept .0), rw (board-beside (beside-then (k .inv .3) (d .ensures .beside)), d .ensures .rows) (k .inv .0 .sane))
 
 release-requires : tie.Need-release-requires Inv-loop μ-loop
 release-requires c κs =
@@ -85,7 +87,7 @@ release-requires c κs =
     let s = l .before .before .before .before .before .before .before .before .before .before .before .before .before .before .before .before .before in
     let d = l .before .before .before .before .before .before .before .put-queued in
     let H = going-held (k .inv .0) (l .before .before .before .before .before .before .before .before .before .before .before .before .loop-test .taken) (some-left l) (l .look .result) (looked l) (omega (arith, c .before .before .if2 .taken)) in
-    (rw (d .ensures .rows) ((omega (arith, k .inv .2, s .pre .0 .0, d .kept .0), k .inv .0 .sane), (H, omega (arith, k .inv .0 .idle, k .inv .0 .turns, s .pre .1))))
+    (rw (board-beside (beside-then (k .inv .3) (d .ensures .beside)), d .ensures .rows) ((omega (arith, k .inv .2, s .pre .0 .0, d .kept .0), k .inv .0 .sane), (H, omega (arith, k .inv .0 .idle, k .inv .0 .turns, s .pre .1))))
 
 add-freed : tie.Need-add-freed Inv-loop μ-loop
 add-freed c =
@@ -110,7 +112,7 @@ loop-again c =
     (λ w.
     let r = w .3 in
     let p = ap (λ (n : ℕ). n / recordSize) (r .kept .1 .1 .0) in
-    let R = rw (p, Q .rows, Q .queued, Q .pass, e) at (r .ensures .0) in
+    let R = rw (board-beside (beside-then (k .inv .3) (Q .beside)), p, Q .rows, Q .queued, Q .pass, e) at (r .ensures .0) in
     rw (w .8, w .9, w .10, w .11)
     (rw p (going-free (k .inv .0) h (some-left l) (l .look .result) (looked l) (omega (arith, w .0 .taken)) R), omega (arith, r .kept .1 .1 .0, k .inv .1), omega (arith, r .kept .1 .0, d .kept .0, k .inv .2), beside-then (beside-then (k .inv .3) (Q .beside)) (r .ensures .1)))
     (λ w.

@@ -1,24 +1,17 @@
-use mathlib.Core.Path.{_≡_, refl}
-use native.Mathlib.Omega.{arith}
-use Prim.Native.Nat.{ℕ}
+-- `free_marks` meets its contract, in each of the four cases.
+use mathlib.Core.Path.{refl}
 use Rattle.record.proofs.free_marks.Statement.{statement}
 use Rattle.record.proofs.free_marks.Tie as tie
-use Rattle.record.proofs.free_marks.Reads as reads
-use Rattle.record.proofs.free_marks.Lts as lts
 
--- src/lib.rt:73:1
 returns : tie.Need-returns
 returns c = rw (c .before .if1 .taken, c .if2 .taken) refl
 
--- src/lib.rt:73:1
 returns-2 : tie.Need-returns-2
 returns-2 c = rw (c .before .if1 .taken, c .if2 .left) refl
 
--- src/lib.rt:73:1
 returns-3 : tie.Need-returns-3
 returns-3 c = rw (c .before .if1 .left, c .if3 .taken) refl
 
--- src/lib.rt:73:1
 returns-4 : tie.Need-returns-4
 returns-4 c = rw (c .before .if1 .left, c .if3 .left) refl
 

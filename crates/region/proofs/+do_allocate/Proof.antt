@@ -6,13 +6,12 @@ use Prim.Native.Nat.{ℕ, _-_, _<_}
 use borrow.Fn.Kinds.{In}
 use borrow.Fn.PlainCycle.{Measures, is, falls, and}
 use mathlib.Core.List.{List}
-use Rattle.definition.specs.Board.{standard}
 use Rattle.definition.specs.Frame.{Found, Levels, split}
 use Rattle.definition.specs.World.{recordAt}
 use Rattle.record.specs.Records.{pagesIn}
 use Rattle.words.specs.Words.{rowOf, rowsIn}
 use Rattle.region.specs.declared.Got.{Got}
-use Rattle.region.specs.Rep.{searched, stateOf}
+use Rattle.region.specs.Rep.{WholeSome, searched, stateOf}
 use Rattle.region.proofs.Laws.{none-in}
 use Rattle.region.proofs.Keeping.{row-whole}
 use Rattle.region.proofs.Searching.{
@@ -75,15 +74,19 @@ module _ (t : ℕ) where
   abbrev wanted : Start → Wanted
   wanted s = record { level = s .args .level; tryZero = s .args .try-zero; onlyZero = s .args .only-zero }
 
+  -- a board on which the region is sound and whole at the start: the one that the contract asks for, or any other
+  abbrev Sized : Start → Type 0
+  Sized s = WholeSome (s .args .records .now) (s .args .first) (s .args .words .now) (s .args .index)
+
   -- the records and the words have come to stand for the levels x
-  abbrev Stands : Start → List ℕ → List ℕ → Levels → Type 0
-  Stands s bytes words x =
-      Reached standard (recordAt (s .args .records .now)) (s .args .first) (s .args .words .now) (s .args .index) (recordAt bytes) (pagesIn bytes) words x
+  abbrev Stands : (s : Start) → Sized s → List ℕ → List ℕ → Levels → Type 0
+  Stands s n bytes words x =
+      Reached (n .0) (recordAt (s .args .records .now)) (s .args .first) (s .args .words .now) (s .args .index) (recordAt bytes) (pagesIn bytes) words x
 
   -- the same after a search that came to the answer a
-  abbrev Finds : Start → List ℕ → List ℕ → Got → Found → Type 0
-  Finds s bytes words r a =
-      Sought standard (recordAt (s .args .records .now)) (s .args .first) (s .args .words .now) (s .args .index) (recordAt bytes) (pagesIn bytes) words r a
+  abbrev Finds : (s : Start) → Sized s → List ℕ → List ℕ → Got → Found → Type 0
+  Finds s n bytes words r a =
+      Sought (n .0) (recordAt (s .args .records .now)) (s .args .first) (s .args .words .now) (s .args .index) (recordAt bytes) (pagesIn bytes) words r a
 
   abbrev start-of : lts.After-level-allocate calls at do-allocate.Post → Start
   start-of c = c .before .before .before .before .before .before
@@ -91,37 +94,44 @@ module _ (t : ℕ) where
   at-level
       : (c : lts.After-level-allocate calls at do-allocate.Post) → let s = start-of c in
       let d = c .level-allocate in
-      Finds s (d .last .0) (d .last .1 .1 .0) (d .result) (here (wanted s) (levels s))
-  at-level c =
+      (n : Sized s) → Finds s n (d .last .0) (d .last .1 .1 .0) (d .result) (here (wanted s) (levels s))
+  at-level c n =
       let s = start-of c in
       let d = c .level-allocate in
-      sought (begun (s .pre .1 .0)) (d .kept .1 .1 .0) (here (wanted s)) (d .ensures)
+      sought (begun (n .1)) (d .kept .1 .1 .0) (here (wanted s)) (d .ensures (n .0) (n .1))
 
   unchanged
       : (c : lts.Else2 calls at do-allocate.Post) → let l = c .before .before .before .before .before in
       let s = start-of l in
-      Stands s (l .level-allocate .last .0) (l .level-allocate .last .1 .1 .0) (levels s)
-  unchanged c =
+      (n : Sized s) → Stands s n (l .level-allocate .last .0) (l .level-allocate .last .1 .1 .0) (levels s)
+  unchanged c n =
       let l = c .before .before .before .before .before in
       let s = start-of l in
-      none-here (wanted s) (levels s) (at-level l) (c .if2 .left)
+      none-here (wanted s) (levels s) (at-level l n) (c .if2 .left)
 
   at-next
       : (c : lts.After-do-allocate calls at do-allocate.Post) → let s = start-of (c .before .before .before .before .before .before .before .before) in
       let d = c .do-allocate in
-      Finds s (d .last .0) (d .last .1 .1 .0) (d .result) (above (wanted s) (levels s))
-  at-next c =
+      (n : Sized s) → Finds s n (d .last .0) (d .last .1 .1 .0) (d .result) (above (wanted s) (levels s))
+  at-next c n =
       let d = c .do-allocate in
-      sought (unchanged (c .before .before .before)) (d .kept .1 .1 .0) (above (wanted (start-of (c .before .before .before .before .before .before .before .before)))) (d .ensures)
+      let e = unchanged (c .before .before .before) n in
+      sought e (d .kept .1 .1 .0) (above (wanted (start-of (c .before .before .before .before .before .before .before .before))))
+      (d .ensures (n .0) (asks e) (row-whole (e .became) (n .2)))
 
   parted
       : (c : lts.After-split calls at do-allocate.Post) → let u = c .before .before .before .before .before .before .before .before .before in
       let s = start-of (u .before .before .before .before .before .before .before .before) in
-      Stands s (c .split .last .0) (c .split .last .1 .1 .0) (split (above (wanted s) (levels s) .levels) (u .do-allocate .result .page) (s .args .level))
-  parted c =
-      let u = c .before .before .before .before .before .before .before .before .before in
-      let s = start-of (u .before .before .before .before .before .before .before .before) in
-      changed (at-next u .reached) (c .split .kept .1 .1 .0) (λ x. split x (u .do-allocate .result .page) (s .args .level)) (c .split .ensures)
+      (n : Sized s) → Stands s n (c .split .last .0) (c .split .last .1 .1 .0) (split (above (wanted s) (levels s) .levels) (u .do-allocate .result .page) (s .args .level))
+  parted c n =
+      let k = c .before .before .before in
+      let u = k .before .before .before .before .before .before in
+      let l = u .before .before .before .before .before .before .before .before in
+      let s = start-of l in
+      let e = at-next u n in
+      changed (e .reached) (c .split .kept .1 .1 .0) (λ x. split x (u .do-allocate .result .page) (s .args .level))
+      (c .split .ensures (n .0) (asks (e .reached))
+      (split-asks (wanted s) (levels s) (l .before .before .before .if1 .left) (n .1 .1) (n .2) (some-told e (not-false _ (k .if3 .left))) (e .reached .became)))
 
   nothing-requires : lts.Need-nothing-requires calls at do-allocate.Post
   nothing-requires c κs = search needs
@@ -130,7 +140,7 @@ module _ (t : ℕ) where
   returns c =
       let s = c .before .before .before .before in
       rw (past (wanted s) (levels s) (c .before .if1 .taken))
-      (told (record { reached = begun (s .pre .1 .0); found = none-in (searched (s .args .words .now) (s .args .index) (c .nothing .result)) (c .nothing .ensures) }))
+      (λ board S W. told (record { reached = begun S; found = none-in (searched (s .args .words .now) (s .args .index) (c .nothing .result)) (c .nothing .ensures) }))
 
   level-allocate-requires : lts.Need-level-allocate-requires calls at do-allocate.Post
   level-allocate-requires c κs = search needs
@@ -145,7 +155,7 @@ module _ (t : ℕ) where
   returns-2 c =
       let l = c .before .before .before .before .before in
       let s = start-of l in
-      let e = at-level l in
+      λ board S W. let e = at-level l (board, S, W) in
       rw (found-here (wanted s) (levels s) (l .before .before .before .if1 .left) (some-told e (c .if2 .taken))) (told e)
 
   add-do-allocate : lts.Need-add-do-allocate calls at do-allocate.Post
@@ -154,8 +164,9 @@ module _ (t : ℕ) where
   do-allocate-requires : lts.Need-do-allocate-requires calls at do-allocate.Post
   do-allocate-requires c κs =
       let b = c .before .before in
-      let e = unchanged b in
-      (omega arith, (asks e, row-whole (e .became) (start-of (b .before .before .before .before .before) .pre .1 .1)))
+      let n = start-of (b .before .before .before .before .before) .pre .1 in
+      let e = unchanged b n in
+      (omega arith, (n .0, asks e, row-whole (e .became) (n .2)))
 
   same-length-3 : lts.Need-same-length-3 calls at do-allocate.Post
   same-length-3 c = search needs
@@ -169,8 +180,9 @@ module _ (t : ℕ) where
       let b = u .before .before .before in
       let l = b .before .before .before .before .before in
       let s = start-of l in
-      let e = at-next u in
-      rw (none-above (wanted s) (levels s) (l .before .before .before .if1 .left) (none-told (at-level l) (b .if2 .left)) (none-told e (not-true _ (c .if3 .taken)))) (told e)
+      λ board S W. let n : Sized s = (board, S, W) in
+      let e = at-next u n in
+      rw (none-above (wanted s) (levels s) (l .before .before .before .if1 .left) (none-told (at-level l n) (b .if2 .left)) (none-told e (not-true _ (c .if3 .taken)))) (told e)
 
   split-requires : lts.Need-split-requires calls at do-allocate.Post
   split-requires c κs =
@@ -178,15 +190,18 @@ module _ (t : ℕ) where
       let u = k .before .before .before .before .before .before in
       let l = u .before .before .before .before .before .before .before .before in
       let s = start-of l in
-      let e = at-next u in (
+      let n = s .pre .1 in
+      let e = at-next u n in (
+        n .0,
         asks (e .reached),
-        split-asks (wanted s) (levels s) (l .before .before .before .if1 .left) (s .pre .1 .0 .1) (s .pre .1 .1) (some-told e (not-false _ (k .if3 .left))) (e .reached .became),
+        split-asks (wanted s) (levels s) (l .before .before .before .if1 .left) (n .1 .1) (n .2) (some-told e (not-false _ (k .if3 .left))) (e .reached .became),
       )
 
   level-allocate-requires-2 : lts.Need-level-allocate-requires-2 calls at do-allocate.Post
   level-allocate-requires-2 c κs =
       let p = c .before .before .before .before .before .before in
-      (asks (parted p), omega (arith, p .before .before .before .before .before .before .before .before .before .before .before .before .before .before .before .before .before .before .before .before .if1 .left))
+      let n = start-of (p .before .before .before .before .before .before .before .before .before .before .before .before .before .before .before .before .before) .pre .1 in
+      ((n .0, asks (parted p n)), omega (arith, p .before .before .before .before .before .before .before .before .before .before .before .before .before .before .before .before .before .before .before .before .if1 .left))
 
   same-length-5 : lts.Need-same-length-5 calls at do-allocate.Post
   same-length-5 c =
@@ -209,8 +224,10 @@ module _ (t : ℕ) where
       let b = u .before .before .before in
       let l = b .before .before .before .before .before in
       let s = start-of l in
-      rw (found-above (wanted s) (levels s) (l .before .before .before .if1 .left) (none-told (at-level l) (b .if2 .left)) (some-told (at-next u) (not-false _ (k .if3 .left))))
-      (told (sought (parted p) (d .kept .1 .1 .0) (here (wanted s)) (d .ensures)))
+      λ board S W. let n : Sized s = (board, S, W) in
+      let e = parted p n in
+      rw (found-above (wanted s) (levels s) (l .before .before .before .if1 .left) (none-told (at-level l n) (b .if2 .left)) (some-told (at-next u n) (not-false _ (k .if3 .left))))
+      (told (sought e (d .kept .1 .1 .0) (here (wanted s)) (d .ensures (n .0) (asks e))))
 
 pub +do-allocate-spec : {M : Type 1} → statement M
 +do-allocate-spec =

@@ -1,11 +1,12 @@
 -- The search of one level is a pop of the one list asked for, or of the dirty one and then the zeroed one.
 use native.Mathlib.Omega.{arith}
 use borrow.Author.Needs.{needs}
+use Rattle.definition.specs.Board.{Board}
 use Rattle.definition.specs.Frame.{Levels, levelAllocate}
 use Rattle.definition.specs.World.{recordAt}
 use Rattle.words.specs.Words.{rowOf, rowsIn}
 use Rattle.words.proofs.Words.{in-use-then, row-beside-then}
-use Rattle.region.specs.Rep.{stateOf}
+use Rattle.region.specs.Rep.{SoundAt, stateOf}
 use Rattle.region.proofs.Laws.{rep-sound, level-page, level-none, level-zeroed, after-none}
 use Rattle.region.proofs.level_allocate.Statement.{statement}
 use Rattle.region.proofs.level_allocate.Tie as tie
@@ -31,7 +32,7 @@ same-length-2 c = search needs
 returns : tie.Need-returns
 unfolding levelAllocate
 returns c =
-    let e = c .before .before .before .before .pop .ensures in
+    λ board S. let e = c .before .before .before .before .pop .ensures board S in
     (rw (c .before .before .before .before .before .before .before .if1 .taken) (e .0), e .1)
 
 mul-pop-2 : tie.Need-mul-pop-2
@@ -51,7 +52,7 @@ returns-2 c =
     let d = c .before .before .before .before .before in
     let f = d .before .before .before in
     let s = f .before .before .before in
-    let e = d .pop2 .ensures in
+    λ board S. let e = d .pop2 .ensures board S in
     (rw (f .if1 .left) (level-page (levels s) (s .args .level) (e .0) (s .args .try-zero) (c .if2 .taken)), e .1)
 
 mul-pop-3 : tie.Need-mul-pop-3
@@ -60,18 +61,24 @@ mul-pop-3 c = search needs
 add-pop-2 : tie.Need-add-pop-2
 add-pop-2 c = search needs
 
+-- where the dirty list has none, all is as it was, and the next pop can be asked
+after
+    : (b : tie.Else2) → let d = b .before .before .before .before .before in
+    let s = d .before .before .before .before .before .before in
+    (board : Board) → SoundAt board (s .args .records .now) (s .args .first) (s .args .words .now) (s .args .index)
+    → SoundAt board (d .pop2 .last .0) (s .args .first) (d .pop2 .last .1 .1 .0) (s .args .index)
+after b board S =
+    let d = b .before .before .before .before .before in
+    let s = d .before .before .before .before .before .before in
+    let e = d .pop2 .ensures board S in
+    (in-use-then (d .pop2 .kept .1 .1 .0) (e .1 .rest) (S .0), rep-sound (after-none (levels s) (s .args .level) (e .0) (b .if2 .left) .rep))
+
 pop-requires-3 : tie.Need-pop-requires-3
 pop-requires-3 c κs =
     let b = c .before .before .before in
     let d = b .before .before .before .before .before in
     let s = d .before .before .before .before .before .before in
-    let e = d .pop2 .ensures in (
-      (
-        in-use-then (d .pop2 .kept .1 .1 .0) (e .1 .rest) (s .pre .0 .0),
-        rep-sound (after-none (levels s) (s .args .level) (e .0) (b .if2 .left) .rep),
-      ),
-      omega arith,
-    )
+    ((s .pre .0 .0, after b (s .pre .0 .0) (s .pre .0 .1)), omega arith)
 
 same-length-5 : tie.Need-same-length-5
 same-length-5 c = search needs
@@ -85,8 +92,8 @@ returns-3 c =
     let d = b .before .before .before .before .before in
     let f = d .before .before .before in
     let s = f .before .before .before in
-    let e = d .pop2 .ensures in
-    let h = c .before .before .before .before .pop3 .ensures in (
+    λ board S. let e = d .pop2 .ensures board S in
+    let h = c .before .before .before .before .pop3 .ensures board (after b board S) in (
       rw (f .if1 .left, c .before .before .before .before .before .before .before .if3 .taken) (level-zeroed (levels s) (s .args .level) (e .0) (b .if2 .left) (h .0)),
       row-beside-then (e .1) (h .1),
     )
@@ -103,7 +110,7 @@ returns-4 c =
     let d = b .before .before .before .before .before in
     let f = d .before .before .before in
     let s = f .before .before .before in
-    let e = d .pop2 .ensures in
+    λ board S. let e = d .pop2 .ensures board S in
     (rw (f .if1 .left, c .if3 .left) (level-none (levels s) (s .args .level) (e .0) (b .if2 .left)), e .1)
 
 pub level-allocate-spec : {M : Type 1} → statement M

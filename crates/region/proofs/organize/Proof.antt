@@ -5,7 +5,7 @@ use mathlib.Core.Path.{_≡_, refl}
 use native.Mathlib.Omega.{arith}
 use borrow.Author.Needs.{needs}
 use lib.ListN.{length}
-use Rattle.definition.specs.Board.{standard}
+use Rattle.definition.specs.Board.{Board}
 use Rattle.definition.specs.World.{recordAt}
 use Rattle.definition.specs.declared.Row.{Row}
 use Rattle.record.specs.Records.{pagesIn}
@@ -14,16 +14,16 @@ use Rattle.region.proofs.Laying.{best, Laid, laid-none, laid-asks, laid
 use Rattle.region.proofs.organize.Statement.{statement}
 use Rattle.region.proofs.organize.Tie as tie
 
-record Inv (records₀ : List ℕ) (first from count : ℕ) (r₀ : Row) (records : List ℕ) (r : Row) (at : ℕ) : Type 0 where
+record Inv (board : Board) (records₀ : List ℕ) (first from count : ℕ) (r₀ : Row) (records : List ℕ) (r : Row) (at : ℕ) : Type 0 where
   some : at ≤ count
   same : length records ≡ length records₀
-  laid : Laid standard (recordAt records₀) first r₀ from count (recordAt records) (pagesIn records) r at
+  laid : Laid board (recordAt records₀) first r₀ from count (recordAt records) (pagesIn records) r at
 
 abbrev Inv-loop : tie.InvT-loop
-Inv-loop records₀ first from count r₀ at₀ records r at = Inv records₀ first from count r₀ records r at
+Inv-loop board records₀ first from count r₀ at₀ records r at = Inv board records₀ first from count r₀ records r at
 
 abbrev μ-loop : tie.MeasureT-loop
-μ-loop records₀ first from count r₀ at₀ records r at = count - at
+μ-loop board records₀ first from count r₀ at₀ records r at = count - at
 
 loop-holds : tie.Need-loop-holds Inv-loop μ-loop
 loop-holds c = let s = c .before in record { some = omega arith; same = refl; laid = laid-none _ _ (s .pre .0) (s .pre .1 .0 .0) (s .pre .1 .1) }
@@ -76,7 +76,7 @@ loop-again c =
     rw (c .pages-at .ensures)
     (record {
       some = omega (arith, B .fits, c .before .before .before .before .before .before .loop-test .taken);
-      same = omega (arith, d .kept .0, k .inv .same);
+      same = omega (arith, d .kept .1 .0, k .inv .same);
       laid = laid-step (k .inv .laid) (c .before .before .before .before .before .before .loop-test .taken) (b .result) B (d .ensures);
     })
 

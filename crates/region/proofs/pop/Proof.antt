@@ -16,7 +16,7 @@ list-at-requires c κs = search needs
 pop-back-requires : tie.Need-pop-back-requires
 pop-back-requires c κs =
     let s = c .before .before .before .before .before in
-    rw (c .before .list-at .ensures) (linked-sound (s .pre .0 .1 .lists _ (s .pre .1)))
+    rw (c .before .list-at .ensures) (linked-sound (s .pre .0 .1 .1 .lists _ (s .pre .1)))
 
 enum-told : tie.Need-enum-told
 enum-told c = search needs
@@ -42,7 +42,7 @@ returns c =
     let s = l .before .before .before .before in
     let d = c .before .before .before .before .before .pop-back in
     let e = rw (c .before .enum-told .given .1, l .list-at .ensures) at (d .ensures) in
-    (rw (e .1, d .kept .0) (pop-nothing (s .pre .0 .1) (s .pre .1) (c .nothing .ensures) (e .0)), row-beside-same)
+    λ board S. (rw (e .1, d .kept .0) (pop-nothing (S .1) (s .pre .1) (c .nothing .ensures) (e .0)), row-beside-same)
 
 same-length-3 : tie.Need-same-length-3
 same-length-3 c = search needs
@@ -60,7 +60,7 @@ returns-2 c =
     let a = s .args in
     let t : Taken (recordAt (a .records .now)) (listIn (rowOf (rowsIn (a .words .now)) (a .index)) (a .k)) (v .0 .0) (recordAt (d .pop-back .last .0)) (pagesIn (a .records .now)) (v .0 .1 .0) =
     rw (d .pop-back .kept .0, l .list-at .ensures) at (rw (v .1) at (d .pop-back .ensures)) in
-    (rw (w .ensures .0, d .pop-back .kept .0) (pop-page (s .pre .0 .1) (s .pre .1) t), w .ensures .1)
+    λ board S. (rw (w .ensures .0, d .pop-back .kept .0) (pop-page (S .1) (s .pre .1) t), w .ensures .1)
 
 pub pop-spec : {M : Type 1} → statement M
 pop-spec =

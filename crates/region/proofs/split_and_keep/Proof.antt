@@ -1,8 +1,8 @@
 -- The loop has stored the children 1 to i; the store after it is child 0's.
 use borrow.Author.Needs.{needs}
-use Prim.Native.Nat.{ℕ, _+_, _-_, _≤_}
+use Prim.Native.Nat.{ℕ, _+_, _-_, _≤_, _<_}
 use mathlib.Core.List.{List}
-use mathlib.Core.Path.{_≡_, refl, ap}
+use mathlib.Core.Path.{_≡_, refl, ap, _∙_}
 use native.Mathlib.Numerals.{add-one}
 use native.Mathlib.Omega.{arith}
 use lib.ListN.{length}
@@ -23,10 +23,10 @@ record Inv (records₀ : List ℕ) (page step : ℕ) (child : Record) (records :
   stored : recordAt records ≡ many i (recordAt records₀) page step child
 
 abbrev Inv-loop : tie.InvT-loop
-Inv-loop records₀ first page old level step child i₀ records i = Inv records₀ page step child records i
+Inv-loop records₀ first page old level step word child i₀ records i = Inv records₀ page step child records i
 
 abbrev μ-loop : tie.MeasureT-loop
-μ-loop records₀ first page old level step child i₀ records i = 511 - i
+μ-loop records₀ first page old level step word child i₀ records i = 511 - i
 
 load-requires : tie.Need-load-requires Inv-loop μ-loop
 load-requires c κs = let s = c .before .before in held-page (s .pre .0) (s .pre .1 .1)
@@ -34,10 +34,13 @@ load-requires c κs = let s = c .before .before in held-page (s .pre .0) (s .pre
 same-length : tie.Need-same-length Inv-loop μ-loop
 same-length c = search needs
 
+level-of-requires : tie.Need-level-of-requires Inv-loop μ-loop
+level-of-requires c κs = search needs
+
 returns : tie.Need-returns Inv-loop μ-loop
 returns c =
-    let s = c .before .before .before .before in
-    let o = ap (λ (r : Record). r .level) (c .before .load .ensures) in
+    let s = c .before .before .before .before .before in
+    let o = c .before .level-of .ensures ∙ ap (λ (r : Record). r .level) (c .before .before .load .ensures) in
     let F = held-frame (s .pre .1 .1) in
     let e = keep-same (s .pre .0) (s .pre .1 .0) (s .pre .1 .1) (F .0) (F .1) (F .2) (omega (arith, o, c .if1 .taken)) in
     (rw e (stays (s .pre .0)), s .pre .1 .0)
@@ -45,19 +48,22 @@ returns c =
 sub-level : tie.Need-sub-level Inv-loop μ-loop
 sub-level c = search needs
 
-cast-pages-at : tie.Need-cast-pages-at Inv-loop μ-loop
-cast-pages-at c = search needs
-
-pages-at-requires : tie.Need-pages-at-requires Inv-loop μ-loop
-pages-at-requires c κs =
-    let s = c .before .before .before .before in
-    let ld = c .before .load in
-    let o = ap (λ (r : Record). r .level) (ld .ensures) in
+-- the level is one below that of the frame, which has so many pages more
+small : (c : tie.Else1 Inv-loop μ-loop) → c .before .level-of .result - 1 < 2
+small c =
+    let s = c .before .before .before .before .before in
+    let o = c .before .level-of .ensures ∙ ap (λ (r : Record). r .level) (c .before .before .load .ensures) in
     let F = held-frame (s .pre .1 .1) in
     let l = recordAt (s .args .records .now) (s .args .page) .level - 1 in
     let e : recordAt (s .args .records .now) (s .args .page) .level ≡ l + 1 = omega (arith, o, c .if1 .left) in
     let S = keep-splits (s .pre .0) (s .pre .1 .0) (s .pre .1 .1) (F .0) (F .1) (F .2) l e in
     omega (arith, S .small, o)
+
+pages-at-requires : tie.Need-pages-at-requires Inv-loop μ-loop
+pages-at-requires c κs = omega (arith, small c)
+
+level-word-requires : tie.Need-level-word-requires Inv-loop μ-loop
+level-word-requires c κs = omega (arith, small (c .before))
 
 loop-holds : tie.Need-loop-holds Inv-loop μ-loop
 unfolding many
@@ -68,39 +74,42 @@ add-store c = omega arith
 
 mul-store : tie.Need-mul-store Inv-loop μ-loop
 mul-store c =
-    let s = c .before .before .before .before .before .before .before .before in
-    let ld = c .before .before .before .before .before .load in
-    let o = ap (λ (r : Record). r .level) (ld .ensures) in
+    let s = c .before .before .before .before .before .before .before .before .before .before in
+    let ld = c .before .before .before .before .before .before .before .load in
+    let lo = c .before .before .before .before .before .before .level-of in
+    let o = lo .ensures ∙ ap (λ (r : Record). r .level) (ld .ensures) in
     let F = held-frame (s .pre .1 .1) in
     let l = recordAt (s .args .records .now) (s .args .page) .level - 1 in
-    let e : recordAt (s .args .records .now) (s .args .page) .level ≡ l + 1 = omega (arith, o, c .before .before .before .before .if1 .left) in
+    let e : recordAt (s .args .records .now) (s .args .page) .level ≡ l + 1 = omega (arith, o, c .before .before .before .before .before .if1 .left) in
     let S = keep-splits (s .pre .0) (s .pre .1 .0) (s .pre .1 .1) (F .0) (F .1) (F .2) l e in
     let k = c .before .before .loop in
-    rw (c .before .before .before .pages-at .ensures, ld .ensures) (omega (arith, child-ends (k .i + 1) (size l) (omega arith), S .high, s .pre .0 .fits, s .pre .0 .small, k .inv .same))
+    rw (c .before .before .before .before .pages-at .ensures, lo .ensures, ld .ensures) (omega (arith, child-ends (k .i + 1) (size l) (omega arith), S .high, s .pre .0 .fits, s .pre .0 .small, k .inv .same))
 
 add-store-2 : tie.Need-add-store-2 Inv-loop μ-loop
 add-store-2 c =
-    let s = c .before .before .before .before .before .before .before .before in
-    let ld = c .before .before .before .before .before .load in
-    let o = ap (λ (r : Record). r .level) (ld .ensures) in
+    let s = c .before .before .before .before .before .before .before .before .before .before in
+    let ld = c .before .before .before .before .before .before .before .load in
+    let lo = c .before .before .before .before .before .before .level-of in
+    let o = lo .ensures ∙ ap (λ (r : Record). r .level) (ld .ensures) in
     let F = held-frame (s .pre .1 .1) in
     let l = recordAt (s .args .records .now) (s .args .page) .level - 1 in
-    let e : recordAt (s .args .records .now) (s .args .page) .level ≡ l + 1 = omega (arith, o, c .before .before .before .before .if1 .left) in
+    let e : recordAt (s .args .records .now) (s .args .page) .level ≡ l + 1 = omega (arith, o, c .before .before .before .before .before .if1 .left) in
     let S = keep-splits (s .pre .0) (s .pre .1 .0) (s .pre .1 .1) (F .0) (F .1) (F .2) l e in
     let k = c .before .before .loop in
-    rw (c .before .before .before .pages-at .ensures, ld .ensures) (omega (arith, child-ends (k .i + 1) (size l) (omega arith), S .high, s .pre .0 .fits, s .pre .0 .small, k .inv .same))
+    rw (c .before .before .before .before .pages-at .ensures, lo .ensures, ld .ensures) (omega (arith, child-ends (k .i + 1) (size l) (omega arith), S .high, s .pre .0 .fits, s .pre .0 .small, k .inv .same))
 
 store-requires : tie.Need-store-requires Inv-loop μ-loop
 store-requires c κs =
-    let s = c .before .before .before .before .before .before .before .before in
-    let ld = c .before .before .before .before .before .load in
-    let o = ap (λ (r : Record). r .level) (ld .ensures) in
+    let s = c .before .before .before .before .before .before .before .before .before .before in
+    let ld = c .before .before .before .before .before .before .before .load in
+    let lo = c .before .before .before .before .before .before .level-of in
+    let o = lo .ensures ∙ ap (λ (r : Record). r .level) (ld .ensures) in
     let F = held-frame (s .pre .1 .1) in
     let l = recordAt (s .args .records .now) (s .args .page) .level - 1 in
-    let e : recordAt (s .args .records .now) (s .args .page) .level ≡ l + 1 = omega (arith, o, c .before .before .before .before .if1 .left) in
+    let e : recordAt (s .args .records .now) (s .args .page) .level ≡ l + 1 = omega (arith, o, c .before .before .before .before .before .if1 .left) in
     let S = keep-splits (s .pre .0) (s .pre .1 .0) (s .pre .1 .1) (F .0) (F .1) (F .2) l e in
     let k = c .before .before .loop in
-    rw (c .before .before .before .pages-at .ensures, ld .ensures) (omega (arith, child-ends (k .i + 1) (size l) (omega arith), S .high, s .pre .0 .fits, s .pre .0 .small, k .inv .same))
+    rw (c .before .before .before .before .pages-at .ensures, lo .ensures, ld .ensures) (omega (arith, child-ends (k .i + 1) (size l) (omega arith), S .high, s .pre .0 .fits, s .pre .0 .small, k .inv .same))
 
 add-i : tie.Need-add-i Inv-loop μ-loop
 add-i c = omega arith
@@ -120,25 +129,26 @@ loop-again c =
     }
 
 store-requires-2 : tie.Need-store-requires-2 Inv-loop μ-loop
-store-requires-2 c κs = let s = c .before .before .before .before .before .before .before .before in let k = c .before .before .loop in omega (arith, held-page (s .pre .0) (s .pre .1 .1), k .inv .same)
+store-requires-2 c κs = let s = c .before .before .before .before .before .before .before .before .before .before in let k = c .before .before .loop in omega (arith, held-page (s .pre .0) (s .pre .1 .1), k .inv .same)
 
 same-length-2 : tie.Need-same-length-2 Inv-loop μ-loop
 same-length-2 c = omega (arith, c .before .before .store2 .kept .0, c .before .before .before .before .before .loop .inv .same)
 
 returns-2 : tie.Need-returns-2 Inv-loop μ-loop
 returns-2 c =
-    let s = c .before .before .before .before .before .before .before .before .before .before .before in
-    let ld = c .before .before .before .before .before .before .before .before .load in
-    let o = ap (λ (r : Record). r .level) (ld .ensures) in
+    let s = c .before .before .before .before .before .before .before .before .before .before .before .before .before in
+    let ld = c .before .before .before .before .before .before .before .before .before .before .load in
+    let lo = c .before .before .before .before .before .before .before .before .before .level-of in
+    let o = lo .ensures ∙ ap (λ (r : Record). r .level) (ld .ensures) in
     let F = held-frame (s .pre .1 .1) in
     let l = recordAt (s .args .records .now) (s .args .page) .level - 1 in
-    let e : recordAt (s .args .records .now) (s .args .page) .level ≡ l + 1 = omega (arith, o, c .before .before .before .before .before .before .before .if1 .left) in
+    let e : recordAt (s .args .records .now) (s .args .page) .level ≡ l + 1 = omega (arith, o, c .before .before .before .before .before .before .before .before .if1 .left) in
     let S = keep-splits (s .pre .0) (s .pre .1 .0) (s .pre .1 .1) (F .0) (F .1) (F .2) l e in
     let k = c .before .before .before .before .before .loop in
     let d = c .before .before .store2 in
     let h : k .i ≡ 511 = omega arith in
     let b = keep-last (s .pre .0) (s .pre .1 .0) (s .pre .1 .1) (F .0) (F .1) (F .2) l e in
-    rw (d .ensures .1, d .kept .0, k .inv .same, k .inv .stored, h, c .before .before .before .before .before .before .pages-at .ensures, ld .ensures)
+    rw (d .ensures .1, d .kept .0, k .inv .same, k .inv .stored, h, c .before .before .before .before .before .before .level-word .ensures, c .before .before .before .before .before .before .before .pages-at .ensures, lo .ensures, ld .ensures)
     (b, row-whole b (keep-whole (s .pre .0) (s .pre .1 .0) (s .pre .1 .1) (F .0) (F .1) (F .2) l e))
 
 pub split-and-keep-spec : {M : Type 1} → statement M
@@ -148,11 +158,12 @@ split-and-keep-spec =
     Inv-loop
     μ-loop
     load-requires
+    level-of-requires
     same-length
     returns
     sub-level
-    cast-pages-at
     pages-at-requires
+    level-word-requires
     loop-holds
     add-store
     mul-store

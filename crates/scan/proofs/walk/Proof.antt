@@ -46,7 +46,7 @@ front c =
     let a = e .before .before .args in
     let s = c .before .before .loop in
     c .is-node .ensures
-    ∙ kind-node (recordAt (a .records .now)) (a .base) (a .past) (a .k) (e .before .before .pre .1) (e .list-kind .result) (s .prev) (s .at) (e .list-kind .ensures)
+    ∙ kind-node (recordAt (a .records .now)) (a .base) (a .past) (a .k) (e .before .before .pre .1) (e .list-kind .result) (s .prev) (s .at) (e .list-kind .ensures .0)
 
 -- a node off each end
 step : (c : tie.In-loop Inv-loop μ-loop)
@@ -77,7 +77,7 @@ back c =
     let a = e .before .before .args in
     let s = c .before .before .before .before .loop in
     c .is-back-node .ensures
-    ∙ kind-back (recordAt (a .records .now)) (a .base) (a .past) (a .k) (e .before .before .pre .1) (e .list-kind .result) (s .last) (s .next) (e .list-kind .ensures)
+    ∙ kind-back (recordAt (a .records .now)) (a .base) (a .past) (a .k) (e .before .before .pre .1) (e .list-kind .result) (s .last) (s .next) (e .list-kind .ensures .0)
 
 returns-2 : tie.Need-returns-2 Inv-loop μ-loop
 returns-2 c =
@@ -170,7 +170,7 @@ single c =
     let a = e .before .before .args in
     let s = c .before .before .before .loop in
     c .is-node2 .ensures
-    ∙ kind-node (recordAt (a .records .now)) (a .base) (a .past) (a .k) (e .before .before .pre .1) (e .list-kind .result) (s .prev) (s .at) (e .list-kind .ensures)
+    ∙ kind-node (recordAt (a .records .now)) (a .base) (a .past) (a .k) (e .before .before .pre .1) (e .list-kind .result) (s .prev) (s .at) (e .list-kind .ensures .0)
 
 returns-3 : tie.Need-returns-3 Inv-loop μ-loop
 returns-3 c = let d = c .before in sym (one (d .before) ∙ rw (← single d, not-true (d .is-node2 .result) (c .if4 .taken)))

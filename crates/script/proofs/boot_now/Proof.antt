@@ -1,9 +1,11 @@
 -- A bad line after a boot; before it, what `boot` leaves and answers.
 use mathlib.Core.Bool.{true}
-use native.Mathlib.Omega.{arith}
 use borrow.Author.Needs.{needs}
 use Rattle.definition.specs.Script.{BootNow}
 use Rattle.definition.specs.Text.{bytesOf}
+use native.Mathlib.Omega.{arith}
+use Rattle.definition.proofs.Boards.{standard-fit}
+use Rattle.script.specs.Running.{programBoard}
 use Rattle.script.proofs.Turning.{does, turned-boot}
 use Rattle.script.proofs.boot_now.Tie as tie
 use Rattle.script.proofs.boot_now.Statement.{statement}
@@ -17,10 +19,13 @@ same-length c = search needs
 returns : tie.Need-returns
 returns c =
     let B = c .before .before .bad in
-    (does BootNow (bytesOf "boot") true (c .before .before .before .before .if1 .taken) (B .ensures .0 _ _), (omega arith, omega arith))
+    (does programBoard BootNow (bytesOf "boot") true (c .before .before .before .before .if1 .taken) (B .ensures .0 _ _), (omega arith, omega arith))
+
+standard-requires : tie.Need-standard-requires
+standard-requires c κs = search needs
 
 boot-requires : tie.Need-boot-requires
-boot-requires c κs = search needs
+boot-requires c κs = (rw (c .before .before .standard .ensures) standard-fit, omega arith)
 
 put-line-requires : tie.Need-put-line-requires
 put-line-requires c κs = search needs
@@ -38,7 +43,7 @@ returns-2 : tie.Need-returns-2
 returns-2 c =
     let p = c .before .before .before .before in
     let o = p .before .before .before .before .before .before .before in
-    (turned-boot (bytesOf "boot") (o .before .before .before .before .if1 .left) (o .boot .ensures .0) (p .put-line .ensures .0), (omega arith, omega arith))
+    (turned-boot programBoard (bytesOf "boot") (o .before .before .before .before .before .if1 .left) (rw (o .before .before .before .standard .ensures) at (o .boot .ensures .0)) (p .put-line .ensures .0), (omega arith, omega arith))
 
 pub boot-now-spec : {M : Type 1} → statement M
 boot-now-spec =
@@ -47,6 +52,7 @@ boot-now-spec =
     bad-requires
     same-length
     returns
+    standard-requires
     boot-requires
     put-line-requires
     same-length-2

@@ -7,6 +7,8 @@ use borrow.Author.Needs.{needs}
 use lib.ListN.{getD}
 use Rattle.definition.specs.Script.{Ask}
 use Rattle.lines.specs.Reading.{askName, callOf}
+use Rattle.words.proofs.Words.{board-is}
+use Rattle.script.specs.Running.{programBoard}
 use Rattle.script.proofs.Turning.{does, turned-call}
 use Rattle.script.proofs.call_now.Tie as tie
 use Rattle.script.proofs.call_now.Statement.{statement}
@@ -23,7 +25,7 @@ returns c =
     let t = d .before .before in
     let a = t .before .before .before .before .before .before .before .args in
     let x = Ask (callOf (a .op) (λ i. getD (a .n) i 0)) in
-    (does x (askName (a .op)) false (not-true _ (t .if1 .taken)) (d .bad .ensures .0 _ _), d .bad .ensures .1)
+    (does programBoard x (askName (a .op)) false (not-true _ (t .if1 .taken)) (d .bad .ensures .0 _ _), d .bad .ensures .1)
 
 ask-requires : tie.Need-ask-requires
 ask-requires c κs = search needs
@@ -53,7 +55,7 @@ returns-2 c =
     let t = o .before .before .before .before .before in
     let a = t .before .before .before .before .before .before .before .args in
     let n : ℕ → ℕ = λ i. getD (a .n) i 0 in
-    (turned-call (askName (a .op)) (a .op) n (not-false _ (t .if1 .left)) (o .ask .ensures .0) (p .put-line .ensures .0), (omega arith, omega arith))
+    (turned-call programBoard (askName (a .op)) (a .op) n (not-false _ (t .if1 .left)) (rw (board-is (a .words .now)) at (o .ask .ensures .0)) (p .put-line .ensures .0), (omega arith, omega arith))
 
 pub call-now-spec : {M : Type 1} → statement M
 call-now-spec =

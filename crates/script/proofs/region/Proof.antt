@@ -4,6 +4,7 @@ use native.Mathlib.Omega.{arith}
 use borrow.Author.Needs.{needs}
 use Rattle.definition.specs.Script.{AddRegion}
 use Rattle.definition.specs.Text.{bytesOf}
+use Rattle.script.specs.Running.{programBoard}
 use Rattle.script.proofs.Turning.{does, turned-region}
 use Rattle.script.proofs.region.Tie as tie
 use Rattle.script.proofs.region.Statement.{statement}
@@ -17,7 +18,7 @@ same-length c = search needs
 returns : tie.Need-returns
 returns c =
     let B = c .before .before .bad in
-    (λ ws l. does (AddRegion _) (bytesOf "region") true (c .before .before .before .before .if1 .taken) (B .ensures .0 ws l), B .ensures .1)
+    (λ ws l. does programBoard (AddRegion _) (bytesOf "region") true (c .before .before .before .before .if1 .taken) (B .ensures .0 ws l), B .ensures .1)
 
 array-read-t17 : tie.Need-array-read-t17
 array-read-t17 c = search needs
@@ -43,7 +44,7 @@ add-t19 c = search needs
 returns-2 : tie.Need-returns-2
 returns-2 c =
     let E = rw (c .before .before .before .kind-of .ensures, c .before .before .before .before .size-of .ensures) at (c .before .entered .ensures) in
-    (λ ws l. turned-region _ _ (bytesOf "region") (c .before .before .before .before .before .if1 .left) E, (omega arith, omega arith))
+    (λ ws l. turned-region programBoard _ _ (bytesOf "region") (c .before .before .before .before .before .if1 .left) E, (omega arith, omega arith))
 
 pub region-spec : {M : Type 1} → statement M
 region-spec =

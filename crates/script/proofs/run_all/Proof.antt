@@ -4,14 +4,16 @@ use mathlib.Core.Path.{ap, sym, _∙_}
 use native.Mathlib.Omega.{arith}
 use borrow.Author.Needs.{needs}
 use lib.ListN.{length}
+use Rattle.definition.proofs.Boards.{standard-fit}
 use Rattle.definition.specs.Text.{bytesOf}
+use Rattle.script.specs.Running.{programBoard}
 use Rattle.script.proofs.Going.{Going, going, going-on, gone, one-less}
 use Rattle.script.proofs.run_all.Tie as tie
 use Rattle.script.proofs.run_all.Statement.{statement}
 
 abbrev Inv-loop : tie.InvT-loop
 Inv-loop script words₀ records₀ memory₀ queue₀ answer₀ w₀ running₀ at₀ words records memory queue answer w running at =
-    Going script (record { records = records₀; memory = memory₀; queue = queue₀ }) answer₀ w₀ words
+    Going programBoard script (record { records = records₀; memory = memory₀; queue = queue₀ }) answer₀ w₀ words
     (record { records = records; memory = memory; queue = queue }) answer w running at
 
 abbrev μ-loop : tie.MeasureT-loop
@@ -83,7 +85,7 @@ returns : tie.Need-returns Inv-loop μ-loop
 unfolding bytesOf
 returns c =
     let p = c .before .before .before .before .before in
-    gone (p .put-text .ensures) (p .before .before .before .before .before .before .before .before .before .pre .1) (c .loop-test .left) (c .before .loop .inv)
+    gone standard-fit (p .put-text .ensures) (p .before .before .before .before .before .before .before .before .before .pre .1) (c .loop-test .left) (c .before .loop .inv)
 
 pub run-all-spec : {M : Type 1} → statement M
 run-all-spec =

@@ -1,5 +1,5 @@
 -- A bad line before a boot; after it, the line of a refusal or the report's text, which its array holds.
-use Prim.Native.Nat.{_≤_}
+use Prim.Native.Nat.{ℕ, _≤_}
 use mathlib.Core.List.{List}
 use mathlib.Core.Path.{_≡_, sym, _∙_}
 use mathlib.Core.Bool.{false}
@@ -15,6 +15,8 @@ use Rattle.counts.proofs.Report as P
 use Rattle.definition.specs.Calls.{Stats}
 use Rattle.definition.specs.Script.{Ask}
 use Rattle.definition.specs.Text.{bytesOf}
+use Rattle.words.proofs.Words.{board-is}
+use Rattle.script.specs.Running.{programBoard}
 use Rattle.script.proofs.Turning.{does, turned-refused, turned-stats}
 use Rattle.script.proofs.Answers.{stats-tells}
 use Rattle.script.proofs.stats_now.Tie as tie
@@ -30,10 +32,14 @@ pub record Short (r : Report) : Type 0 where
   pub part : length (take (r .len) (r .text)) ≡ r .len
   pub most : r .len ≤ 368
 
+-- the words, whose board is the standard one
+abbrev lent : tie.After-stats → List ℕ
+lent c = c .before .before .before .before .before .before .before .before .args .words .now
+
 short : (c : tie.After-stats) → Short (c .stats .result)
 short c =
     let r = c .stats .result in
-    let h = stats-tells (bytesOf "stats") _ r (c .stats .ensures) .short in
+    let h = stats-tells programBoard (bytesOf "stats") _ r (rw (board-is (lent c)) at (c .stats .ensures)) .short in
     let k : length (r .text) ≡ 368 = report-long r _ (c .stats .ok) in
     record { inside = h; part = length-take-le (r .len) (r .text) h; most = omega arith }
 
@@ -46,7 +52,7 @@ same-length c = search needs
 returns : tie.Need-returns
 returns c =
     let B = c .before .before .bad in
-    (does (Ask Stats) (bytesOf "stats") false (not-true _ (c .before .before .before .before .if1 .taken)) (B .ensures .0 _ _), B .ensures .1)
+    (does programBoard (Ask Stats) (bytesOf "stats") false (not-true _ (c .before .before .before .before .if1 .taken)) (B .ensures .0 _ _), B .ensures .1)
 
 stats-requires : tie.Need-stats-requires
 stats-requires c κs = search needs
@@ -66,7 +72,7 @@ returns-2 c =
     let q = p .before .before .before .before .before in
     let t = p .before .before .before in
     let w = rw (p .before .refused .ensures) at (p .put-line .ensures .0) in
-    (turned-refused (bytesOf "stats") (not-false _ (q .before .if1 .left)) (q .stats .ensures) (t .if2 .taken) w, (omega arith, omega arith))
+    (turned-refused programBoard (bytesOf "stats") (not-false _ (q .before .if1 .left)) (rw (board-is (lent q)) at (q .stats .ensures)) (t .if2 .taken) w, (omega arith, omega arith))
 
 array-share-prefix-text : tie.Need-array-share-prefix-text
 array-share-prefix-text c = short (c .before .before .before .before) .inside
@@ -86,7 +92,7 @@ returns-3 c =
     let t = c .before .before .before .before .before .before in
     let q = t .before .before in
     let h = short q in (
-      turned-stats (bytesOf "stats") (not-false _ (q .before .if1 .left)) (q .stats .ensures) (t .if2 .left) p,
+      turned-stats programBoard (bytesOf "stats") (not-false _ (q .before .if1 .left)) (rw (board-is (lent q)) at (q .stats .ensures)) (t .if2 .left) p,
       (omega (arith, p .after, h .part, h .most), omega arith),
     )
 

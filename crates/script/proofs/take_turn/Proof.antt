@@ -1,6 +1,7 @@
 -- The line was read as one of five, and each turned out as it must.
 use borrow.Author.Needs.{needs}
 use Rattle.lines.specs.declared.Op.the-variants as Op
+use Rattle.script.specs.Running.{programBoard}
 use Rattle.script.proofs.Turning.{turns}
 use Rattle.script.proofs.take_turn.Tie as tie
 use Rattle.script.proofs.take_turn.Statement.{statement}
@@ -47,7 +48,7 @@ returns c =
     let t = d .before .before in
     let q = t .before .before .before in
     let line = q .before .before .before .before .before .before .before .args .line .now in
-    (turns line (q .read-line .result) (q .read-line .ensures) Op.Bad (t .enum-told .given .1) (d .bad .ensures .0 _ _), d .bad .ensures .1)
+    (turns programBoard line (q .read-line .result) (q .read-line .ensures) Op.Bad (t .enum-told .given .1) (d .bad .ensures .0 _ _), d .bad .ensures .1)
 
 same-length-2 : tie.Need-same-length-2
 same-length-2 c = search needs
@@ -58,7 +59,7 @@ returns-2 c =
     let t = d .before .before in
     let q = t .before .before .before in
     let line = q .before .before .before .before .before .before .before .args .line .now in
-    (turns line (q .read-line .result) (q .read-line .ensures) Op.Region (t .enum-told2 .given .1) (d .region .ensures .0 _ _), d .region .ensures .1)
+    (turns programBoard line (q .read-line .result) (q .read-line .ensures) Op.Region (t .enum-told2 .given .1) (d .region .ensures .0 _ _), d .region .ensures .1)
 
 same-length-3 : tie.Need-same-length-3
 same-length-3 c = search needs
@@ -81,7 +82,7 @@ returns-3 c =
     let t = d .before .before .before .before .before .before in
     let q = t .before .before .before in
     let line = q .before .before .before .before .before .before .before .args .line .now in
-    (turns line (q .read-line .result) (q .read-line .ensures) Op.Boot (t .enum-told3 .given .1) (d .boot-now .ensures .0), d .boot-now .ensures .1)
+    (turns programBoard line (q .read-line .result) (q .read-line .ensures) Op.Boot (t .enum-told3 .given .1) (d .boot-now .ensures .0), d .boot-now .ensures .1)
 
 same-length-8 : tie.Need-same-length-8
 same-length-8 c = search needs
@@ -104,7 +105,7 @@ returns-4 c =
     let t = d .before .before .before .before .before .before in
     let q = t .before .before .before in
     let line = q .before .before .before .before .before .before .before .args .line .now in
-    (turns line (q .read-line .result) (q .read-line .ensures) Op.Stats (t .enum-told4 .given .1) (d .stats-now .ensures .0), d .stats-now .ensures .1)
+    (turns programBoard line (q .read-line .result) (q .read-line .ensures) Op.Stats (t .enum-told4 .given .1) (d .stats-now .ensures .0), d .stats-now .ensures .1)
 
 same-length-13 : tie.Need-same-length-13
 same-length-13 c = search needs
@@ -128,7 +129,7 @@ returns-5 c =
     let q = t .before .before .before in
     let line = q .before .before .before .before .before .before .before .args .line .now in
     let g = t .op .given in
-    (turns line (q .read-line .result) (q .read-line .ensures) (Op.Call (g .0 .0)) (g .1) (d .call-now .ensures .0), d .call-now .ensures .1)
+    (turns programBoard line (q .read-line .result) (q .read-line .ensures) (Op.Call (g .0 .0)) (g .1) (d .call-now .ensures .0), d .call-now .ensures .1)
 
 pub take-turn-spec : {M : Type 1} → statement M
 take-turn-spec =

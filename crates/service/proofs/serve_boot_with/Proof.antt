@@ -3,6 +3,7 @@ use mathlib.Core.Bool.{true}
 use mathlib.Core.Path.{_≡_, sym, _∙_}
 use borrow.Author.Needs.{needs}
 use borrow.Author.Tests.{not-true, not-false}
+use Rattle.definition.proofs.Boards.{standard-fit}
 use Rattle.service.specs.Serving.{Lent, isRoomyKept}
 use Rattle.service.proofs.Serving.{boots, boots-with-short, roomy-room, roomy-words}
 use Rattle.service.proofs.serve_boot_with.Statement.{statement}
@@ -45,13 +46,17 @@ returns c =
     boots-with-short ms (loans s) (s .args .counters) (sym (h .before .is-roomy .ensures) ∙ not-true (h .before .is-roomy .result) (h .if1 .taken))
     (c .short-boot .ensures ms e f)
 
+standard-requires : tie.Need-standard-requires
+standard-requires c κs = search needs
+
 boot-requires : tie.Need-boot-requires
 boot-requires c κs =
-    let e = c .before .before in roomy-words (loans (start (e .before))) (roomy e)
+    let e = c .before .before .before in
+    (rw (c .before .before .standard .ensures) standard-fit, roomy-words (loans (start (e .before))) (roomy e))
 
 tell-requires : tie.Need-tell-requires
 tell-requires c κs =
-    let e = c .before .before .before .before .before .before .before .before .before in roomy-room (loans (start (e .before))) (roomy e)
+    let e = c .before .before .before .before .before .before .before .before .before .before in roomy-room (loans (start (e .before))) (roomy e)
 
 same-length-3 : tie.Need-same-length-3
 same-length-3 c = search needs
@@ -67,9 +72,10 @@ returns-2 c =
     λ ms e f.
     let t = c .before .before in
     let k = t .before .before .before .before .before .before .before in
-    let h = k .before .before .before in
+    let h = k .before .before .before .before in
+    let b = rw (k .before .before .before .standard .ensures) at (k .boot .ensures .0 ms e f) in
     let s = start (h .before) in
-    boots ms (loans s) (s .args .counters) (roomy h) (k .boot .ensures .0 ms e f) (k .boot .ensures .1) (t .tell .ensures .1) (t .tell .ensures .0)
+    boots ms (loans s) (s .args .counters) (roomy h) b (k .boot .ensures .1) (t .tell .ensures .1) (t .tell .ensures .0)
 
 pub serve-boot-with-spec : {M : Type 1} → statement M
 serve-boot-with-spec =
@@ -80,6 +86,7 @@ serve-boot-with-spec =
     same-length
     same-length-2
     returns
+    standard-requires
     boot-requires
     tell-requires
     same-length-3

@@ -1,25 +1,22 @@
--- `size` meets its contract: each arm's constant is the level's bytes.
+-- `size` meets its contract: the bytes of as many pages as `pages` gives.
+use Prim.Native.Nat.{ℕ, _*_}
+use mathlib.Core.Path.{ap, _∙_}
 use borrow.Author.Needs.{needs}
+use Rattle.level.proofs.Ranks.{rank-below}
+use Rattle.level.proofs.Sizes.{size-most}
 use Rattle.level.proofs.Level.size.Statement.{statement}
 use Rattle.level.proofs.Level.size.Tie as tie
 
-enum-told : tie.Need-enum-told
-enum-told c = search needs
+pages-requires : tie.Need-pages-requires
+pages-requires c κs = search needs
 
-enum-told-2 : tie.Need-enum-told-2
-enum-told-2 c = search needs
-
-enum-told-3 : tie.Need-enum-told-3
-enum-told-3 c = search needs
+bytes-requires : tie.Need-bytes-requires
+bytes-requires c κs = (c .before .pre, rw (c .pages .ensures) (size-most (rank-below (c .before .args .self))))
 
 returns : tie.Need-returns
-returns c = rw (c .enum-told .given .1)
-
-returns-2 : tie.Need-returns-2
-returns-2 c = rw (c .enum-told2 .given .1)
-
-returns-3 : tie.Need-returns-3
-returns-3 c = rw (c .enum-told3 .given .1)
+returns c =
+    let P = c .before .before .args .board .page in
+    c .bytes .ensures ∙ ap (λ (n : ℕ). P * n) (c .before .pages .ensures)
 
 pub size-spec : {M : Type 1} → statement M
-size-spec = tie.close (tie.spec enum-told enum-told-2 enum-told-3 returns returns-2 returns-3)
+size-spec = tie.close (tie.spec pages-requires bytes-requires returns)

@@ -1,9 +1,9 @@
--- `record::kind` meets its contract: the first two numbers of the record, each read by `get`, side by side.
+-- `record::kind_at` meets its contract: the first two numbers of the record, each read by `get`, side by side.
 use native.Mathlib.Omega.{arith}
 use borrow.Author.Needs.{needs}
 use Rattle.definition.specs.World.{recordAt}
-use Rattle.record.proofs.kind.Statement.{statement}
-use Rattle.record.proofs.kind.Tie as tie
+use Rattle.record.proofs.kind_at.Statement.{statement}
+use Rattle.record.proofs.kind_at.Tie as tie
 
 mul-w : tie.Need-mul-w
 mul-w c = search needs
@@ -33,8 +33,8 @@ returns : tie.Need-returns
 unfolding recordAt
 returns c = omega arith
 
-pub kind-spec : {M : Type 1} → statement M
-kind-spec =
+pub kind-at-spec : {M : Type 1} → statement M
+kind-at-spec =
     tie.close
     (tie.spec
     mul-w
