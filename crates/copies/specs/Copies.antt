@@ -1,10 +1,10 @@
--- What the calls that read and copy promise, beside `Leaves`: `Numbers` and `Lends` the two halves of a read, whose answer is a part of the lent memory; `Writes`
--- and `Moves` what the workers of a copy leave of the loans.
+-- What the parts of a read and of a copy promise: `FindsIn` where the bytes that are read stand in the lent memory, `WritesBy` and `MovesTo` what the workers of a
+-- copy leave of the loans, for every store that they hold.
 use Prim.Native.Nat.{ℕ, _+_, _*_, _≤_, _<_, _^_}
 use mathlib.Core.Bool.{true, not, cond}
 use mathlib.Core.List.{List, []}
 use mathlib.Core.Path.{_≡_}
-use lib.Dec.{ltb}
+use lib.Dec.{eqb, ltb}
 use lib.ListN.{length, take, drop}
 use Rattle.definition.specs.declared.Record.{Record}
 use Rattle.definition.specs.declared.Row.{Row}
@@ -14,13 +14,16 @@ use Rattle.definition.specs.Frame.{size}
 use Rattle.definition.specs.Allocator.{end}
 use Rattle.definition.specs.Store.{Store}
 use Rattle.definition.specs.Contents.{bytesAt, copyContentsFromPhysaddr}
-use Rattle.definition.specs.Calls.{Call, Answer, Refused, Done, Text, Bytes, answerNumber}
-use Rattle.definition.specs.World.{World, bareRegion, decode, encode}
-use Rattle.definition.specs.Torn.{Sound, call}
+use Rattle.definition.specs.Calls.{Answer, Refused, Done, Text, Bytes, Read, step}
+use Rattle.definition.specs.World.{World, bareRegion, encode, recordAt}
+use Rattle.words.specs.Words.{boardIn, rowsIn}
 use Rattle.world.specs.Stands.{rowAt}
 use Rattle.allocator.specs.declared.Seen.{Seen}
-use Rattle.allocator.specs.Spots.{numberAt}
-use Rattle.exam.specs.Promise.{State, stateWith, HeldSeen, worldOf}
+use Rattle.allocator.specs.declared.Spot.{Spot}
+use Rattle.allocator.specs.Spots.{numberIn}
+use Rattle.exam.specs.declared.Answer.{Answer as Answer3}
+use Rattle.exam.specs.Promise.{HeldSeen}
+use Rattle.exam.specs.Making.{Reads, RoomIn, Whole, world}
 use Rattle.copies.specs.declared.Place.{Place}
 
 -- ---- a read
@@ -32,53 +35,26 @@ bytesOf (Done a n) = []
 bytesOf (Text t) = []
 bytesOf (Bytes t) = t
 
+-- the answer of a read by its number
+abbrev pub readBy : (number len : ℕ) → Answer3
+readBy n len = cond (eqb n 0) (record { number = 0; address = 0; bytes = len }) (record { number = n; address = 0; bytes = 0 })
+
+-- where the bytes of a read stand in every memory that has room for the managed pages
+pub record FindsIn (ws rs : List ℕ) (a off len : ℕ) (r : Place) : Type 0 where
+  pub makes : Reads (Read a off len) ws rs (readBy (r .number) len)
+  pub inside : r .number ≡ 0 → (m : List ℕ) → RoomIn ws m → r .at + len ≤ length m
+  pub bytes
+      : r .number ≡ 0 → (k : Counters) (m q : List ℕ) (s : Store) → Whole (boardIn ws) (world k ws rs m q) s
+      → take len (drop (r .at) m) ≡ bytesOf (step (boardIn ws) s (Read a off len) .answer)
+
 -- ---- a copy
 
--- ---- a physical source
-
 module _ (board : Board) where
-  -- the call leaves the world, and n is its answer's number
-  pub record Numbers (w : World) (c : Call) (n : ℕ) : Type 0 where
-    pub world : call board w c .world ≡ w
-    pub number : n ≡ answerNumber (call board w c .answer)
-
-  -- the same, and where it is accepted its bytes are the n from a place of the memory on
-  pub record Finds (w : World) (c : Call) (n : ℕ) (r : Place) : Type 0 where
-    pub numbers : Numbers w c (r .number)
-    pub inside : r .number ≡ 0 → r .at + n ≤ length (w .memory)
-    pub bytes : r .number ≡ 0 → take n (drop (r .at) (w .memory)) ≡ bytesOf (call board w c .answer)
-
-  -- the call leaves the world, and bs are the bytes of its answer
-  pub record Lends (w : World) (c : Call) (bs : List ℕ) : Type 0 where
-    pub world : call board w c .world ≡ w
-    pub bytes : bs ≡ bytesOf (call board w c .answer)
-
   -- a range of a held frame that was seen, in a loan of so many bytes
   pub record Spans (f : ℕ → Record) (rows : List Row) (memory : ℕ) (r : Seen) (off len : ℕ) : Type 0 where
     pub held : HeldSeen board f rows r
     pub range : off + len ≤ board .page * size (r .level)
     pub ends : board .page * r .spot .page + (off + len) ≤ memory
-
-  -- the loans became those of what `op` makes of the store, whatever the queue
-  abbrev pub Writes : State → (records memory records2 memory2 : List ℕ) → (Store → Store) → Type 0
-  Writes s records memory records2 memory2 op =
-      (queue : List ℕ) → Sound board (worldOf s records memory queue)
-      → encode board (op (decode board (worldOf s records memory queue))) (worldOf s records memory queue) ≡ worldOf s records2 memory2 queue
-
-  -- so it is with the words that are lent, whatever the counters
-  abbrev pub WritesAny : List ℕ → (records memory records2 memory2 : List ℕ) → (Store → Store) → Type 0
-  WritesAny words records memory records2 memory2 op = (k : Counters) → Writes (stateWith k words) records memory records2 memory2 op
-
-  -- the same of a copy into the frame that was seen, from any address whose bytes are those of the loan from `from` on
-  abbrev pub Moves : State → (records memory records2 memory2 : List ℕ) → Seen → (off from len : ℕ) → Type 0
-  Moves s records memory records2 memory2 r off from len =
-      (queue : List ℕ) → Sound board (worldOf s records memory queue)
-      → (a : ℕ) → bytesAt (decode board (worldOf s records memory queue) .memory) a len ≡ take len (drop from memory)
-      → encode board (copyContentsFromPhysaddr board (decode board (worldOf s records memory queue)) (numberAt board (s .rows) (r .spot)) off a len) (worldOf s records memory queue)
-      ≡ worldOf s records2 memory2 queue
-
-  abbrev pub MovesAny : List ℕ → (records memory records2 memory2 : List ℕ) → Seen → (off from len : ℕ) → Type 0
-  MovesAny words records memory records2 memory2 r off from len = (k : Counters) → Moves (stateWith k words) records memory records2 memory2 r off from len
 
   -- the address behind the last managed page of the region where a page was seen
   abbrev pub endSeen : List Row → Seen → ℕ
@@ -96,3 +72,24 @@ module _ (board : Board) where
   -- 11 and 14 of a place that need only be managed, by what was seen at the address a
   abbrev pub placeSeen : List Row → Seen → (a len : ℕ) → ℕ
   placeSeen rows r a len = cond (not (r .managed)) 11 (cond (ltb (endSeen rows r) (a + len)) 14 0)
+
+  -- from the world w on, v is left, which holds the store t
+  pub record Written (t : Store) (w v : World) : Type 0 where
+    pub whole : Whole board v t
+    pub world : encode board t w ≡ v
+
+-- ---- the same of the lent words, records and memory
+
+abbrev pub SpansIn : (words records memory : List ℕ) → Seen → (off len : ℕ) → Type 0
+SpansIn ws rs m r off len = Spans (boardIn ws) (recordAt rs) (rowsIn ws) (length m) r off len
+
+-- the loans became those of what `op` makes of every store that they hold, whatever the counters and the queue
+abbrev pub WritesBy : (Store → Store) → (words records memory records′ memory′ : List ℕ) → Type 0
+WritesBy op ws rs m rs′ m′ =
+    (k : Counters) (q : List ℕ) (s : Store) → Whole (boardIn ws) (world k ws rs m q) s → Written (boardIn ws) (op s) (world k ws rs m q) (world k ws rs′ m′ q)
+
+-- the same of a copy into the frame of a spot, from any address whose bytes are those of the loan from `from` on
+abbrev pub MovesTo : Spot → (off from len : ℕ) → (words records memory records′ memory′ : List ℕ) → Type 0
+MovesTo spot off from len ws rs m rs′ m′ =
+    (k : Counters) (q : List ℕ) (s : Store) → Whole (boardIn ws) (world k ws rs m q) s → (a : ℕ) → bytesAt (s .memory) a len ≡ take len (drop from m)
+    → Written (boardIn ws) (copyContentsFromPhysaddr (boardIn ws) s (numberIn ws spot) off a len) (world k ws rs m q) (world k ws rs′ m′ q)

@@ -4,12 +4,10 @@ use mathlib.Core.List.{List, []}
 use mathlib.Core.Path.{_≡_}
 use lib.ListN.{take}
 use Rattle.definition.specs.declared.Counters.{Counters}
-use Rattle.definition.specs.Board.{Board}
 use Rattle.definition.specs.Calls.{Answer, Refused, Done, Text, Bytes, Stats}
-use Rattle.definition.specs.World.{World}
-use Rattle.definition.specs.Torn.{call}
+use Rattle.definition.specs.Tracker.{trackerStats}
 use Rattle.exam.specs.declared.Outcome.{Outcome}
-use Rattle.exam.specs.Promise.{told}
+use Rattle.exam.specs.Making.{Counts}
 use Rattle.counts.specs.declared.Report.{Report}
 
 -- other counters, and what is outstanding by them
@@ -23,9 +21,7 @@ textOf (Done a n) = []
 textOf (Text t) = t
 textOf (Bytes t) = []
 
-module _ (board : Board) where
-  -- the statistics leave the world as it is, and the report has the number, the length and the bytes of `call`'s answer
-  pub record Reports (w : World) (r : Report) : Type 0 where
-    pub world : call board w Stats .world ≡ w
-    pub answer : told (call board w Stats .answer) ≡ record { number = r .number; address = 0; bytes = r .len }
-    pub text : take (r .len) (r .text) ≡ textOf (call board w Stats .answer)
+-- the statistics leave the world as it is, and the report has the length and the bytes of their text
+pub record Reports (k : Counters) (r : Report) : Type 0 where
+  pub makes : Counts Stats k k (record { number = r .number; address = 0; bytes = r .len })
+  pub text : take (r .len) (r .text) ≡ trackerStats k

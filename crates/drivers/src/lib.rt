@@ -5,12 +5,15 @@ use definition::Counters;
 use definition::FrameAllocFlags;
 use definition::MemoryRegion;
 use definition::MemoryRegionKind;
+use exam::Answer;
 use exam::Outcome;
 ghost use mathlib.Core.Path.{_≡_};
 ghost use Prim.Native.Nat.{_≤_};
 ghost use lib.ListN.{length, replicate};
 ghost use Rattle.definition.specs.Calls.{Alloc, Find, Zero, Fill, Copy};
-ghost use Rattle.exam.specs.Promise.{stateWith, worldOf};
+ghost use Rattle.words.specs.Words.{boardIn, keptWords};
+ghost use Rattle.exam.specs.Promise.{stateWith, worldOf, Leaves};
+ghost use Rattle.exam.specs.Making.{world};
 ghost use Rattle.drivers.specs.Driving.{Drives, bootedWorld, grantAndFree, held, onFrame, plain, toSecond, turn, turns};
 
 // The store of a map with one usable entry. Where the map is refused it has no region, and refuses all that follows.
@@ -67,7 +70,7 @@ fn granted(
         kernel: false,
         wait_ok: false,
     };
-    grants::alloc(counters, words, records, memory, queue, size, size, flags)
+    door::alloc(counters, words, records, memory, queue, size, size, flags)
 }
 
 // The store of one usable entry, and a grant of a frame of `size` bytes.
@@ -103,7 +106,7 @@ fn granted_and_freed(
     if frame.number != 0 {
         return grant;
     }
-    frames::free(
+    door::free(
         grant.counters,
         words,
         records,
@@ -157,7 +160,7 @@ pub extern "C" fn drivers_finds(
     let counters = booted(&mut words, records, memory, queue, start, bytes);
     let mut i: usize = 0;
     while i < times {
-        let found = frames::find(
+        let found = door::find(
             counters,
             &words,
             records,
@@ -172,6 +175,86 @@ pub extern "C" fn drivers_finds(
     }
     i
 }
+
+// ---- calls on contents, each with the torn test before it, as the library makes them
+
+fn zero(
+    counters: Counters,
+    words: &[u64],
+    records: &mut [u8],
+    memory: &mut [u8],
+    queue: &[u64],
+    pa: PhysAddr,
+) -> Answer
+    requires { ⌜ keptWords ≤ length (now words) ⌝ }
+    ensures { λ r. ⌜ Leaves (boardIn (now (words .entry)))
+        (world counters (now (words .entry)) (now (records .entry)) (now (memory .entry)) (now (queue .entry)))
+        (Zero (pa .0))
+        (world counters (now (words .entry)) (now (records .exit)) (now (memory .exit)) (now (queue .entry))) r ⌝ }
+{
+    if !exam::is_sound(counters, words, records, memory, queue) {
+        return exam::refused(6);
+    }
+    ranges::zero(words, records, memory, pa)
+}
+
+fn fill(
+    counters: Counters,
+    words: &[u64],
+    records: &mut [u8],
+    memory: &mut [u8],
+    queue: &[u64],
+    pa: PhysAddr,
+    offset: u64,
+    len: u64,
+    byte: u8,
+) -> Answer
+    requires { ⌜ keptWords ≤ length (now words) ⌝ }
+    ensures { λ r. ⌜ Leaves (boardIn (now (words .entry)))
+        (world counters (now (words .entry)) (now (records .entry)) (now (memory .entry)) (now (queue .entry)))
+        (Fill (pa .0) offset len byte)
+        (world counters (now (words .entry)) (now (records .exit)) (now (memory .exit)) (now (queue .entry))) r ⌝ }
+{
+    if !exam::is_sound(counters, words, records, memory, queue) {
+        return exam::refused(6);
+    }
+    ranges::fill(words, records, memory, pa, offset, len, byte)
+}
+
+fn copy(
+    counters: Counters,
+    words: &[u64],
+    records: &mut [u8],
+    memory: &mut [u8],
+    queue: &[u64],
+    target: PhysAddr,
+    target_offset: u64,
+    source: PhysAddr,
+    source_offset: u64,
+    len: u64,
+) -> Answer
+    requires { ⌜ keptWords ≤ length (now words) ⌝ }
+    ensures { λ r. ⌜ Leaves (boardIn (now (words .entry)))
+        (world counters (now (words .entry)) (now (records .entry)) (now (memory .entry)) (now (queue .entry)))
+        (Copy (target .0) «target_offset» (source .0) «source_offset» len)
+        (world counters (now (words .entry)) (now (records .exit)) (now (memory .exit)) (now (queue .entry))) r ⌝ }
+{
+    if !exam::is_sound(counters, words, records, memory, queue) {
+        return exam::refused(6);
+    }
+    copies::copy(
+        words,
+        records,
+        memory,
+        target,
+        target_offset,
+        source,
+        source_offset,
+        len,
+    )
+}
+
+// ---- contents, turn after turn
 
 // Zeroes a held frame of `size` bytes, up to `times` times.
 #[no_mangle]
@@ -192,7 +275,7 @@ pub extern "C" fn drivers_zero(
     let pa = PhysAddr::new(frame.address);
     let mut i: usize = 0;
     while i < times {
-        let answer = ranges::zero(grant.counters, &words, records, memory, queue, pa);
+        let answer = zero(grant.counters, &words, records, memory, queue, pa);
         if answer.number != 0 {
             return i;
         }
@@ -220,7 +303,7 @@ pub extern "C" fn drivers_fill(
     let pa = PhysAddr::new(frame.address);
     let mut i: usize = 0;
     while i < times {
-        let answer = ranges::fill(
+        let answer = fill(
             grant.counters,
             &words,
             records,
@@ -257,7 +340,7 @@ fn copy_all(
     let from = PhysAddr::new(source);
     let mut i: usize = 0;
     while i < times {
-        let answer = copies::copy(
+        let answer = copy(
             counters,
             words,
             records,

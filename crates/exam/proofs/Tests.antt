@@ -107,8 +107,11 @@ module _ {board : Board} where
         ∙ ap (λ (t : Bool). cond (not t) 11 rest) (sym (S .managed))
         ∙ managed-or (r .managed) refl
 
-    -- where nothing is refused, a held frame starts there and the range lies in it
-    module _ (leveled : Leveled r) (n : ℕ) (e : n ≡ seenRefusal board r a off len) (z : n ≡ 0) where
+  -- where nothing is refused, a held frame starts there and the range lies in it
+  module _
+      {f : ℕ → Record} {rows : List Row} {x : PhysicalFrameAllocator} (a off len : ℕ) (r : Seen) (S : Sees board f rows (a / board .page) x r)
+      (leveled : Leveled r) (n : ℕ) (e : n ≡ seenRefusal board r a off len) (z : n ≡ 0)
+    where
       abbrev Good : Bool → Bool → Bool → Bool → Type 0
       Good m b c d = (m ≡ true) × (b ≡ true) × (c ≡ true) × (d ≡ false)
 

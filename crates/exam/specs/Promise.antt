@@ -1,6 +1,6 @@
 -- What a call promises: `Leaves w c v y`, that what it leaves is v and what it answers is y, as definition's `call` says of the world w that it was given. The
 -- rest names what the parts of a call promise each other.
-use Prim.Native.Nat.{ℕ, _+_, _*_, _/_, _%_, _<_}
+use Prim.Native.Nat.{ℕ, _+_, _*_, _/_, _%_, _≤_, _<_}
 use mathlib.Core.Bool.{Bool, true, false, not, cond, _&&_}
 use mathlib.Core.List.{List}
 use mathlib.Core.Path.{_≡_}
@@ -15,10 +15,9 @@ use Rattle.definition.specs.Frame.{size}
 use Rattle.definition.specs.Allocator.{PhysicalFrameAllocator}
 use Rattle.definition.specs.Refusal.{numberOf}
 use Rattle.definition.specs.Calls.{Call, Answer as AnswerOf, Refused, Done, Text, Bytes}
-use Rattle.definition.specs.World.{World, recordAt, decode}
-use Rattle.definition.specs.Torn.{call, sound}
+use Rattle.definition.specs.World.{World}
+use Rattle.definition.specs.Torn.{call}
 use Rattle.words.specs.Words.{rowsIn, queuedIn, passIn}
-use Rattle.world.specs.Refusals.{frameRefusal, rangeOf}
 use Rattle.world.specs.Tables.{Table}
 use Rattle.allocator.specs.declared.Seen.{Seen}
 use Rattle.allocator.specs.Spots.{HeldAt, InRows, Sees}
@@ -78,11 +77,6 @@ module _ (board : Board) where
     pub world : call board w c .world ≡ v
     pub answer : told (call board w c .answer) ≡ y
 
-  -- the audit's answer is the sheet's, whatever the bytes of the memory and the places of the queue
-  abbrev pub Tests : State → List ℕ → (memoryLen queueLen : ℕ) → Bool → Type 0
-  Tests s records memoryLen queueLen r =
-      (memory queue : List ℕ) → length memory ≡ memoryLen → length queue ≡ queueLen → r ≡ sound board (worldOf s records memory queue)
-
   -- the bytes of the frame that starts at a page, 0 where none does
   abbrev pub bytesIf : Seen → ℕ
   bytesIf r = cond (eqb (r .marks % 2) 1) (board .page * size (r .level)) 0
@@ -94,23 +88,6 @@ module _ (board : Board) where
       (cond (not (eqb (a % board .page) 0 && eqb (r .marks % 2) 1)) 12
       (cond (not (eqb (r .marks / 2 % 2) 1)) 13 (cond (ltb (bytesIf r) (off + len)) 14 0)))
 
-  -- what was found of a range: its refusal, and what stands at its address, for every allocator that the table stands for
-  pub record Looks (f : ℕ → Record) (n : ℕ) (rows : List Row) (a off len : ℕ) (r : Exam) : Type 0 where
-    pub number : r .number ≡ seenRefusal (r .seen) a off len
-    pub leveled : Leveled (r .seen)
-    pub sees : (x : PhysicalFrameAllocator) → Table board f n rows x → Sees board f rows (a / board .page) x (r .seen)
-
-  -- the same with the audit before it: 6 on a torn world
-  pub record Examined (w : World) (a off len : ℕ) (r : Exam) : Type 0 where
-    pub torn : sound board w ≡ false → r .number ≡ 6
-    pub number : sound board w ≡ true → r .number ≡ frameRefusal board (decode board w) (rangeOf a off len)
-    pub sees : sound board w ≡ true → Sees board (recordAt (w .records)) (w .rows) (a / board .page) (decode board w .allocator) (r .seen)
-    pub leveled : sound board w ≡ true → Leveled (r .seen)
-
-  abbrev pub Exams : State → List ℕ → (memoryLen queueLen a off len : ℕ) → Exam → Type 0
-  Exams s records memoryLen queueLen a off len r =
-      (memory queue : List ℕ) → length memory ≡ memoryLen → length queue ≡ queueLen → Examined (worldOf s records memory queue) a off len r
-
   -- a held frame was seen, and its record is the one that was read
   pub record HeldSeen (f : ℕ → Record) (rows : List Row) (r : Seen) : Type 0 where
     pub inside : InRows board rows (r .spot)
@@ -118,3 +95,11 @@ module _ (board : Board) where
     pub leveled : r .level < 3
     pub marks : r .marks ≡ f (r .spot .page) .marks
     pub level : r .level ≡ f (r .spot .page) .level
+
+  -- what was found of a range: its refusal, and what stands at its address, for every allocator that the table stands for
+  pub record Looks (f : ℕ → Record) (n : ℕ) (rows : List Row) (a off len : ℕ) (r : Exam) : Type 0 where
+    pub number : r .number ≡ seenRefusal (r .seen) a off len
+    pub leveled : Leveled (r .seen)
+    pub sees : (x : PhysicalFrameAllocator) → Table board f n rows x → Sees board f rows (a / board .page) x (r .seen)
+    pub held : r .number ≡ 0 → HeldSeen f rows (r .seen)
+    pub range : r .number ≡ 0 → off + len ≤ board .page * size (r .seen .level)

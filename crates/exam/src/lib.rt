@@ -1,5 +1,5 @@
-// What every call shares: its answer, and its tests, the audit (refusal 6) and the refusals of a frame that must be held (11 to 14). A call is lent the state's words
-// and is given the counters. It promises `Leaves`: what it leaves and answers is definition's `call` of what it was given, where there are 92 words or more.
+// What every call shares: its answer, the torn test (refusal 6), which comes before a call or a list of calls, and the refusals of a frame that must be held
+// (11 to 14). A call is lent what it reads and writes of the state, and promises `Makes` of specs/Making.antt.
 use address::PhysAddr;
 use allocator::Seen;
 use definition::Board;
@@ -8,21 +8,11 @@ ghost use mathlib.Core.Path.{_≡_};
 ghost use Prim.Native.Nat.{ℕ, _+_, _*_, _/_, _%_, _<_, _≤_, _^_};
 ghost use lib.ListN.{length};
 ghost use Rattle.definition.specs.Board.{Fit};
-ghost use Rattle.definition.specs.World.{recordAt};
-ghost use Rattle.record.specs.Records.{pagesIn};
-ghost use Rattle.words.specs.Words.{boardIn, rowsIn};
+ghost use Rattle.definition.specs.Torn.{sound};
+ghost use Rattle.words.specs.Words.{boardIn, keptWords};
 ghost use Rattle.world.specs.Refusals.{lower as «lower_def»};
-ghost use Rattle.allocator.specs.Spots.{SaneIn};
-ghost use Rattle.exam.specs.Promise.{
-  stateWith,
-  Tests,
-  LevelKnown,
-  Leveled,
-  bytesIf,
-  seenRefusal,
-  Looks,
-  Exams,
-};
+ghost use Rattle.exam.specs.Promise.{LevelKnown, Leveled, bytesIf, seenRefusal};
+ghost use Rattle.exam.specs.Making.{LooksIn, TableIn, world};
 
 // The refusal's number, or 0 with an address and a count of bytes, as 01's script prints them.
 pub struct Answer {
@@ -59,17 +49,19 @@ pub fn done(address: u64, bytes: u64) -> Answer
 
 // ---- the tests of a call
 
+// The torn test of all that is lent.
 pub fn is_sound(
     counters: Counters,
     words: &[u64],
     records: &[u8],
-    memory_len: usize,
-    queue_len: usize,
+    memory: &[u8],
+    queue: &[u64],
 ) -> bool
-    requires { ⌜ 92 ≤ length (now words) ⌝ }
-    ensures { λ r. ⌜ Tests (boardIn (now (words .entry))) (stateWith counters (now (words .entry))) (now (records .entry)) «memory_len» «queue_len» r ⌝ }
+    requires { ⌜ keptWords ≤ length (now words) ⌝ }
+    ensures { λ r. ⌜ r ≡ sound (boardIn (now (words .entry)))
+        (world counters (now (words .entry)) (now (records .entry)) (now (memory .entry)) (now (queue .entry))) ⌝ }
 {
-    audit::audit(counters, words, records, memory_len, queue_len)
+    audit::audit(counters, words, records, memory.len(), queue.len())
 }
 
 // The bytes of the frame that starts at a page that was seen, 0 where none does.
@@ -120,8 +112,8 @@ pub struct Exam {
 }
 
 pub fn look(words: &[u64], records: &[u8], pa: PhysAddr, offset: u64, len: u64) -> Exam
-    requires { ⌜ (92 ≤ length (now words)) × SaneIn (now records) (now words) ⌝ }
-    ensures { λ r. ⌜ Looks (boardIn (now (words .entry))) (recordAt (now (records .entry))) (pagesIn (now (records .entry))) (rowsIn (now (words .entry))) (pa .0) offset len r ⌝ }
+    requires { ⌜ TableIn (now words) (now records) ⌝ }
+    ensures { λ r. ⌜ LooksIn (now (words .entry)) (now (records .entry)) (pa .0) offset len r ⌝ }
 {
     let board = words::board_in(words);
     let seen = allocator::see(words, records, pa);
@@ -129,29 +121,6 @@ pub fn look(words: &[u64], records: &[u8], pa: PhysAddr, offset: u64, len: u64) 
         number: refusal(board, seen, pa, offset, len),
         seen,
     }
-}
-
-// The audit, and then the refusals of one held frame.
-pub fn examine(
-    counters: Counters,
-    words: &[u64],
-    records: &[u8],
-    memory_len: usize,
-    queue_len: usize,
-    pa: PhysAddr,
-    offset: u64,
-    len: u64,
-) -> Exam
-    requires { ⌜ 92 ≤ length (now words) ⌝ }
-    ensures { λ r. ⌜ Exams (boardIn (now (words .entry))) (stateWith counters (now (words .entry))) (now (records .entry)) «memory_len» «queue_len» (pa .0) offset len r ⌝ }
-{
-    if !is_sound(counters, words, records, memory_len, queue_len) {
-        return Exam {
-            number: 6,
-            seen: allocator::nothing_seen(),
-        };
-    }
-    look(words, records, pa, offset, len)
 }
 
 // Where a byte of a page stands in the lent memory.

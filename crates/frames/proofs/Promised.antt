@@ -1,5 +1,5 @@
--- What a lookup, a split and a free promise (`Leaves`), over plain worlds: `turned-left` is the world that is left where only the table and the counters change,
--- the rest what each call does to the store that the world stands for.
+-- What a lookup, a split and a free make of a store (`Made`), over plain worlds: `turned-made` where only the table and the counters change, the rest what each call
+-- does to the store that the world holds.
 use Prim.Native.Nat.{ℕ, _+_, _*_, _/_, _%_, _<_}
 use mathlib.Core.Bool.{Bool, true, false, not, cond, _&&_, false≢true}
 use mathlib.Core.List.{List, [], _∷_}
@@ -7,8 +7,6 @@ use mathlib.Core.Option.{none, some}
 use mathlib.Core.Path.{_≡_, refl, sym, ap, _∙_}
 use native.Mathlib.Omega.{arith}
 use borrow.Author.Tests.{ltb-true}
-use mir.Syntax.{w8}
-use mir.Val.{Fits}
 use lib.Dec.{eqb, leb, ltb}
 use lib.ListN.{getD, length}
 use Rattle.definition.specs.declared.Counters.{Counters}
@@ -16,53 +14,42 @@ use Rattle.definition.specs.declared.Record.{Record}
 use Rattle.definition.specs.declared.Row.{Row}
 use Rattle.definition.specs.declared.Refusal.the-variants.{Outside, PastTheEnd}
 use Rattle.definition.specs.Basics.{any}
-use Rattle.definition.specs.Board.{Board}
-use Rattle.definition.specs.Boot.{recordSize}
+use Rattle.definition.specs.Board.{Board, Fit}
 use Rattle.definition.specs.Frame.{Frame, isAllocated, size}
 use Rattle.definition.specs.Allocator.{AllocationRegion, PhysicalFrameAllocator, contains, end, first, isManaged}
 use Rattle.definition.specs.Contents.{frameBytes}
 use Rattle.definition.specs.Refusal.{_when_, lowest}
 use Rattle.definition.specs.Store.{Store, withAllocator, withCounters}
 use Rattle.definition.specs.Tracker.{countFree, freeFrame, splitFrame}
-use Rattle.definition.specs.Calls.{Call, Find, Free, Split, done, perform}
-use Rattle.definition.specs.World.{World, decode, encode, frameOf, recordAt}
-use Rattle.definition.specs.Torn.{Sound, sound}
-use Rattle.record.specs.Records.{pagesIn}
-use Rattle.region.specs.Rep.{stateOf}
-use Rattle.audit.proofs.Sheets.{sound-is}
-use Rattle.definition.specs.Board.{Fit}
+use Rattle.definition.specs.Calls.{Call, Find, Free, Split, done, perform, step}
+use Rattle.definition.specs.World.{World, frameOf, recordAt}
 use Rattle.definition.proofs.Boards.{page-least}
 use Rattle.definition.proofs.Bytes.{address-is, offset-small, page-before}
-use Rattle.world.specs.Refusals.{frameRefusal, numberIf, rangeOf, refusalOf}
-use Rattle.world.specs.Tables.{Table, Turned}
-use Rattle.world.proofs.Leaving.{left-by, sound-table, unwritten}
+use Rattle.record.specs.Records.{pagesIn}
+use Rattle.region.specs.Rep.{stateOf}
+use Rattle.world.specs.Refusals.{numberIf, refusalOf}
+use Rattle.world.specs.Tables.{Turned}
 use Rattle.world.proofs.Refusing.{one-frame, one-place}
-use Rattle.world.proofs.RoundTrip.{decode-stands, round-trip}
 use Rattle.allocator.specs.declared.Seen.{Seen}
 use Rattle.allocator.specs.Spots.{Sees, TurnsBy, freeAt, numberAt, splitAt}
-use Rattle.exam.specs.declared.Answer.{Answer}
 use Rattle.exam.specs.declared.Exam.{Exam}
-use Rattle.exam.specs.Promise.{Examined, HeldSeen, Leaves, bytesIf}
-use Rattle.exam.proofs.Promises.{
-  Small,
-  examined-bytes,
-  examined-held,
-  examined-none,
-  examined-number,
-  examined-refused,
-  examined-sound,
-  leaves-done,
-  leaves-refused,
-  refusedBy,
+use Rattle.exam.specs.Making.{Made, Whole}
+use Rattle.exam.specs.Promise.{HeldSeen, Looks, bytesIf}
+use Rattle.exam.proofs.Making.{
+  looked,
+  looked-bytes,
+  looked-managed,
+  looked-number,
+  looked-refusal,
+  looked-refused,
+  made-left,
+  made-refused,
+  made-same,
+  table-as-long,
+  unwritten,
 }
-use Rattle.exam.proofs.Tests.{bytes-seen, frame-seen, seen-managed}
-
-abbrev pub doneBy : (address bytes : ℕ) → Answer
-doneBy a n = record { number = 0; address = a; bytes = n }
-
--- what is known of a lent slice's bytes, as a number
-pub bytes-small : (bs : List ℕ) → ((i : ℕ) → Fits w8 (getD bs i 0)) → (i : ℕ) → getD bs i 0 < 256
-bytes-small bs fits i = omega (arith, fits i)
+use Rattle.exam.proofs.Promises.{doneBy, refusedBy}
+use Rattle.exam.proofs.Tests.{bytes-seen}
 
 -- ---- a call that changes the table and the counters alone
 
@@ -78,23 +65,16 @@ turnedInto w rows counters records =
       queue = w .queue;
     }
 
-module _ {board : Board} where
-  module _ (w : World) (S : Sound board w) where
-    -- the table of a sound world, by the length of the records that are left
-    pub table-as-long
-        : (bs : List ℕ) → length bs ≡ length (w .records) → Table board (recordAt (w .records)) (pagesIn bs) (w .rows) (decode board w .allocator)
-    table-as-long bs e =
-        let same : pagesIn bs ≡ pagesIn (w .records) = ap (λ (n : ℕ). n / recordSize) e in
-        rw same (sound-table w S)
-
-    pub turned-left
-        : (a : PhysicalFrameAllocator) (c : Counters) (rows : List Row) (bs : List ℕ)
-        → Turned board (recordAt (w .records)) (w .rows) (recordAt bs) (pagesIn bs) rows a → length bs ≡ length (w .records) → Small w
-        → ((i : ℕ) → getD bs i 0 < 256) → encode board (withCounters (withAllocator (decode board w) a) c) w ≡ turnedInto w rows c bs
-    turned-left a c rows bs T e small small′ =
-        let d = decode-stands w S in
-        left-by w S (withCounters (withAllocator (decode board w) a) c) (turnedInto w rows c bs) T e small small′ (unwritten w S) refl (d .pass) (d .queue)
-        (d .queued) (d .room) refl
+module _ {board : Board} {w : World} {s : Store} (H : Whole board w s) (bs : List ℕ) (e : length bs ≡ length (w .records)) where
+  pub turned-made
+      : (c : Call) (x : PhysicalFrameAllocator) (k : Counters) (rows : List Row) (a n : ℕ) → refusalOf board s c ≡ 0
+      → perform board s c ≡ done (withCounters (withAllocator s x) k) a n
+      → Turned board (recordAt (w .records)) (w .rows) (recordAt bs) (pagesIn bs) rows x → ((i : ℕ) → getD bs i 0 < 256)
+      → Made board (step board s c) w (turnedInto w rows k bs) (doneBy a n)
+  turned-made c x k rows a n free p T small =
+      let t = withCounters (withAllocator s x) k in
+      let S = H .stands in
+      made-left H t (turnedInto w rows k bs) T e small (unwritten H) refl (S .pass) (S .queue) (S .queued) (S .room) c a n free p refl
 
 -- ---- a held frame
 
@@ -136,57 +116,45 @@ module _ (board : Board) where
   unfolding perform
   find-performed s a = refl
 
-module _ {board : Board} where
-  module _ {w : World} {a : ℕ} {r : Exam} (E : Examined board w a 0 0 r) where
-    pub split-refused : Small w → (r .number ≡ 0 → ⊥) → Leaves board w (Split a) w (refusedBy (r .number))
-    split-refused small d = examined-refused E (Split a) small (λ t. one-frame board (decode board w) a 0 0) d
+module _ {board : Board} {w : World} {s : Store} (H : Whole board w s) {a : ℕ} {r : Exam}
+    (L : Looks board (recordAt (w .records)) (pagesIn (w .records)) (w .rows) a 0 0 r)
+  where
+    pub split-refused : (r .number ≡ 0 → ⊥) → Made board (step board s (Split a)) w w (refusedBy (r .number))
+    split-refused = looked-refused H L (Split a) (one-frame board s a 0 0)
 
-    pub free-refused : Small w → (r .number ≡ 0 → ⊥) → Leaves board w (Free a) w (refusedBy (r .number))
-    free-refused small d = examined-refused E (Free a) small (λ t. one-frame board (decode board w) a 0 0) d
+    pub free-refused : (r .number ≡ 0 → ⊥) → Made board (step board s (Free a)) w w (refusedBy (r .number))
+    free-refused = looked-refused H L (Free a) (one-frame board s a 0 0)
 
-    module _ (z : r .number ≡ 0) where
-      abbrev t : sound board w ≡ true
-      t = examined-sound E z
+    module _ (z : r .number ≡ 0) (bs : List ℕ) (e : length bs ≡ length (w .records)) (small : (i : ℕ) → getD bs i 0 < 256) where
+      abbrev p : ℕ
+      p = a / board .page
 
-      abbrev S : Sound board w
-      S = sound-is board w t
+      pub split-made
+          : TurnsBy board (splitAt (numberAt board (w .rows) (r .seen .spot))) (recordAt (w .records)) (w .rows) (recordAt bs) (pagesIn bs) (w .rows)
+          → Made board (step board s (Split a)) w (turnedInto w (w .rows) (w .counters) bs) (doneBy a (bytesIf board (r .seen)))
+      split-made T =
+          rw (← looked-bytes H L z)
+          (turned-made H bs e (Split a) (splitAt p (s .allocator)) (w .counters) (w .rows) a (frameBytes board s p)
+          (one-frame board s a 0 0 ∙ looked-refusal H L ∙ z)
+          (split-performed board s a ∙ ap (λ (x : Store). done x a (frameBytes board s p)) (split-store s p (H .stands .counters)))
+          (rw (looked-number H L z) at (T (s .allocator) (table-as-long H bs e)))
+          small)
 
-      pub examined-managed : r .seen .managed ≡ true
-      examined-managed =
-          seen-managed (decode board w) a 0 0 (r .seen) (E .sees t) (E .leveled t) (r .number)
-          (E .number t ∙ frame-seen (decode board w) a 0 0 (r .seen) (E .sees t)) z
-
-      -- a call on the frame that answers with its bytes
-      performed
-          : (c : Call) (s : Store) (v : World) → refusalOf board (decode board w) c ≡ frameRefusal board (decode board w) (rangeOf a 0 0)
-          → perform board (decode board w) c ≡ done s a (frameBytes board (decode board w) (a / board .page)) → encode board s w ≡ v
-          → Leaves board w c v (doneBy a (bytesIf board (r .seen)))
-      performed c s v same p left =
-          let bytes = frameBytes board (decode board w) (a / board .page) in
-          rw (← examined-bytes E z) (leaves-done w c t (same ∙ examined-none E z) (done s a bytes) v p left)
-
-      pub split-leaves
-          : (bs : List ℕ) → TurnsBy board (splitAt (numberAt board (w .rows) (r .seen .spot))) (recordAt (w .records)) (w .rows) (recordAt bs) (pagesIn bs) (w .rows)
-          → length bs ≡ length (w .records) → Small w → ((i : ℕ) → getD bs i 0 < 256)
-          → Leaves board w (Split a) (turnedInto w (w .rows) (w .counters) bs) (doneBy a (bytesIf board (r .seen)))
-      split-leaves bs T e small small′ =
-          let s = decode board w in
-          let T2 = rw (examined-number E z) at (T (s .allocator) (table-as-long w S bs e)) in
-          let left = ap (λ (x : Store). encode board x w) (split-store s (a / board .page) (decode-stands w S .counters)) ∙ turned-left w S (splitAt (a / board .page) (s .allocator)) (w .counters) (w .rows) bs T2 e small small′ in
-          performed (Split a) (splitFrame s (a / board .page)) (turnedInto w (w .rows) (w .counters) bs) (one-frame board s a 0 0) (split-performed board s a) left
-
-      pub free-leaves
-          : (rows : List Row) (c : Counters) (bs : List ℕ)
+      pub free-made
+          : (rows : List Row) (k : Counters)
           → TurnsBy board (freeAt board (numberAt board (w .rows) (r .seen .spot))) (recordAt (w .records)) (w .rows) (recordAt bs) (pagesIn bs) rows
-          → c ≡ countFree (size (r .seen .level)) (eqb (r .seen .marks / 8 % 2) 1) (w .counters) → length bs ≡ length (w .records) → Small w
-          → ((i : ℕ) → getD bs i 0 < 256) → Leaves board w (Free a) (turnedInto w rows c bs) (doneBy a (bytesIf board (r .seen)))
-      free-leaves rows c bs T k e small small′ =
-          let s = decode board w in
-          let T2 = rw (examined-number E z) at (T (s .allocator) (table-as-long w S bs e)) in
-          let counted = ap (countFree (size (r .seen .level)) (eqb (r .seen .marks / 8 % 2) 1)) (decode-stands w S .counters) ∙ sym k in
-          let freed = free-store s (a / board .page) (E .sees t) examined-managed (examined-held E z) ∙ ap (withCounters (withAllocator s (freeAt board (a / board .page) (s .allocator)))) counted in
-          let left = ap (λ (x : Store). encode board x w) freed ∙ turned-left w S (freeAt board (a / board .page) (s .allocator)) c rows bs T2 e small small′ in
-          performed (Free a) (freeFrame board s (a / board .page)) (turnedInto w rows c bs) (one-frame board s a 0 0) (free-performed board s a) left
+          → k ≡ countFree (size (r .seen .level)) (eqb (r .seen .marks / 8 % 2) 1) (w .counters)
+          → Made board (step board s (Free a)) w (turnedInto w rows k bs) (doneBy a (bytesIf board (r .seen)))
+      free-made rows k T counted =
+          let c = ap (countFree (size (r .seen .level)) (eqb (r .seen .marks / 8 % 2) 1)) (H .stands .counters) ∙ sym counted in
+          let freed =
+          free-store s p (looked H L) (looked-managed H L z) (L .held z) ∙ ap (withCounters (withAllocator s (freeAt board p (s .allocator)))) c in
+          rw (← looked-bytes H L z)
+          (turned-made H bs e (Free a) (freeAt board p (s .allocator)) k rows a (frameBytes board s p)
+          (one-frame board s a 0 0 ∙ looked-refusal H L ∙ z)
+          (free-performed board s a ∙ ap (λ (x : Store). done x a (frameBytes board s p)) freed)
+          (rw (looked-number H L z) at (T (s .allocator) (table-as-long H bs e)))
+          small)
 
 -- ---- a lookup
 
@@ -216,16 +184,16 @@ module _ (board : Board) (fit : Fit board) where
       go true = refl
       go false = refl
 
-module _ {board : Board} (fit : Fit board) where
-  module _ {w : World} {a : ℕ} {r : Seen} (t : sound board w ≡ true) (small : Small w)
-      (Z : Sees board (recordAt (w .records)) (w .rows) (a / board .page) (decode board w .allocator) r)
-    where
-      pub find-refused : r .managed ≡ false → Leaves board w (Find a) w (refusedBy 11)
-      find-refused m =
-          leaves-refused w (Find a) small t 11 (place-refusal board fit (decode board w) a ∙ ap (λ (x : Bool). cond x 0 11) (sym (Z .managed) ∙ m)) (λ h. omega arith)
+module _ {board : Board} (fit : Fit board) {w : World} {s : Store} (H : Whole board w s) (a : ℕ) {r : Seen}
+    (Z : Sees board (recordAt (w .records)) (w .rows) (a / board .page) (s .allocator) r)
+  where
+    found : {m : Bool} → r .managed ≡ m → refusalOf board s (Find a) ≡ cond m 0 11
+    found e = place-refusal board fit s a ∙ ap (λ (x : Bool). cond x 0 11) (sym (Z .managed) ∙ e)
 
-      pub find-leaves : r .managed ≡ true → Leaves board w (Find a) w (doneBy (board .page * (a / board .page)) (bytesIf board r))
-      find-leaves m =
-          let s = decode board w in
-          rw (← bytes-seen s a 0 0 r Z m)
-          (leaves-done w (Find a) t (place-refusal board fit s a ∙ ap (λ (x : Bool). cond x 0 11) (sym (Z .managed) ∙ m)) (done s (board .page * (a / board .page)) (frameBytes board s (a / board .page))) w (find-performed board s a) (round-trip w (sound-is board w t) small))
+    pub find-refused : r .managed ≡ false → Made board (step board s (Find a)) w w (refusedBy 11)
+    find-refused m = made-refused H (Find a) 11 (found m) (λ h. omega arith)
+
+    pub find-made : r .managed ≡ true → Made board (step board s (Find a)) w w (doneBy (board .page * (a / board .page)) (bytesIf board r))
+    find-made m =
+        rw (← bytes-seen s a 0 0 r Z m)
+        (made-same H (Find a) (done s (board .page * (a / board .page)) (frameBytes board s (a / board .page))) (found m) (find-performed board s a) refl)

@@ -18,7 +18,7 @@ use Rattle.definition.specs.Board.{Board}
 use Rattle.definition.specs.Boot.{managedPages, overlap}
 use Rattle.definition.specs.Contents.{filled, sizeOf}
 use Rattle.definition.specs.Frame.{Frame, isAllocated, isZeroed, size}
-use Rattle.definition.specs.Allocator.{AllocationRegion, PhysicalFrameAllocator, doAlloc}
+use Rattle.definition.specs.Allocator.{Allocated, AllocationRegion, PhysicalFrameAllocator, doAlloc}
 use Rattle.definition.specs.Store.{Memory}
 use Rattle.definition.specs.Tracker.{countAlloc, tryAllocFrame, tryAllocSplitFrames}
 use Rattle.definition.specs.Torn.{regionsOf}
@@ -34,12 +34,12 @@ use Rattle.world.proofs.Spans.{runs-bare}
 use Rattle.world.proofs.Tables.{used-row}
 use Rattle.world.proofs.Writing.{Fronts, Rewritten, memory-filled}
 use Rattle.allocator.specs.declared.Spot.{Spot}
-use Rattle.allocator.specs.Spots.{HeldAt, InRows, PicksBy, TurnsBy, markAt, numberAt, splitAt}
+use Rattle.allocator.specs.Spots.{HeldAt, InRows, Picked, PicksBy, TurnsBy, markAt, numberAt, splitAt}
 use Rattle.allocator.proofs.Standing.{sane-table, standing}
 use Rattle.allocator.proofs.TwoPasses.{turned-then}
 use Rattle.allocator.proofs.Turning.{spot-good, spot-index, stands-at, table-held}
 use Rattle.exam.specs.Promise.{State, stateWith}
-use Rattle.grants.specs.Granting.{Finds, GivesBy, Granted, Holds, Near, Ready, zeroedBytes}
+use Rattle.grants.specs.Granting.{Finds, GivesBy, Granted, Holds, Near, zeroedBytes}
 use Rattle.grants.proofs.Marking.{none-left, split-none, split-some, try-none, try-some}
 
 -- ---- the frame at a spot
@@ -109,6 +109,27 @@ module _ {board : Board} where
         go true = memory-filled board L m bs fits apart same 0
         go false = record { memory = same; as-long = refl; beyond = refl }
 
+-- ---- its search
+
+module _ {board : Board} {op : PhysicalFrameAllocator → Allocated} {f g : ℕ → Record} {n : ℕ} {rows : List Row} {r : Picked}
+    (P : PicksBy board op f rows g n r) (S : Sane board f n rows)
+  where
+    picked-turned : Turned board f rows g n (r .rows) (op (standing board f rows) .allocator)
+    picked-turned = P (standing board f rows) (sane-table S) .turned
+
+    pub picked-sane : Sane board g n (r .rows)
+    picked-sane = picked-turned .table .sane
+
+    pub picked-room
+        : {long : ℕ} → board .page * managedPages board (regionsOf board rows) ≤ long → board .page * managedPages board (regionsOf board (r .rows)) ≤ long
+    picked-room h = rw (picked-turned .spans) h
+
+    pub picked-spot : r .found ≡ true → InRows board (r .rows) (r .spot)
+    picked-spot = P (standing board f rows) (sane-table S) .spot
+
+    pub picked-held : r .found ≡ true → HeldAt board g (r .rows) (r .spot)
+    picked-held = P (standing board f rows) (sane-table S) .held
+
 -- ---- a grant
 
 module _ {board : Board} where
@@ -120,21 +141,6 @@ module _ {board : Board} where
       abbrev st : State
       st = stateWith counters ws
 
-      picked-turned : (S : Sane board f n (rowsIn ws)) → Turned board f (rowsIn ws) g n (rowsIn vs) (doAlloc everywhere l (flags .zeroed) (standing board f (rowsIn ws)) .allocator)
-      picked-turned S = P (standing board f (rowsIn ws)) (sane-table S) .turned
-
-      pub picked-sane : Sane board f n (rowsIn ws) → Sane board g n (rowsIn vs)
-      picked-sane S = picked-turned S .table .sane
-
-      pub picked-ready : {long : ℕ} → Ready board f n st long → Ready board g n (stateWith counters vs) long
-      picked-ready R =
-          record {
-            sane = picked-sane (R .sane);
-            memory = rw (picked-turned (R .sane) .spans) (R .memory);
-            kernel = R .kernel;
-            page = R .page;
-          }
-
       -- nothing is found
       abbrev nothing : Granted
       nothing = record { state = stateWith counters vs; found = false; spot = spot; address = 0 }
@@ -143,7 +149,7 @@ module _ {board : Board} where
       finds-none B = record { queued = B .queued; pass = B .pass; address = λ z. absurd (false≢true z) }
 
       pub holds-none : Sane board f n (rowsIn ws) → Holds board g n nothing
-      holds-none S = record { sane = picked-sane S; spot = λ z. absurd (false≢true z); held = λ z. absurd (false≢true z) }
+      holds-none S = record { sane = picked-sane P S; spot = λ z. absurd (false≢true z); held = λ z. absurd (false≢true z) }
 
       pub gives-none : (bytes : List ℕ) → found ≡ false → GivesBy board (tryAllocFrame board everywhere l flags) f st bytes g n bytes nothing
       gives-none bytes e s L =
@@ -162,12 +168,6 @@ module _ {board : Board} where
 
       -- a frame is found
       module _ (e : found ≡ true) where
-        pub picked-spot : Sane board f n (rowsIn ws) → InRows board (rowsIn vs) spot
-        picked-spot S = P (standing board f (rowsIn ws)) (sane-table S) .spot e
-
-        pub picked-held : Sane board f n (rowsIn ws) → HeldAt board g (rowsIn vs) spot
-        picked-held S = P (standing board f (rowsIn ws)) (sane-table S) .held e
-
         module _
             {h : ℕ → Record} {after : Counters} (c : after ≡ countAlloc (size l) (flags .kernel) counters)
             (T : TurnsBy board (markAt false (flags .kernel) (numberAt board (rowsIn vs) spot)) g (rowsIn vs) h n (rowsIn vs)) (address : ℕ)
@@ -180,12 +180,12 @@ module _ {board : Board} where
 
             pub holds-some : Sane board f n (rowsIn ws) → Holds board h n frame
             holds-some S =
-                let U = picked-turned S .table in
+                let U = picked-turned P S .table in
                 let a = doAlloc everywhere l (flags .zeroed) (standing board f (rowsIn ws)) .allocator in
                 let N = T a U .table in
                 let p = numberAt board (rowsIn vs) spot in
-                let I = picked-spot S in
-                let held : isAllocated (a .frames p) ≡ true = rw (table-frame I U) (is-held g (rowsIn vs) spot (picked-held S)) in
+                let I = picked-spot P S e in
+                let held : isAllocated (a .frames p) ≡ true = rw (table-frame I U) (is-held g (rowsIn vs) spot (picked-held P S e)) in
                 record {
                   sane = N .sane;
                   spot = λ z. I;

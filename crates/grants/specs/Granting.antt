@@ -15,9 +15,9 @@ use Rattle.definition.specs.Frame.{size}
 use Rattle.definition.specs.Store.{Store}
 use Rattle.definition.specs.Tracker.{Granted as GrantedOf}
 use Rattle.definition.specs.Calls.{Alloc, Layout, findLevel}
-use Rattle.definition.specs.World.{World, decode, memoryBytes}
-use Rattle.definition.specs.Torn.{regionsOf, sound}
-use Rattle.record.specs.Records.{withBytes}
+use Rattle.definition.specs.World.{memoryBytes, recordAt}
+use Rattle.record.specs.Records.{pagesIn, withBytes}
+use Rattle.words.specs.Words.{boardIn, rowsIn}
 use Rattle.region.specs.Rep.{Inside}
 use Rattle.world.specs.Refusals.{refusalOf}
 use Rattle.world.specs.Stands.{rowAt}
@@ -25,14 +25,9 @@ use Rattle.world.specs.Tables.{Sane, Table, Turned}
 use Rattle.allocator.specs.declared.Spot.{Spot}
 use Rattle.allocator.specs.Spots.{HeldAt, InRows, numberAt}
 use Rattle.exam.specs.declared.Answer.{Answer}
-use Rattle.exam.specs.Promise.{State, worldOf}
+use Rattle.exam.specs.Promise.{State, stateWith}
 use Rattle.grants.specs.declared.Asked.{Asked}
-
--- ---- which refusal a layout meets
-
--- ---- what a grant is given
-
--- ---- the parts of a grant
+use Rattle.grants.specs.declared.Granted.{Granted as GrantedFrame}
 
 -- the frame of a record is zeroed where that was asked and it isn't marked so
 abbrev pub zeroes : Bool → Record → Bool
@@ -48,23 +43,11 @@ pub record Granted : Type 0 where
   pub address : ℕ
 
 module _ (board : Board) where
-  -- the refusal that a layout meets, and where it meets none the level that it gets
-  pub record Wants (w : World) (y : Layout) (r : Asked) : Type 0 where
-    pub torn : sound board w ≡ false → r .number ≡ 6
-    pub number : sound board w ≡ true → r .number ≡ refusalOf board (decode board w) (Alloc y)
+  -- the refusal that a layout meets on every store that the table stands for, and where it meets none the level that it gets
+  pub record Wants (f : ℕ → Record) (n : ℕ) (rows : List Row) (y : Layout) (r : Asked) : Type 0 where
+    pub number : (s : Store) → Table board f n rows (s .allocator) → r .number ≡ refusalOf board s (Alloc y)
     pub level : r .number ≡ 0 → r .level ≡ findLevel board y
     pub small : r .number ≡ 0 → r .level < 3
-
-  abbrev pub WantsAll : State → List ℕ → (memoryLen queueLen : ℕ) → Layout → Asked → Type 0
-  WantsAll s records memoryLen queueLen y r =
-      (memory queue : List ℕ) → length memory ≡ memoryLen → length queue ≡ queueLen → Wants (worldOf s records memory queue) y r
-
-  -- what the parts of a grant ask of the state, the records f of n pages and a memory of so many bytes
-  pub record Ready (f : ℕ → Record) (n : ℕ) (st : State) (long : ℕ) : Type 0 where
-    pub sane : Sane board f n (st .rows)
-    pub memory : board .page * managedPages board (regionsOf board (st .rows)) ≤ long
-    pub kernel : st .counters .«kernel_used» < 2 ^ 57
-    pub page : st .counters .«page_data» < 2 ^ 57
 
   -- the state, the records and the memory's bytes stand for the store s, but for its queue and its pass
   pub record Lends (f : ℕ → Record) (n : ℕ) (st : State) (bytes : List ℕ) (s : Store) : Type 0 where
@@ -114,3 +97,11 @@ module _ (board : Board) where
     pub sane : Sane board g n (r .state .rows)
     pub spot : r .found ≡ true → InRows board (r .state .rows) (r .spot)
     pub held : r .found ≡ true → HeldAt board g (r .state .rows) (r .spot)
+
+-- ---- the same of the lent words and records
+
+abbrev pub WantsIn : (words records : List ℕ) → Layout → Asked → Type 0
+WantsIn words records y r = Wants (boardIn words) (recordAt records) (pagesIn records) (rowsIn words) y r
+
+abbrev pub grantedIn : GrantedFrame → (words : List ℕ) → Granted
+grantedIn r words = record { state = stateWith (r .counters) words; found = r .found; spot = r .spot; address = r .address }

@@ -1,5 +1,5 @@
-// Grants: try_alloc_frame and try_alloc_split_frames. Each promises definition's `call` of the words and loans that it is given.
-ghost use Rattle.definition.specs.Basics.{everywhere};
+// Grants: try_alloc_frame and try_alloc_split_frames. Each is lent what it reads and writes and promises definition's `step`
+// (exam/specs/Making.antt).
 use allocator::Spot;
 use definition::Board;
 use definition::Counters;
@@ -12,6 +12,7 @@ ghost use mathlib.Core.Bool.{false};
 ghost use mathlib.Core.Path.{_≡_};
 ghost use Prim.Native.Nat.{_+_, _*_, _<_, _≤_};
 ghost use lib.ListN.{length};
+ghost use Rattle.definition.specs.Basics.{everywhere};
 ghost use Rattle.definition.specs.Board.{Fit};
 ghost use Rattle.definition.specs.Frame.{size as pagesOf};
 ghost use Rattle.definition.specs.Tracker.{countAlloc, tryAllocFrame, tryAllocSplitFrames};
@@ -19,12 +20,13 @@ ghost use Rattle.definition.specs.Calls.{Alloc, Take};
 ghost use Rattle.definition.specs.Refusal.{numberOf};
 ghost use Rattle.definition.specs.World.{recordAt};
 ghost use Rattle.record.specs.Records.{pagesIn};
-ghost use Rattle.words.specs.Words.{boardIn, rowsIn, Beside};
+ghost use Rattle.words.specs.Words.{boardIn, keptWords, rowsIn, Beside};
 ghost use Rattle.allocator.specs.Spots.{HeldIn, TurnsIn, markAt, numberIn};
-ghost use Rattle.exam.specs.Promise.{stateWith, worldOf, Leaves};
+ghost use Rattle.exam.specs.Promise.{stateWith};
+ghost use Rattle.exam.specs.Making.{TableIn, RoomIn, Few, Grants};
 ghost use Rattle.grants.specs.Granting.{
-  WantsAll,
-  Ready,
+  WantsIn,
+  grantedIn,
   zeroedBytes,
   Near,
   handed as «handed_def»,
@@ -66,26 +68,11 @@ pub struct Asked {
     pub level: usize,
 }
 
-// 6 to 10: the audit, the layout, and whether anything is listed at its level or above.
-fn wanted(
-    counters: Counters,
-    words: &[u64],
-    records: &[u8],
-    memory_len: usize,
-    queue_len: usize,
-    size: u64,
-    align: u64,
-    flags: FrameAllocFlags,
-) -> Asked
-    requires { ⌜ 92 ≤ length (now words) ⌝ }
-    ensures { λ r. ⌜ WantsAll (boardIn (now (words .entry))) (stateWith counters (now (words .entry))) (now (records .entry)) «memory_len» «queue_len» (record { size = size; align = align; flags = flags }) r ⌝ }
+// 7 to 10: the layout, and whether anything is listed at its level or above.
+fn wanted(words: &[u64], records: &[u8], size: u64, align: u64, flags: FrameAllocFlags) -> Asked
+    requires { ⌜ TableIn (now words) (now records) ⌝ }
+    ensures { λ r. ⌜ WantsIn (now (words .entry)) (now (records .entry)) (record { size = size; align = align; flags = flags }) r ⌝ }
 {
-    if !exam::is_sound(counters, words, records, memory_len, queue_len) {
-        return Asked {
-            number: 6,
-            level: 0,
-        };
-    }
     let board = words::board_in(words);
     match level::find_level(board, size, align) {
         FoundLevel::At(level) => {
@@ -136,11 +123,15 @@ fn hand_over(
     level: usize,
     flags: FrameAllocFlags,
 ) -> Counters
-    requires { ⌜ (92 ≤ length (now words)) × Ready (boardIn (now words)) (recordAt (now records)) (pagesIn (now records)) (stateWith counters (now words)) (length (now memory)) × (level < 3) ⌝ }
+    requires { ⌜ TableIn (now words) (now records) ⌝ }
+    requires { ⌜ RoomIn (now words) (now memory) ⌝ }
+    requires { ⌜ Few counters × (level < 3) ⌝ }
     requires { ⌜ HeldIn (now records) (now words) spot ⌝ }
     ensures { λ r. ⌜ r ≡ countAlloc (pagesOf level) (flags .kernel) counters ⌝ }
-    ensures { λ _. ⌜ now (memory .exit) ≡ zeroedBytes (boardIn (now (words .entry))) (flags .zeroed) (recordAt (now (records .entry)) (spot .page)) (spot .page) (now (memory .entry)) ⌝ }
-    ensures { λ _. ⌜ TurnsIn (markAt false (flags .kernel) (numberIn (now (words .entry)) spot)) (now (records .entry)) (now (words .entry)) (now (records .exit)) (now (words .entry)) ⌝ }
+    ensures { λ _. ⌜ now (memory .exit) ≡ zeroedBytes (boardIn (now (words .entry)))
+        (flags .zeroed) (recordAt (now (records .entry)) (spot .page)) (spot .page) (now (memory .entry)) ⌝ }
+    ensures { λ _. ⌜ TurnsIn (markAt false (flags .kernel) (numberIn (now (words .entry)) spot))
+        (now (records .entry)) (now (words .entry)) (now (records .exit)) (now (words .entry)) ⌝ }
 {
     let board = words::board_in(words);
     let page = spot.page;
@@ -152,7 +143,7 @@ fn hand_over(
 
 // The first address of a page of a row.
 fn address_of(words: &[u64], spot: Spot) -> u64
-    requires { ⌜ (92 ≤ length (now words)) × Near (boardIn (now words)) (rowsIn (now words)) spot ⌝ }
+    requires { ⌜ (keptWords ≤ length (now words)) × Near (boardIn (now words)) (rowsIn (now words)) spot ⌝ }
     ensures { λ r. ⌜ r ≡ boardIn (now (words .entry)) .page * numberIn (now (words .entry)) spot ⌝ }
 {
     let board = words::board_in(words);
@@ -179,9 +170,15 @@ fn grant(
     level: usize,
     flags: FrameAllocFlags,
 ) -> Granted
-    requires { ⌜ (92 ≤ length (now words)) × Ready (boardIn (now words)) (recordAt (now records)) (pagesIn (now records)) (stateWith counters (now words)) (length (now memory)) × (level < 3) ⌝ }
-    ensures { λ r. ⌜ Finds (boardIn (now (words .entry))) (stateWith counters (now (words .entry))) (record { state = stateWith (r .counters) (now (words .exit)); found = r .found; spot = r .spot; address = r .address }) × Holds (boardIn (now (words .entry))) (recordAt (now (records .exit))) (pagesIn (now (records .exit))) (record { state = stateWith (r .counters) (now (words .exit)); found = r .found; spot = r .spot; address = r .address }) ⌝ }
-    ensures { λ r. ⌜ GivesBy (boardIn (now (words .entry))) (tryAllocFrame (boardIn (now (words .entry))) everywhere level flags) (recordAt (now (records .entry))) (stateWith counters (now (words .entry))) (now (memory .entry)) (recordAt (now (records .exit))) (pagesIn (now (records .exit))) (now (memory .exit)) (record { state = stateWith (r .counters) (now (words .exit)); found = r .found; spot = r .spot; address = r .address }) ⌝ }
+    requires { ⌜ TableIn (now words) (now records) ⌝ }
+    requires { ⌜ RoomIn (now words) (now memory) ⌝ }
+    requires { ⌜ Few counters × (level < 3) ⌝ }
+    ensures { λ r. ⌜ Finds (boardIn (now (words .entry))) (stateWith counters (now (words .entry))) (grantedIn r (now (words .exit))) ⌝ }
+    ensures { λ r. ⌜ Holds (boardIn (now (words .entry)))
+        (recordAt (now (records .exit))) (pagesIn (now (records .exit))) (grantedIn r (now (words .exit))) ⌝ }
+    ensures { λ r. ⌜ GivesBy (boardIn (now (words .entry))) (tryAllocFrame (boardIn (now (words .entry))) everywhere level flags)
+        (recordAt (now (records .entry))) (stateWith counters (now (words .entry))) (now (memory .entry))
+        (recordAt (now (records .exit))) (pagesIn (now (records .exit))) (now (memory .exit)) (grantedIn r (now (words .exit))) ⌝ }
     ensures { λ _. ⌜ Beside (now (words .entry)) (now (words .exit)) ⌝ }
 {
     let picked = allocator::do_alloc(words, records, level, flags.zeroed);
@@ -213,9 +210,13 @@ fn grant_split(
     level: usize,
     flags: FrameAllocFlags,
 ) -> Granted
-    requires { ⌜ (92 ≤ length (now words)) × Ready (boardIn (now words)) (recordAt (now records)) (pagesIn (now records)) (stateWith counters (now words)) (length (now memory)) × (level < 3) ⌝ }
-    ensures { λ r. ⌜ Finds (boardIn (now (words .entry))) (stateWith counters (now (words .entry))) (record { state = stateWith (r .counters) (now (words .exit)); found = r .found; spot = r .spot; address = r .address }) ⌝ }
-    ensures { λ r. ⌜ GivesBy (boardIn (now (words .entry))) (tryAllocSplitFrames (boardIn (now (words .entry))) everywhere level flags) (recordAt (now (records .entry))) (stateWith counters (now (words .entry))) (now (memory .entry)) (recordAt (now (records .exit))) (pagesIn (now (records .exit))) (now (memory .exit)) (record { state = stateWith (r .counters) (now (words .exit)); found = r .found; spot = r .spot; address = r .address }) ⌝ }
+    requires { ⌜ TableIn (now words) (now records) ⌝ }
+    requires { ⌜ RoomIn (now words) (now memory) ⌝ }
+    requires { ⌜ Few counters × (level < 3) ⌝ }
+    ensures { λ r. ⌜ Finds (boardIn (now (words .entry))) (stateWith counters (now (words .entry))) (grantedIn r (now (words .exit))) ⌝ }
+    ensures { λ r. ⌜ GivesBy (boardIn (now (words .entry))) (tryAllocSplitFrames (boardIn (now (words .entry))) everywhere level flags)
+        (recordAt (now (records .entry))) (stateWith counters (now (words .entry))) (now (memory .entry))
+        (recordAt (now (records .exit))) (pagesIn (now (records .exit))) (now (memory .exit)) (grantedIn r (now (words .exit))) ⌝ }
     ensures { λ _. ⌜ Beside (now (words .entry)) (now (words .exit)) ⌝ }
 {
     let granted = grant(counters, words, records, memory, level, flags);
@@ -247,25 +248,19 @@ pub fn alloc(
     words: &mut [u64],
     records: &mut [u8],
     memory: &mut [u8],
-    queue: &[u64],
     size: u64,
     align: u64,
     flags: FrameAllocFlags,
 ) -> Outcome
-    requires { ⌜ 92 ≤ length (now words) ⌝ }
-    ensures { λ r. ⌜ Leaves (boardIn (now (words .entry))) (worldOf (stateWith counters (now (words .entry))) (now (records .entry)) (now (memory .entry)) (now (queue .entry))) (Alloc (record { size = size; align = align; flags = flags })) (worldOf (stateWith (r .counters) (now (words .exit))) (now (records .exit)) (now (memory .exit)) (now (queue .entry))) (r .answer) ⌝ }
+    requires { ⌜ TableIn (now words) (now records) ⌝ }
+    requires { ⌜ RoomIn (now words) (now memory) ⌝ }
+    requires { ⌜ Few counters ⌝ }
+    ensures { λ r. ⌜ Grants (Alloc (record { size = size; align = align; flags = flags }))
+        counters (now (words .entry)) (now (records .entry)) (now (memory .entry))
+        (r .counters) (now (words .exit)) (now (records .exit)) (now (memory .exit)) (r .answer) ⌝ }
     ensures { λ _. ⌜ Beside (now (words .entry)) (now (words .exit)) ⌝ }
 {
-    let asked = wanted(
-        counters,
-        words,
-        records,
-        memory.len(),
-        queue.len(),
-        size,
-        align,
-        flags,
-    );
+    let asked = wanted(words, records, size, align, flags);
     let number = asked.number;
     if number != 0 {
         return Outcome {
@@ -289,25 +284,19 @@ pub fn take(
     words: &mut [u64],
     records: &mut [u8],
     memory: &mut [u8],
-    queue: &[u64],
     size: u64,
     align: u64,
     flags: FrameAllocFlags,
 ) -> Outcome
-    requires { ⌜ 92 ≤ length (now words) ⌝ }
-    ensures { λ r. ⌜ Leaves (boardIn (now (words .entry))) (worldOf (stateWith counters (now (words .entry))) (now (records .entry)) (now (memory .entry)) (now (queue .entry))) (Take (record { size = size; align = align; flags = flags })) (worldOf (stateWith (r .counters) (now (words .exit))) (now (records .exit)) (now (memory .exit)) (now (queue .entry))) (r .answer) ⌝ }
+    requires { ⌜ TableIn (now words) (now records) ⌝ }
+    requires { ⌜ RoomIn (now words) (now memory) ⌝ }
+    requires { ⌜ Few counters ⌝ }
+    ensures { λ r. ⌜ Grants (Take (record { size = size; align = align; flags = flags }))
+        counters (now (words .entry)) (now (records .entry)) (now (memory .entry))
+        (r .counters) (now (words .exit)) (now (records .exit)) (now (memory .exit)) (r .answer) ⌝ }
     ensures { λ _. ⌜ Beside (now (words .entry)) (now (words .exit)) ⌝ }
 {
-    let asked = wanted(
-        counters,
-        words,
-        records,
-        memory.len(),
-        queue.len(),
-        size,
-        align,
-        flags,
-    );
+    let asked = wanted(words, records, size, align, flags);
     let number = asked.number;
     if number != 0 {
         return Outcome {

@@ -1,39 +1,21 @@
-// The contents of held frames, after frame.rs's Frame::zero, set_not_zero and the added fill and write. Each call promises definition's `call`
-// of the words and loans that it is given; the words and counters stay as they are.
+// The contents of held frames, after frame.rs's Frame::zero, set_not_zero and the added fill and write. Each call is lent what it reads and writes and promises
+// definition's `step` (exam/specs/Making.antt); the words and counters stay as they are.
 use address::PhysAddr;
-use definition::Counters;
 use exam::Answer;
-ghost use mathlib.Core.Path.{_≡_};
-ghost use Prim.Native.Nat.{ℕ, _+_, _/_, _%_, _<_, _≤_, _^_};
-ghost use lib.ListN.{length};
 ghost use Rattle.definition.specs.Calls.{Zero, Dirty, Fill, Write};
-ghost use Rattle.words.specs.Words.{boardIn};
-ghost use Rattle.exam.specs.Promise.{stateWith, worldOf, Leaves};
+ghost use Rattle.exam.specs.Making.{TableIn, RoomIn, Marks, Writes};
 
 // ---- contents
 
 // Frame::zero, frame.rs 430.
-pub fn zero(
-    counters: Counters,
-    words: &[u64],
-    records: &mut [u8],
-    memory: &mut [u8],
-    queue: &[u64],
-    pa: PhysAddr,
-) -> Answer
-    requires { ⌜ 92 ≤ length (now words) ⌝ }
-    ensures { λ r. ⌜ Leaves (boardIn (now (words .entry))) (worldOf (stateWith counters (now (words .entry))) (now (records .entry)) (now (memory .entry)) (now (queue .entry))) (Zero (pa .0)) (worldOf (stateWith counters (now (words .entry))) (now (records .exit)) (now (memory .exit)) (now (queue .entry))) r ⌝ }
+pub fn zero(words: &[u64], records: &mut [u8], memory: &mut [u8], pa: PhysAddr) -> Answer
+    requires { ⌜ TableIn (now words) (now records) ⌝ }
+    requires { ⌜ RoomIn (now words) (now memory) ⌝ }
+    ensures { λ r. ⌜ Writes (Zero (pa .0)) (now (words .entry))
+        (now (records .entry)) (now (memory .entry))
+        (now (records .exit)) (now (memory .exit)) r ⌝ }
 {
-    let exam = exam::examine(
-        counters,
-        words,
-        records,
-        memory.len(),
-        queue.len(),
-        pa,
-        0,
-        0,
-    );
+    let exam = exam::look(words, records, pa, 0, 0);
     let number = exam.number;
     if number != 0 {
         return exam::refused(number);
@@ -49,27 +31,11 @@ pub fn zero(
 }
 
 // Frame::set_not_zero, frame.rs 443.
-pub fn dirty(
-    counters: Counters,
-    words: &[u64],
-    records: &mut [u8],
-    memory: &[u8],
-    queue: &[u64],
-    pa: PhysAddr,
-) -> Answer
-    requires { ⌜ 92 ≤ length (now words) ⌝ }
-    ensures { λ r. ⌜ Leaves (boardIn (now (words .entry))) (worldOf (stateWith counters (now (words .entry))) (now (records .entry)) (now (memory .entry)) (now (queue .entry))) (Dirty (pa .0)) (worldOf (stateWith counters (now (words .entry))) (now (records .exit)) (now (memory .entry)) (now (queue .entry))) r ⌝ }
+pub fn dirty(words: &[u64], records: &mut [u8], pa: PhysAddr) -> Answer
+    requires { ⌜ TableIn (now words) (now records) ⌝ }
+    ensures { λ r. ⌜ Marks (Dirty (pa .0)) (now (words .entry)) (now (records .entry)) (now (records .exit)) r ⌝ }
 {
-    let exam = exam::examine(
-        counters,
-        words,
-        records,
-        memory.len(),
-        queue.len(),
-        pa,
-        0,
-        0,
-    );
+    let exam = exam::look(words, records, pa, 0, 0);
     let number = exam.number;
     if number != 0 {
         return exam::refused(number);
@@ -89,29 +55,21 @@ pub fn dirty(
 
 // 01: `len` bytes of a frame, from `offset` on, become `byte`.
 pub fn fill(
-    counters: Counters,
     words: &[u64],
     records: &mut [u8],
     memory: &mut [u8],
-    queue: &[u64],
     pa: PhysAddr,
     offset: u64,
     len: u64,
     byte: u8,
 ) -> Answer
-    requires { ⌜ 92 ≤ length (now words) ⌝ }
-    ensures { λ r. ⌜ Leaves (boardIn (now (words .entry))) (worldOf (stateWith counters (now (words .entry))) (now (records .entry)) (now (memory .entry)) (now (queue .entry))) (Fill (pa .0) offset len byte) (worldOf (stateWith counters (now (words .entry))) (now (records .exit)) (now (memory .exit)) (now (queue .entry))) r ⌝ }
+    requires { ⌜ TableIn (now words) (now records) ⌝ }
+    requires { ⌜ RoomIn (now words) (now memory) ⌝ }
+    ensures { λ r. ⌜ Writes (Fill (pa .0) offset len byte) (now (words .entry))
+        (now (records .entry)) (now (memory .entry))
+        (now (records .exit)) (now (memory .exit)) r ⌝ }
 {
-    let exam = exam::examine(
-        counters,
-        words,
-        records,
-        memory.len(),
-        queue.len(),
-        pa,
-        offset,
-        len,
-    );
+    let exam = exam::look(words, records, pa, offset, len);
     let number = exam.number;
     if number != 0 {
         return exam::refused(number);
@@ -126,29 +84,21 @@ pub fn fill(
 
 // 01: the bytes of a frame, from `offset` on, become `bytes`.
 pub fn write(
-    counters: Counters,
     words: &[u64],
     records: &mut [u8],
     memory: &mut [u8],
-    queue: &[u64],
     pa: PhysAddr,
     offset: u64,
     bytes: &[u8],
 ) -> Answer
-    requires { ⌜ 92 ≤ length (now words) ⌝ }
-    ensures { λ r. ⌜ Leaves (boardIn (now (words .entry))) (worldOf (stateWith counters (now (words .entry))) (now (records .entry)) (now (memory .entry)) (now (queue .entry))) (Write (pa .0) offset (now (bytes .entry))) (worldOf (stateWith counters (now (words .entry))) (now (records .exit)) (now (memory .exit)) (now (queue .entry))) r ⌝ }
+    requires { ⌜ TableIn (now words) (now records) ⌝ }
+    requires { ⌜ RoomIn (now words) (now memory) ⌝ }
+    ensures { λ r. ⌜ Writes (Write (pa .0) offset (now (bytes .entry))) (now (words .entry))
+        (now (records .entry)) (now (memory .entry))
+        (now (records .exit)) (now (memory .exit)) r ⌝ }
 {
     let len = bytes.len() as u64;
-    let exam = exam::examine(
-        counters,
-        words,
-        records,
-        memory.len(),
-        queue.len(),
-        pa,
-        offset,
-        len,
-    );
+    let exam = exam::look(words, records, pa, offset, len);
     let number = exam.number;
     if number != 0 {
         return exam::refused(number);

@@ -15,19 +15,16 @@ use Rattle.definition.specs.Refusal.{_when_, lowest}
 use Rattle.definition.specs.Store.{Store, withQueue}
 use Rattle.definition.specs.Tracker.{startsFrame, isHeld}
 use Rattle.definition.specs.Contents.{frameBytes}
-use Rattle.definition.specs.Calls.{Queue, Range, done, leavesFrame, outside, perform}
-use Rattle.definition.specs.World.{World, decode, encode, recordAt}
-use Rattle.definition.specs.Torn.{Sound, sound}
+use Rattle.definition.specs.Calls.{Queue, Range, leavesFrame, outside, perform, step}
+use Rattle.definition.specs.World.{World, recordAt}
 use Rattle.record.specs.Records.{pagesIn}
-use Rattle.audit.proofs.Sheets.{sound-is}
 use Rattle.world.specs.Refusals.{frameRefusal, lower, numberIf, rangeOf, refusalOf}
-use Rattle.world.specs.Tables.{Turned}
-use Rattle.world.proofs.Leaving.{left-by, sound-table, unwritten}
 use Rattle.world.proofs.Refusing.{queue-refused}
-use Rattle.world.proofs.RoundTrip.{decode-stands}
 use Rattle.exam.specs.declared.Exam.{Exam}
-use Rattle.exam.specs.Promise.{Examined, Leaves, bytesIf}
-use Rattle.exam.proofs.Promises.{Small, examined-bytes, examined-none, examined-refused, examined-sound, leaves-done, leaves-refused, refusedBy}
+use Rattle.exam.specs.Making.{Made, Whole}
+use Rattle.exam.specs.Promise.{Looks, bytesIf}
+use Rattle.exam.proofs.Making.{looked-bytes, looked-refusal, looked-refused, made-left, made-refused, unturned, unwritten}
+use Rattle.exam.proofs.Promises.{doneBy, refusedBy}
 
 module _ (board : Board) where
   -- the refusals of a frame are below a full queue's
@@ -60,61 +57,46 @@ queuedIn w a =
       queue = set (w .queue) (w .queued) a;
     }
 
-module _ {board : Board} where
-  module _ (w : World) (S : Sound board w) where
-    queue-length : length (decode board w .queue) ≡ w .queued
-    queue-length = let d = decode-stands w S in ap length (d .queue) ∙ length-take-le (w .queued) (w .queue) (d .queued)
+module _ {board : Board} {w : World} {s : Store} (H : Whole board w s) {a : ℕ} {r : Exam}
+    (L : Looks board (recordAt (w .records)) (pagesIn (w .records)) (w .rows) a 0 0 r)
+  where
+    queue-length : length (s .queue) ≡ w .queued
+    queue-length = ap length (H .stands .queue) ∙ length-take-le (w .queued) (w .queue) (H .stands .queued)
 
-    unturned : Turned board (recordAt (w .records)) (w .rows) (recordAt (w .records)) (pagesIn (w .records)) (w .rows) (decode board w .allocator)
-    unturned = record { table = sound-table w S; spans = refl; outside = λ q h. refl }
-
-    queued-encode : Small w → (a : ℕ) → w .queued < length (w .queue)
-        → encode board (withQueue (decode board w) (decode board w .queue ++ (a ∷ []))) w ≡ queuedIn w a
-    queued-encode small a h =
-        let d = decode-stands w S in
-        let q = w .queued in
-        let e : take (q + 1) (set (w .queue) q a) ≡ take q (w .queue) ++ (a ∷ []) = rw add-one (take-suc-set (w .queue) q a h) in
-        left-by w S (withQueue (decode board w) (decode board w .queue ++ (a ∷ []))) (queuedIn w a) unturned refl small small (unwritten w S)
-        (d .counters)
-        (d .pass)
-        (ap (λ (l : List ℕ). l ++ (a ∷ [])) (d .queue) ∙ sym e)
-        (omega (arith, length-set (w .queue) q a))
-        (d .room ∙ sym (length-set (w .queue) q a))
-        (drop-set-lt (q + 1) (w .queue) q a (omega arith))
-
-  module _ (w : World) (a : ℕ) (r : Exam) (E : Examined board w a 0 0 r) (small : Small w) where
     -- the frame's refusal
-    pub queue-kept : (r .number ≡ 0 → ⊥) → Leaves board w (Queue a) w (refusedBy (r .number))
-    queue-kept d =
-        examined-refused E (Queue a) small
-        (λ t. queue-refused board (decode board w) a
-        ∙ lower-first (frameRefusal board (decode board w) (rangeOf a 0 0)) (leb (decode board w .room) (length (decode board w .queue)))
-        (λ z. d (E .number t ∙ z))
-        (frame-below board (decode board w) (rangeOf a 0 0)))
+    pub queue-refuses : (r .number ≡ 0 → ⊥) → Made board (step board s (Queue a)) w w (refusedBy (r .number))
+    queue-refuses d =
+        looked-refused H L (Queue a)
+        (queue-refused board s a
+        ∙ lower-first (frameRefusal board s (rangeOf a 0 0)) (leb (s .room) (length (s .queue))) (λ z. d (sym (looked-refusal H L) ∙ z))
+        (frame-below board s (rangeOf a 0 0)))
         d
 
     module _ (z : r .number ≡ 0) where
-      abbrev t : sound board w ≡ true
-      t = examined-sound E z
-
-      abbrev S : Sound board w
-      S = sound-is board w t
-
-      refusal-is : (full : Bool) → leb (length (w .queue)) (w .queued) ≡ full → refusalOf board (decode board w) (Queue a) ≡ cond full 16 0
-      refusal-is full e =
-          queue-refused board (decode board w) a ∙ rw (examined-none E z, decode-stands w S .room, queue-length w S, e) refl
+      refusal-is : (full : Bool) → leb (length (w .queue)) (w .queued) ≡ full → refusalOf board s (Queue a) ≡ cond full 16 0
+      refusal-is full e = queue-refused board s a ∙ rw (looked-refusal H L ∙ z, H .stands .room, queue-length, e) refl
 
       -- no place is left
-      pub queue-full : length (w .queue) ≤ w .queued → Leaves board w (Queue a) w (refusedBy 16)
-      queue-full h = leaves-refused w (Queue a) small t 16 (refusal-is true (le-leb _ _ h)) (λ e. omega arith)
+      pub queue-full : length (w .queue) ≤ w .queued → Made board (step board s (Queue a)) w w (refusedBy 16)
+      queue-full h = made-refused H (Queue a) 16 (refusal-is true (le-leb _ _ h)) (λ e. omega arith)
 
-      pub queue-done : w .queued < length (w .queue)
-          → Leaves board w (Queue a) (queuedIn w a) (record { number = 0; address = a; bytes = bytesIf board (r .seen) })
+      pub queue-made
+          : w .queued < length (w .queue) → Made board (step board s (Queue a)) w (queuedIn w a) (doneBy a (bytesIf board (r .seen)))
       unfolding perform
-      queue-done h =
-          rw (← examined-bytes E z)
-          (leaves-done w (Queue a) t (refusal-is false (lt-leb _ _ h))
-          (done (withQueue (decode board w) (decode board w .queue ++ (a ∷ []))) a (frameBytes board (decode board w) (a / board .page)))
-          (queuedIn w a)
+      queue-made h =
+          let S = H .stands in
+          let q = w .queued in
+          let e : take (q + 1) (set (w .queue) q a) ≡ take q (w .queue) ++ (a ∷ []) = rw add-one (take-suc-set (w .queue) q a h) in
+          rw (← looked-bytes H L z)
+          (made-left H (withQueue s (s .queue ++ (a ∷ []))) (queuedIn w a) (unturned H) refl (H .bytes) (unwritten H)
+          (S .counters)
+          (S .pass)
+          (ap (λ (l : List ℕ). l ++ (a ∷ [])) (S .queue) ∙ sym e)
+          (omega (arith, length-set (w .queue) q a))
+          (S .room ∙ sym (length-set (w .queue) q a))
+          (Queue a)
+          a
+          (frameBytes board s (a / board .page))
+          (refusal-is false (lt-leb _ _ h))
           refl
-          (queued-encode w S small a h))
+          (drop-set-lt (q + 1) (w .queue) q a (omega arith)))

@@ -27,14 +27,12 @@ use Rattle.definition.specs.Tracker.{
   countFree,
   freeFrame,
   freeOrDrop,
-  freedFrame,
   isHeld,
   oneMore,
   reclaimUpTo,
   startsFrame,
 }
 use Rattle.definition.specs.Calls.{leavesFrame}
-use Rattle.definition.specs.World.{frameOf}
 use Rattle.level.proofs.Sizes.{size-most}
 use Rattle.world.specs.Refusals.{frameRefusal, numberIf, rangeOf}
 use Rattle.world.specs.Tables.{Sane, Turned}
@@ -43,9 +41,10 @@ use Rattle.allocator.specs.Spots.{Sees, TurnsBy, freeAt}
 use Rattle.allocator.proofs.Standing.{sane-table, standing}
 use Rattle.allocator.proofs.Turning.{sees-number}
 use Rattle.exam.specs.declared.Exam.{Exam}
-use Rattle.exam.specs.Promise.{State, HeldSeen, Looks}
-use Rattle.exam.proofs.Tests.{frame-seen, seen-admitted, seen-held, seen-managed}
+use Rattle.exam.specs.Promise.{State, Looks}
+use Rattle.exam.proofs.Tests.{frame-seen, seen-managed}
 use Rattle.frames.specs.Freeing.{Released}
+use Rattle.frames.proofs.Promised.{free-store}
 use Rattle.reclaim.specs.Rounds.{IsOf, Reclaims}
 
 -- ---- the queue's last address
@@ -101,26 +100,11 @@ module _ (board : Board) where
         one-fails managed (startsFrame board s a) (isHeld board s a) (leavesFrame board s (rangeOf a 0 0))
         (le-ltb (frameBytes board s (a / board .page)) 0 (omega arith)) d
 
--- ---- the frame of what was seen
-
-frame-some : (x : Record) → x .marks % 2 ≡ 1
-    → frameOf x
-    ≡ some (record { level = x .level; allocated = eqb (x .marks / 2 % 2) 1; zeroed = eqb (x .marks / 4 % 2) 1; kernel = eqb (x .marks / 8 % 2) 1 })
-unfolding frameOf
-frame-some x e = rw e refl
+-- ---- the store that a free leaves, by what was seen
 
 module _ (board : Board) where
   abbrev freedOf : Store → ℕ → Seen → Store
   freedOf s p r = withCounters (withAllocator s (freeAt board p (s .allocator))) (countFree (size (r .level)) (eqb (r .marks / 8 % 2) 1) (s .counters))
-
-module _ {board : Board} where
-  freed-store
-      : {f : ℕ → Record} {rows : List Row} (s : Store) (p : ℕ) (r : Seen) → Sees board f rows p (s .allocator) r → r .managed ≡ true → r .marks % 2 ≡ 1
-      → freeFrame board s p ≡ freedOf board s p r
-  unfolding freeFrame
-  freed-store {f} s p r S m d =
-      let e : f (r .spot .page) .marks % 2 ≡ 1 = sym (ap (λ (k : ℕ). k % 2) (S .marks m)) ∙ d in
-      ap (freedFrame board s p) (S .frame m ∙ frame-some (f (r .spot .page)) e) ∙ rw (S .marks m, S .level m) refl
 
 -- ---- the turns so far
 
@@ -231,10 +215,10 @@ module _ {board : Board} where
 
             module _ (z : r .number ≡ 0) where
               seen-is-managed : r .seen .managed ≡ true
-              seen-is-managed = seen-managed u a 0 0 (r .seen) sees (L .leveled) (r .number) (L .number) z
+              seen-is-managed = seen-managed a 0 0 (r .seen) sees (L .leveled) (r .number) (L .number) z
 
               freed-is : freeFrame board u (a / board .page) ≡ freedOf board u (a / board .page) (r .seen)
-              freed-is = freed-store u (a / board .page) (r .seen) sees seen-is-managed (seen-admitted u a 0 0 (r .seen) sees (L .leveled) (r .number) (L .number) z)
+              freed-is = free-store u (a / board .page) sees seen-is-managed (L .held z)
 
               went-free : {g : ℕ → Record} {next2 : State} → Released board f (offEnd next) (r .seen) g n next2 → Went board f₀ n st places limit g next2 (freed + 1) (i + 1) s
               went-free {g} {next2} R =
@@ -343,13 +327,6 @@ module _ {board : Board} where
                 went = λ s I. went-drop (G .went s I) h some-left r L d;
               }
 
-          -- what a free of the frame requires
-          pub going-held : r .number ≡ 0 → HeldSeen board f (next .rows) (r .seen)
-          going-held z =
-              let a = getD places (next .queued - 1) 0 in
-              let s : Store = record { allocator = standing board f (next .rows); memory = λ p. 0; counters = next .counters; queue = []; room = 0; pass = next .pass } in
-              seen-held s a 0 0 (r .seen) (L .sees (standing board f (next .rows)) (sane-table (G .sane))) (L .leveled) (r .number) (L .number) z
-
           pub going-free
               : r .number ≡ 0 → {g : ℕ → Record} {next2 : State} → Released board f (offEnd next) (r .seen) g n next2
               → Going board f₀ st places limit g n next2 (freed + 1) (i + 1)
@@ -362,6 +339,6 @@ module _ {board : Board} where
                 queued = omega (arith, G .queued, R .queued);
                 within = G .within;
                 pass = R .pass ∙ G .pass;
-                idle = omega (arith, G .idle, e, size-most (going-held z .leveled));
+                idle = omega (arith, G .idle, e, size-most (L .held z .leveled));
                 went = λ s I. went-free (G .went s I) h some-left r L z R;
               }

@@ -1,64 +1,43 @@
-// The reclaim queue and its rounds, after tracker.rs's reclaim_main. Each call promises definition's `call` of the words and loans that it is given.
+// The reclaim queue and its rounds, after tracker.rs's reclaim_main. Each call is lent what it reads and writes and promises definition's `step`
+// (exam/specs/Making.antt).
 use address::PhysAddr;
 use definition::Counters;
 use definition::Pass;
+use exam::Answer;
 use exam::Outcome;
 ghost use Prim.Native.Nat.{_<_, _≤_, _^_};
 ghost use lib.ListN.{length};
 ghost use Rattle.definition.specs.Calls.{Queue, Round};
 ghost use Rattle.definition.specs.World.{recordAt};
 ghost use Rattle.record.specs.Records.{pagesIn};
-ghost use Rattle.words.specs.Words.{boardIn, queuedIn, Beside};
-ghost use Rattle.allocator.specs.Spots.{SaneIn};
-ghost use Rattle.exam.specs.Promise.{stateWith, worldOf, Leaves};
+ghost use Rattle.words.specs.Words.{boardIn, keptWords, queuedIn, Beside};
+ghost use Rattle.exam.specs.Promise.{stateWith};
+ghost use Rattle.exam.specs.Making.{TableIn, Few, PassIn, Queues, Rounds};
 ghost use Rattle.reclaim.specs.Rounds.{Reclaims, EndsPass};
 
 // ---- the reclaim queue and its rounds
 
 // An address goes to the queue's end.
-pub fn queue(
-    counters: Counters,
-    words: &mut [u64],
-    records: &[u8],
-    memory: &[u8],
-    queue: &mut [u64],
-    pa: PhysAddr,
-) -> Outcome
-    requires { ⌜ 92 ≤ length (now words) ⌝ }
-    ensures { λ r. ⌜ Leaves (boardIn (now (words .entry))) (worldOf (stateWith counters (now (words .entry))) (now (records .entry)) (now (memory .entry)) (now (queue .entry))) (Queue (pa .0)) (worldOf (stateWith (r .counters) (now (words .exit))) (now (records .entry)) (now (memory .entry)) (now (queue .exit))) (r .answer) ⌝ }
+pub fn queue(words: &mut [u64], records: &[u8], queue: &mut [u64], pa: PhysAddr) -> Answer
+    requires { ⌜ TableIn (now words) (now records) ⌝ }
+    ensures { λ r. ⌜ Queues (Queue (pa .0))
+        (now (words .entry)) (now (records .entry)) (now (queue .entry))
+        (now (words .exit)) (now (queue .exit)) r ⌝ }
     ensures { λ _. ⌜ Beside (now (words .entry)) (now (words .exit)) ⌝ }
 {
-    let exam = exam::examine(
-        counters,
-        words,
-        records,
-        memory.len(),
-        queue.len(),
-        pa,
-        0,
-        0,
-    );
+    let exam = exam::look(words, records, pa, 0, 0);
     let number = exam.number;
     if number != 0 {
-        return Outcome {
-            counters,
-            answer: exam::refused(number),
-        };
+        return exam::refused(number);
     }
     let last = words::queued_in(words);
     if queue.len() <= last {
-        return Outcome {
-            counters,
-            answer: exam::refused(16),
-        };
+        return exam::refused(16);
     }
     let board = words::board_in(words);
     queue[last] = pa.raw();
     words::put_queued(words, last + 1);
-    Outcome {
-        counters,
-        answer: exam::done(pa.raw(), exam::frame_bytes(board, exam.seen)),
-    }
+    exam::done(pa.raw(), exam::frame_bytes(board, exam.seen))
 }
 
 pub struct Reclaimed {
@@ -74,9 +53,12 @@ fn reclaim_up_to(
     queue: &[u64],
     limit: usize,
 ) -> Reclaimed
-    requires { ⌜ (92 ≤ length (now words)) × SaneIn (now records) (now words) ⌝ }
+    requires { ⌜ TableIn (now words) (now records) ⌝ }
     requires { ⌜ (queuedIn (now words) ≤ length (now queue)) × (counters .idle < 2 ^ 62) × (limit ≤ 1000) ⌝ }
-    ensures { λ r. ⌜ Reclaims (boardIn (now (words .entry))) (recordAt (now (records .entry))) (stateWith counters (now (words .entry))) (now (queue .entry)) limit (recordAt (now (records .exit))) (pagesIn (now (records .exit))) (record { state = stateWith (r .counters) (now (words .exit)); freed = r .freed }) ⌝ }
+    ensures { λ r. ⌜ Reclaims (boardIn (now (words .entry)))
+        (recordAt (now (records .entry))) (stateWith counters (now (words .entry))) (now (queue .entry)) limit
+        (recordAt (now (records .exit))) (pagesIn (now (records .exit)))
+        (record { state = stateWith (r .counters) (now (words .exit)); freed = r .freed }) ⌝ }
     ensures { λ _. ⌜ Beside (now (words .entry)) (now (words .exit)) ⌝ }
 {
     let mut next = counters;
@@ -106,23 +88,15 @@ fn reclaim_up_to(
 }
 
 // reclaim_main, tracker.rs 419 to 457: one turn of its loop; a call that finds the store not low, or that goes past the round limit, ends the pass.
-pub fn round(
-    counters: Counters,
-    words: &mut [u64],
-    records: &mut [u8],
-    memory: &[u8],
-    queue: &[u64],
-) -> Outcome
-    requires { ⌜ 92 ≤ length (now words) ⌝ }
-    ensures { λ r. ⌜ Leaves (boardIn (now (words .entry))) (worldOf (stateWith counters (now (words .entry))) (now (records .entry)) (now (memory .entry)) (now (queue .entry))) (Round) (worldOf (stateWith (r .counters) (now (words .exit))) (now (records .exit)) (now (memory .entry)) (now (queue .entry))) (r .answer) ⌝ }
+pub fn round(counters: Counters, words: &mut [u64], records: &mut [u8], queue: &[u64]) -> Outcome
+    requires { ⌜ TableIn (now words) (now records) ⌝ }
+    requires { ⌜ Few counters ⌝ }
+    requires { ⌜ PassIn (now words) (now queue) ⌝ }
+    ensures { λ r. ⌜ Rounds Round
+        counters (now (words .entry)) (now (records .entry)) (now (queue .entry))
+        (r .counters) (now (words .exit)) (now (records .exit)) (r .answer) ⌝ }
     ensures { λ _. ⌜ Beside (now (words .entry)) (now (words .exit)) ⌝ }
 {
-    if !exam::is_sound(counters, words, records, memory.len(), queue.len()) {
-        return Outcome {
-            counters,
-            answer: exam::refused(6),
-        };
-    }
     let board = words::board_in(words);
     let before = words::pass_in(words);
     if !tracker::should_reclaim(board, counters) {
@@ -146,8 +120,9 @@ pub fn round(
 
 // tracker.rs 457: what the pass freed is counted, and the next pass begins at 0.
 fn end_pass(counters: Counters, words: &mut [u64], pass: Pass) -> Outcome
-    requires { ⌜ 92 ≤ length (now words) ⌝ }
-    ensures { λ r. ⌜ EndsPass (stateWith counters (now (words .entry))) pass (record { state = stateWith (r .counters) (now (words .exit)); answer = r .answer }) ⌝ }
+    requires { ⌜ keptWords ≤ length (now words) ⌝ }
+    ensures { λ r. ⌜ EndsPass (stateWith counters (now (words .entry))) pass
+        (record { state = stateWith (r .counters) (now (words .exit)); answer = r .answer }) ⌝ }
     ensures { λ _. ⌜ Beside (now (words .entry)) (now (words .exit)) ⌝ }
 {
     let none = Pass {

@@ -24,7 +24,8 @@ use Rattle.definition.specs.World.{World, decode}
 use Rattle.exam.specs.declared.Answer.{Answer as Told}
 use Rattle.exam.specs.Promise.{told}
 use Rattle.counts.specs.declared.Report.{Report}
-use Rattle.counts.specs.Counting.{Reports, textOf}
+use Rattle.counts.specs.Counting.{textOf}
+use Rattle.door.specs.Tested.{Reports}
 use Rattle.lines.specs.declared.Ask.{Ask}
 use Rattle.lines.specs.declared.Ask.the-variants as A
 use Rattle.lines.specs.Reading.{callOf}

@@ -18,7 +18,7 @@ use Rattle.definition.specs.Torn.{bootCall, call}
 use Rattle.definition.specs.World.{World}
 use Rattle.boot.specs.Booting.{Boots, BootsAll}
 use Rattle.counts.specs.declared.Report.{Report}
-use Rattle.counts.specs.Counting.{Reports}
+use Rattle.door.specs.Tested.{Reports}
 use Rattle.exam.specs.declared.Answer.{Answer}
 use Rattle.exam.specs.Promise.{State, Leaves}
 use Rattle.lines.specs.declared.Ask.{Ask as Op}

@@ -224,7 +224,7 @@ fn stats_now(
     if !running.booted {
         return bad(running, answer, at);
     }
-    let report = counts::stats(running.counters, words, records, memory, queue);
+    let report = door::stats(running.counters, words, records, memory, queue);
     if report.number != 0 {
         let at = put_line(answer, at, Op::Stats, exam::refused(report.number));
         return Turn { running, at };
@@ -254,7 +254,7 @@ fn call_now(
     if !running.booted {
         return bad(running, answer, at);
     }
-    let o = calls::ask(running.counters, words, records, memory, queue, op, n);
+    let o = door::ask(running.counters, words, records, memory, queue, op, n);
     let y = o.answer;
     let at = put_line(answer, at, Op::Call(op), y);
     let map = running.map;

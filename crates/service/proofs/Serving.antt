@@ -27,9 +27,9 @@ use Rattle.exam.specs.declared.Answer.{Answer}
 use Rattle.exam.specs.Promise.{stateWith, worldOf, Leaves, told}
 use Rattle.boot.specs.Booting.{Boots as BootsOf, BootsOver}
 use Rattle.copies.specs.declared.Place.{Place}
-use Rattle.copies.specs.Copies.{Finds}
 use Rattle.counts.specs.declared.Report.{Report}
-use Rattle.counts.specs.Counting.{Reports as ReportsOf, textOf}
+use Rattle.counts.specs.Counting.{textOf}
+use Rattle.door.specs.Tested.{Finds, Reports as ReportsOf}
 use Rattle.service.specs.Serving.{
   Lent,
   Served,

@@ -91,7 +91,7 @@ pub fn serve_with(
             number: 6,
         };
     }
-    let o = calls::ask(counters, words, records, memory, queue, op, n);
+    let o = door::ask(counters, words, records, memory, queue, op, n);
     let left = o.counters;
     let number = tell(answer, o.answer);
     Counted {
@@ -141,7 +141,7 @@ pub fn serve_find(
         return 6;
     }
     let counters = words::counters_in(words);
-    let y = frames::find(counters, words, records, memory, queue, pa);
+    let y = door::find(counters, words, records, memory, queue, pa);
     tell(answer, y)
 }
 
@@ -160,7 +160,7 @@ pub fn serve_free(
         return 6;
     }
     let counters = words::counters_in(words);
-    let o = frames::free(counters, words, records, memory, queue, pa);
+    let o = door::free(counters, words, records, memory, queue, pa);
     let left = o.counters;
     words::put_counters(words, left);
     tell(answer, o.answer)
@@ -183,7 +183,7 @@ pub fn serve_alloc(
         return 6;
     }
     let counters = words::counters_in(words);
-    let o = grants::alloc(
+    let o = door::alloc(
         counters,
         words,
         records,
@@ -217,7 +217,7 @@ pub fn serve_write_with(
     if !is_lent_kept(words, answer) {
         return 6;
     }
-    let y = ranges::write(counters, words, records, memory, queue, pa, offset, bytes);
+    let y = door::write(counters, words, records, memory, queue, pa, offset, bytes);
     tell(answer, y)
 }
 
@@ -267,7 +267,7 @@ pub fn serve_read_with(
     if !is_lent_kept(words, answer) {
         return 6;
     }
-    let place = copies::read_place(counters, words, records, memory, queue, pa, offset, len);
+    let place = door::read_place(counters, words, records, memory, queue, pa, offset, len);
     tell(
         answer,
         Answer {
@@ -325,7 +325,7 @@ pub fn serve_stats_with(
     if !is_lent_kept(words, answer) {
         return 6;
     }
-    let report = counts::stats(counters, words, records, memory, queue);
+    let report = door::stats(counters, words, records, memory, queue);
     let told = report.text;
     let len = report.len;
     text::put_text(text, 0, &told[..len]);

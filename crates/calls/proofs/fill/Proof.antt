@@ -9,8 +9,8 @@ array-read-byte-of c = search needs
 byte-of-requires : tie.Need-byte-of-requires
 byte-of-requires c κs = search needs
 
-array-read-t11 : tie.Need-array-read-t11
-array-read-t11 c = search needs
+array-read-t9 : tie.Need-array-read-t9
+array-read-t9 c = search needs
 
 array-read-fill : tie.Need-array-read-fill
 array-read-fill c = search needs
@@ -28,7 +28,9 @@ same-length-2 : tie.Need-same-length-2
 same-length-2 c = search needs
 
 returns : tie.Need-returns
-returns c = rw (c .before .before .before .before .before .before .before .byte-of .ensures) at (c .before .before .before .before .fill .ensures)
+returns c =
+    let x = c .before .before .before .before in
+    rw (x .before .before .before .byte-of .ensures) at (x .fill .ensures)
 
 pub fill-spec : {M : Type 1} → statement M
 fill-spec =
@@ -36,7 +38,7 @@ fill-spec =
     (tie.spec
     array-read-byte-of
     byte-of-requires
-    array-read-t11
+    array-read-t9
     array-read-fill
     array-read-fill-2
     fill-requires

@@ -5,13 +5,16 @@ use native.Mathlib.Omega.{arith}
 use borrow.Author.Needs.{needs}
 use borrow.Author.Tests.{not-true, not-false}
 use Rattle.words.specs.Words.{boardIn}
-use Rattle.world.proofs.RoundTrip.{round-trip}
 use Rattle.allocator.specs.Spots.{numberIn}
-use Rattle.exam.specs.Promise.{stateWith, worldOf}
 use Rattle.ranges.proofs.Held.{held-read}
 use Rattle.copies.proofs.Copying.{both-zeroed, from-dirty, from-zeroed}
+use Rattle.copies.proofs.Writing.{written-same}
 use Rattle.copies.proofs.copy_contents_from.Statement.{statement}
 use Rattle.copies.proofs.copy_contents_from.Tie as tie
+
+-- the place that the proof starts from
+abbrev start : tie.After-is-zeroed → tie.Start
+start z = z .before .before .before .before
 
 is-zeroed-requires : tie.Need-is-zeroed-requires
 is-zeroed-requires c κs = search needs
@@ -21,8 +24,9 @@ place-requires c κs = search needs
 
 move-into-requires : tie.Need-move-into-requires
 move-into-requires c κs =
-    let s = c .before .before .before .before .before .before .before .before .before in
-    (s .pre .0, (s .pre .1 .0, omega (arith, s .pre .1 .1 .ends, c .before .before .place .ensures)))
+    let p = c .before .before in
+    let s = start (p .before .before .before) in
+    (s .pre .0, (s .pre .1 .0, omega (arith, s .pre .1 .1 .ends, p .place .ensures)))
 
 same-length : tie.Need-same-length
 same-length c = search needs
@@ -31,29 +35,29 @@ same-length-2 : tie.Need-same-length-2
 same-length-2 c = search needs
 
 returns : tie.Need-returns
-returns c n queue S =
-    let k = c .before .before .before .before .before .before .before .before .before .before .before .before in
-    let s = k .before .before in
-    let w = worldOf (stateWith n (s .args .words .now)) (s .args .records .now) (s .args .memory .now) queue in
-    let z = c .before .before .before .before .before .before .before .before .before .before .is-zeroed in
-    let P = s .pre .1 .0 in
-    let Q = s .pre .1 .1 in
-    rw (from-dirty w S P Q (sym (z .ensures) ∙ not-true (z .result) (c .before .before .before .before .before .before .before .before .before .if1 .taken)))
-    (c .before .before .before .before .move-into .ensures n queue S (boardIn (s .args .words .now) .page * numberIn (s .args .words .now) (s .args .from .spot) + s .args .from-offset)
-    (rw (c .before .before .before .before .before .before .before .place .ensures) (held-read S (Q .held) refl (s .args .from-offset) (s .args .len) (Q .range))))
+returns c k q s H =
+    let x = c .before .before .before .before in
+    let p = x .before .before .before in
+    let t = p .before .before in
+    let z = t .before .is-zeroed in
+    let b = start (t .before) in
+    let a = b .args in
+    rw (from-dirty H (b .pre .1 .0) (b .pre .1 .1) (sym (z .ensures) ∙ not-true (z .result) (t .if1 .taken)))
+    (x .move-into .ensures k q s H (boardIn (a .words .now) .page * numberIn (a .words .now) (a .from .spot) + a .from-offset)
+    (rw (p .place .ensures) (held-read H (b .pre .1 .1 .held) refl (a .from-offset) (a .len) (b .pre .1 .1 .range))))
 
 is-zeroed-requires-2 : tie.Need-is-zeroed-requires-2
 is-zeroed-requires-2 c κs = search needs
 
 returns-2 : tie.Need-returns-2
-returns-2 c n queue S =
-    let k = c .before .before .before .before .before in
-    let s = k .before .before in
-    let w = worldOf (stateWith n (s .args .words .now)) (s .args .records .now) (s .args .memory .now) queue in
-    let z = c .before .before .before .is-zeroed in
+returns-2 c k q s H =
+    let e = c .before .before in
+    let z = e .before .is-zeroed in
     let y = c .before .is-zeroed2 in
-    rw (both-zeroed w S (s .pre .1 .0) (s .pre .1 .1) (sym (z .ensures) ∙ not-false (z .result) (c .before .before .if1 .left)) (sym (y .ensures) ∙ c .if2 .taken))
-    (round-trip w S (λ i. k .slice-known .given i .fits))
+    let b = start (e .before) in
+    let from = sym (z .ensures) ∙ not-false (z .result) (e .if1 .left) in
+    rw (both-zeroed H (b .pre .1 .0) (b .pre .1 .1) from (sym (y .ensures) ∙ c .if2 .taken))
+    (written-same H)
 
 zero-range-requires : tie.Need-zero-range-requires
 zero-range-requires c κs = search needs
@@ -65,14 +69,16 @@ same-length-4 : tie.Need-same-length-4
 same-length-4 c = search needs
 
 returns-3 : tie.Need-returns-3
-returns-3 c n queue S =
-    let k = c .before .before .before .before .before .before .before .before .before .before .before .before in
-    let s = k .before .before in
-    let w = worldOf (stateWith n (s .args .words .now)) (s .args .records .now) (s .args .memory .now) queue in
-    let z = c .before .before .before .before .before .before .before .before .before .before .is-zeroed in
-    let y = c .before .before .before .before .before .before .before .before .is-zeroed2 in
-    rw (from-zeroed w S (s .pre .1 .0) (s .pre .1 .1) (sym (z .ensures) ∙ not-false (z .result) (c .before .before .before .before .before .before .before .before .before .if1 .left)) (sym (y .ensures) ∙ c .before .before .before .before .before .before .before .if2 .left))
-    (c .before .before .before .before .zero-range .ensures n queue S)
+returns-3 c k q s H =
+    let x = c .before .before .before .before in
+    let f = x .before .before .before in
+    let e = f .before .before in
+    let z = e .before .is-zeroed in
+    let y = f .before .is-zeroed2 in
+    let b = start (e .before) in
+    let from = sym (z .ensures) ∙ not-false (z .result) (e .if1 .left) in
+    rw (from-zeroed H (b .pre .1 .0) (b .pre .1 .1) from (sym (y .ensures) ∙ f .if2 .left))
+    (x .zero-range .ensures k q s H)
 
 pub copy-contents-from-spec : {M : Type 1} → statement M
 copy-contents-from-spec =

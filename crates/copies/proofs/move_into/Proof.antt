@@ -1,12 +1,13 @@
 -- The bytes are moved, and the mark is cleared; the frame keeps its own KERNEL.
-use mathlib.Core.Bool.{false}
 use borrow.Author.Needs.{needs}
-use Rattle.words.specs.Words.{boardIn}
-use Rattle.exam.specs.Promise.{stateWith, worldOf}
-use Rattle.ranges.proofs.Marking.{Remarked}
+use Rattle.exam.proofs.Making.{bytes-small}
 use Rattle.copies.proofs.Writing.{moved-into}
 use Rattle.copies.proofs.move_into.Statement.{statement}
 use Rattle.copies.proofs.move_into.Tie as tie
+
+-- the place that the proof starts from
+abbrev start : tie.After-place → tie.Start
+start p = p .before .before .before .before .before
 
 place-requires : tie.Need-place-requires
 place-requires c κs = search needs
@@ -27,20 +28,19 @@ same-length-2 : tie.Need-same-length-2
 same-length-2 c = search needs
 
 returns : tie.Need-returns
-returns c n queue S a e =
-    let k = c .before .before .before .before .before .before .before .before .before .before .before .before in
-    let s = k .before .before in
-    let w = worldOf (stateWith n (s .args .words .now)) (s .args .records .now) (s .args .memory .now) queue in
-    let d = c .before .before .set-marks in
-    let M : Remarked (boardIn (s .args .words .now)) w (s .args .to) false (c .before .before .before .is-kernel .result) (d .last .1 .0) =
-    record {
-      own = c .before .before .before .is-kernel .ensures;
-      turns = d .ensures;
-      as-long = d .kept .1 .0;
-      before = λ i. k .slice-known .given i .fits;
-      after = λ i. c .slice-known4 .given i .fits;
-    } in
-    rw (c .before .before .before .before .before .before .before .copy .ensures, c .before .before .before .before .before .before .before .before .before .place .ensures) (moved-into S (s .pre .1 .0) M (s .args .from) a e)
+returns c k q s H a e =
+    let x = c .before .before in
+    let d = x .before .before .before .before .before in
+    let p = d .before .before in
+    rw (d .copy .ensures, p .place .ensures)
+    (moved-into H (start p .pre .1 .0)
+    (record {
+      own = x .before .is-kernel .ensures;
+      turns = x .set-marks .ensures;
+      as-long = x .set-marks .kept .1 .0;
+      after = bytes-small (x .set-marks .last .1 .0) (c .slice-known4 .given);
+    })
+    (start p .args .from) a e)
 
 pub move-into-spec : {M : Type 1} → statement M
 move-into-spec =

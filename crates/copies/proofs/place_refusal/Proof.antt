@@ -22,20 +22,29 @@ past-end a b = rw (a, b) refl
 no-refusal : {m h : Bool} → m ≡ true → h ≡ false → 0 ≡ number m h
 no-refusal a b = rw (a, b) refl
 
-managed : (c : tie.After-spot) → c .before .before .before .before .before .args .seen .managed ≡ true
-managed c = not-false (c .before .before .before .before .before .args .seen .managed) (c .before .before .if1 .left)
+-- the places that the proof starts from
+abbrev start : tie.After-spot → tie.Start
+start s = s .before .before .before .before .before
 
-inward : (c : tie.After-spot) → let a = c .before .before .before .before .before .args in Inward (boardIn (a .words .now)) (rowsIn (a .words .now)) (a .seen) (a .pa .0)
-inward c = c .before .before .before .before .before .pre .1 (managed c)
+abbrev spotted : tie.After-page-number → tie.After-spot
+spotted n = n .before .before .before
+
+managed : (s : tie.After-spot) → start s .args .seen .managed ≡ true
+managed s = not-false (start s .args .seen .managed) (s .before .before .if1 .left)
+
+inward : (s : tie.After-spot) → let a = start s .args in Inward (boardIn (a .words .now)) (rowsIn (a .words .now)) (a .seen) (a .pa .0)
+inward s = start s .pre .1 (managed s)
 
 -- the end as it is computed
 end-is
-    : (c : tie.After-page-number) → let a = c .before .before .before .before .before .before .before .before .args in
-    c .before .before .before .before .board-in .result .page * (c .page-number .result + c .before .before .row-at .result .pages) ≡ endSeen (boardIn (a .words .now)) (rowsIn (a .words .now)) (a .seen)
-end-is c = rw (c .page-number .ensures, c .before .before .row-at .ensures, c .before .before .before .before .board-in .ensures .0) refl
+    : (n : tie.After-page-number) → let s = n .before .before .before in let a = s .before .before .before .before .before .args in
+    s .before .board-in .result .page * (n .page-number .result + n .before .before .row-at .result .pages)
+    ≡ endSeen (boardIn (a .words .now)) (rowsIn (a .words .now)) (a .seen)
+end-is n = let s = n .before .before .before in rw (n .page-number .ensures, n .before .before .row-at .ensures, s .before .board-in .ensures .0) refl
 
-end-bounded : (c : tie.After-page-number) → c .before .before .before .before .board-in .result .page * (c .page-number .result + c .before .before .row-at .result .pages) ≤ 2 ^ 40
-end-bounded c = rw (end-is c) (inward (c .before .before .before) .bounded)
+end-bounded
+    : (n : tie.After-page-number) → spotted n .before .board-in .result .page * (n .page-number .result + n .before .before .row-at .result .pages) ≤ 2 ^ 40
+end-bounded n = omega (arith, end-is n, inward (spotted n) .bounded)
 
 returns : tie.Need-returns
 returns c = search needs
@@ -44,16 +53,17 @@ board-in-requires : tie.Need-board-in-requires
 board-in-requires c κs = search needs
 
 row-at-requires : tie.Need-row-at-requires
-row-at-requires c κs = (c .before .before .before .before .before .pre .0, inward c .index)
+row-at-requires c κs = (start c .pre .0, inward c .index)
 
 page-number-requires : tie.Need-page-number-requires
 page-number-requires c κs = page-positive (c .before .before .before .board-in .ensures .1)
 
 add-end : tie.Need-add-end
 add-end c =
-    let k = c .before in
-    let b = k .before .before .before .before .board-in in
-    omega (arith, pages-bound (b .result .page) {k = 4096} (page-least (b .ensures .1)) (k .page-number .result + k .before .before .row-at .result .pages) (end-bounded k))
+    let n = c .before in
+    let b = spotted n .before .board-in in
+    let pages = n .page-number .result + n .before .before .row-at .result .pages in
+    omega (arith, pages-bound (b .result .page) {k = 4096} (page-least (b .ensures .1)) pages (end-bounded n))
 
 mul-end : tie.Need-mul-end
 mul-end c = omega (arith, end-bounded (c .before .before))
@@ -62,21 +72,23 @@ raw-requires : tie.Need-raw-requires
 raw-requires c κs = search needs
 
 sub-if2 : tie.Need-sub-if2
-sub-if2 c = omega (arith, inward (c .before .before .before .before .before .before) .before, end-is (c .before .before .before), c .raw .ensures)
+sub-if2 c = let n = c .before .before .before in omega (arith, inward (spotted n) .before, end-is n, c .raw .ensures)
 
 returns-2 : tie.Need-returns-2
 returns-2 c =
-    let k = c .before .before .before .before .before .before .before in
-    let a = k .before .before .before .before .before .args in
-    past-end (managed k)
-    (lt-ltb (endSeen (boardIn (a .words .now)) (rowsIn (a .words .now)) (a .seen)) (a .pa .0 + a .len) (omega (arith, inward k .before, end-is (c .before .before .before .before), c .before .raw .ensures)))
+    let n = c .before .before .before .before in
+    let a = start (spotted n) .args in
+    past-end (managed (spotted n))
+    (lt-ltb (endSeen (boardIn (a .words .now)) (rowsIn (a .words .now)) (a .seen)) (a .pa .0 + a .len)
+    (omega (arith, inward (spotted n) .before, end-is n, c .before .raw .ensures)))
 
 returns-3 : tie.Need-returns-3
 returns-3 c =
-    let k = c .before .before .before .before .before .before .before in
-    let a = k .before .before .before .before .before .args in
-    no-refusal (managed k)
-    (le-ltb (endSeen (boardIn (a .words .now)) (rowsIn (a .words .now)) (a .seen)) (a .pa .0 + a .len) (omega (arith, inward k .before, end-is (c .before .before .before .before), c .before .raw .ensures)))
+    let n = c .before .before .before .before in
+    let a = start (spotted n) .args in
+    no-refusal (managed (spotted n))
+    (le-ltb (endSeen (boardIn (a .words .now)) (rowsIn (a .words .now)) (a .seen)) (a .pa .0 + a .len)
+    (omega (arith, inward (spotted n) .before, end-is n, c .before .raw .ensures)))
 
 pub place-refusal-spec : {M : Type 1} → statement M
 place-refusal-spec =

@@ -1,14 +1,17 @@
 -- The bytes are zeroed; where the range is the whole frame, the mark is set too, and the frame keeps its own KERNEL.
-use mathlib.Core.Bool.{true}
-use mathlib.Core.Path.{sym, _∙_}
 use borrow.Author.Needs.{needs}
 use borrow.Author.Tests.{not-true, not-false}
-use Rattle.words.specs.Words.{boardIn}
-use Rattle.exam.specs.Promise.{stateWith, worldOf}
-use Rattle.ranges.proofs.Marking.{Remarked}
+use Rattle.exam.proofs.Making.{bytes-small}
 use Rattle.copies.proofs.Writing.{zero-part, zero-whole}
 use Rattle.copies.proofs.zero_range.Statement.{statement}
 use Rattle.copies.proofs.zero_range.Tie as tie
+
+-- the places that the proof starts from
+abbrev start : tie.After-place → tie.Start
+start p = p .before .before .before .before .before
+
+abbrev placed : tie.After-is-whole → tie.After-place
+placed r = r .before .before .before .before .before .before
 
 place-requires : tie.Need-place-requires
 place-requires c κs = search needs
@@ -26,12 +29,12 @@ same-length : tie.Need-same-length
 same-length c = search needs
 
 returns : tie.Need-returns
-returns c n queue S =
-    let k = c .before .before .before .before .before .before .before .before .before .before in
-    let s = k .before .before in
-    let r = c .before .is-whole in
-    rw (c .before .before .before .before .before .fill .ensures, c .before .before .before .before .before .before .before .place .ensures)
-    (zero-part S (s .pre .1) (λ i. k .slice-known .given i .fits) (sym (rw (c .before .before .board-in .ensures .0) at (r .ensures)) ∙ not-true (r .result) (c .if1 .taken)))
+returns c k q s H =
+    let r = c .before in
+    let p = placed r in
+    let whole = rw (r .before .board-in .ensures .0) at (r .is-whole .ensures) in
+    rw (r .before .before .before .before .fill .ensures, p .place .ensures)
+    (zero-part H (start p .pre .1) whole (not-true (r .is-whole .result) (c .if1 .taken)))
 
 is-kernel-requires : tie.Need-is-kernel-requires
 is-kernel-requires c κs = search needs
@@ -46,22 +49,21 @@ same-length-3 : tie.Need-same-length-3
 same-length-3 c = search needs
 
 returns-2 : tie.Need-returns-2
-returns-2 c n queue S =
-    let k = c .before .before .before .before .before .before .before .before .before .before .before .before .before .before .before in
-    let s = k .before .before in
-    let w = worldOf (stateWith n (s .args .words .now)) (s .args .records .now) (s .args .memory .now) queue in
-    let r = c .before .before .before .before .before .before .is-whole in
-    let d = c .before .before .set-marks in
-    let M : Remarked (boardIn (s .args .words .now)) w (s .args .to) true (c .before .before .before .is-kernel .result) (d .last .1 .0) =
-    record {
-      own = c .before .before .before .is-kernel .ensures;
-      turns = d .ensures;
-      as-long = d .kept .1 .0;
-      before = λ i. k .slice-known .given i .fits;
-      after = λ i. c .slice-known4 .given i .fits;
-    } in
-    rw (c .before .before .before .before .before .before .before .before .before .before .fill .ensures, c .before .before .before .before .before .before .before .before .before .before .before .before .place .ensures)
-    (zero-whole S (s .pre .1) M (sym (rw (c .before .before .before .before .before .before .before .board-in .ensures .0) at (r .ensures)) ∙ not-false (r .result) (c .before .before .before .before .before .if1 .left)))
+returns-2 c k q s H =
+    let x = c .before .before in
+    let e = x .before .before .before in
+    let r = e .before in
+    let p = placed r in
+    let whole = rw (r .before .board-in .ensures .0) at (r .is-whole .ensures) in
+    rw (r .before .before .before .before .fill .ensures, p .place .ensures)
+    (zero-whole H (start p .pre .1)
+    (record {
+      own = x .before .is-kernel .ensures;
+      turns = x .set-marks .ensures;
+      as-long = x .set-marks .kept .1 .0;
+      after = bytes-small (x .set-marks .last .1 .0) (c .slice-known4 .given);
+    })
+    whole (not-false (r .is-whole .result) (e .if1 .left)))
 
 pub zero-range-spec : {M : Type 1} → statement M
 zero-range-spec =

@@ -1,17 +1,22 @@
--- Split, by what `examine` found: the refusal of the frame, or the table that `split_frame` leaves.
-use mathlib.Core.Path.{_≡_, refl}
+-- Split, by what `look` found: the refusal of the frame, or the table that `split_frame` leaves.
 use borrow.Author.Needs.{needs}
-use Rattle.audit.proofs.Sheets.{sound-is}
-use Rattle.words.specs.Words.{boardIn}
-use Rattle.world.proofs.Leaving.{sound-sane}
-use Rattle.exam.specs.Promise.{Examined, stateWith, worldOf}
-use Rattle.exam.proofs.Promises.{examined-held, examined-sound}
-use Rattle.frames.proofs.Promised.{bytes-small, split-leaves, split-refused}
+use Rattle.exam.proofs.Making.{bytes-small}
+use Rattle.frames.proofs.Promised.{split-made, split-refused}
 use Rattle.frames.proofs.split.Statement.{statement}
 use Rattle.frames.proofs.split.Tie as tie
 
-examine-requires : tie.Need-examine-requires
-examine-requires c κs = search needs
+-- the places that the proof starts from
+abbrev start : tie.Else1 → tie.Start
+start e = e .before .before .before .before .before
+
+abbrev board : tie.After-split-frame → tie.After-board-in
+board x = x .before .before
+
+abbrev tested : tie.After-board-in → tie.Else1
+tested b = b .before .before
+
+look-requires : tie.Need-look-requires
+look-requires c κs = search needs
 
 refused-requires : tie.Need-refused-requires
 refused-requires c κs = search needs
@@ -20,36 +25,25 @@ same-length : tie.Need-same-length
 same-length c = search needs
 
 returns : tie.Need-returns
-returns c =
-    let s = c .before .before .before .before .before .before .before .before in
-    let x = c .before .before .examine in
-    let E = x .ensures (s .args .memory .now) (s .args .queue .now) refl refl in
-    rw (c .refused .ensures) (split-refused E (bytes-small (s .args .records .now) (c .before .before .before .before .before .before .slice-known .given)) (c .before .if1 .taken))
+returns c k m q s H = rw (c .refused .ensures) (split-refused H (c .before .before .look .ensures) (c .before .if1 .taken))
 
 board-in-requires : tie.Need-board-in-requires
 board-in-requires c κs = search needs
 
 split-frame-requires : tie.Need-split-frame-requires
 split-frame-requires c κs =
-    let s = c .before .before .before .before .before .before .before .before .before .before in
-    let x = c .before .before .before .before .examine in
-    let w = worldOf (stateWith (s .args .counters) (s .args .words .now)) (s .args .records .now) (s .args .memory .now) (s .args .queue .now) in
-    let E : Examined (boardIn (s .args .words .now)) w (s .args .pa .0) 0 0 (x .result) = x .ensures (s .args .memory .now) (s .args .queue .now) refl refl in
-    let z : x .result .number ≡ 0 = c .before .before .before .if1 .left in
-    let H = examined-held E z in
-    ((s .pre, sound-sane w (sound-is (boardIn (s .args .words .now)) w (examined-sound E z))), (H .inside, H .held))
+    let e = tested (c .before) in
+    let h = e .before .look .ensures .held (e .if1 .left) in
+    (start e .pre, (h .inside, h .held))
 
 raw-requires : tie.Need-raw-requires
 raw-requires c κs = search needs
 
 frame-bytes-requires : tie.Need-frame-bytes-requires
 frame-bytes-requires c κs =
-    let s = c .before .before .before .before .before .before .before .before .before .before .before .before .before .before in
-    let x = c .before .before .before .before .before .before .before .before .examine in
-    let w = worldOf (stateWith (s .args .counters) (s .args .words .now)) (s .args .records .now) (s .args .memory .now) (s .args .queue .now) in
-    let E : Examined (boardIn (s .args .words .now)) w (s .args .pa .0) 0 0 (x .result) = x .ensures (s .args .memory .now) (s .args .queue .now) refl refl in
-    let z : x .result .number ≡ 0 = c .before .before .before .before .before .before .before .if1 .left in
-    (c .before .before .before .before .before .board-in .ensures .1, λ d. examined-held E z .leveled)
+    let b = board (c .before .before .before) in
+    let e = tested b in
+    (b .board-in .ensures .1, λ d. e .before .look .ensures .held (e .if1 .left) .leveled)
 
 done-requires : tie.Need-done-requires
 done-requires c κs = search needs
@@ -58,21 +52,19 @@ same-length-2 : tie.Need-same-length-2
 same-length-2 c = search needs
 
 returns-2 : tie.Need-returns-2
-returns-2 c =
-    let s = c .before .before .before .before .before .before .before .before .before .before .before .before .before .before .before .before in
-    let x = c .before .before .before .before .before .before .before .before .before .before .examine in
-    let y = c .before .before .before .before .before .split-frame in
-    let w = worldOf (stateWith (s .args .counters) (s .args .words .now)) (s .args .records .now) (s .args .memory .now) (s .args .queue .now) in
-    let E : Examined (boardIn (s .args .words .now)) w (s .args .pa .0) 0 0 (x .result) = x .ensures (s .args .memory .now) (s .args .queue .now) refl refl in
-    let z : x .result .number ≡ 0 = c .before .before .before .before .before .before .before .before .before .if1 .left in
-    rw (c .done .ensures, c .before .frame-bytes .ensures, c .before .before .raw .ensures, c .before .before .before .before .before .before .before .board-in .ensures .0)
-    (split-leaves E z (y .last .1 .0) (y .ensures) (y .kept .1 .0) (bytes-small (s .args .records .now) (c .before .before .before .before .before .before .before .before .before .before .before .before .before .before .slice-known .given)) (bytes-small (y .last .1 .0) (c .before .before .before .slice-known2 .given)))
+returns-2 c k m q s H =
+    let x = c .before .before .before .before .before in
+    let y = x .split-frame in
+    let e = tested (board x) in
+    rw (c .done .ensures, c .before .frame-bytes .ensures, c .before .before .raw .ensures, board x .board-in .ensures .0)
+    (split-made H (e .before .look .ensures) (e .if1 .left) (y .last .1 .0) (y .kept .1 .0)
+    (bytes-small (y .last .1 .0) (c .before .before .before .slice-known2 .given)) (y .ensures))
 
 pub split-spec : {M : Type 1} → statement M
 split-spec =
     tie.close
     (tie.spec
-    examine-requires
+    look-requires
     refused-requires
     same-length
     returns

@@ -1,18 +1,23 @@
--- `alloc` promises what it is called for: the refusal that `wanted` found, or the grant.
-use Prim.Native.Nat.{ℕ}
-use mathlib.Core.Path.{_≡_, refl, subst}
-use native.Mathlib.Omega.{arith}
+-- `alloc` makes what it is called for: the refusal that `wanted` found, or what `grant` gives.
 use borrow.Author.Needs.{needs}
-use Rattle.definition.specs.Calls.{Alloc, Layout}
-use Rattle.definition.specs.World.{decode, recordAt}
-use Rattle.record.specs.Records.{pagesIn}
-use Rattle.words.specs.Words.{boardIn}
 use Rattle.words.proofs.Words.{beside-same}
-use Rattle.exam.specs.Promise.{stateWith, worldOf}
-use Rattle.grants.specs.Granting.{Lends}
-use Rattle.grants.proofs.Promised.{leaves-alloc, leaves-wanted, lends, ready, wanted-none, wanted-sound}
+use Rattle.exam.proofs.Making.{bytes-small}
+use Rattle.grants.proofs.Promised.{alloc-made, alloc-refused}
 use Rattle.grants.proofs.alloc.Statement.{statement}
 use Rattle.grants.proofs.alloc.Tie as tie
+
+-- the places that the proof starts from
+abbrev start : tie.After-wanted → tie.Start
+start x = x .before .before .before .before .before .before
+
+abbrev tested : tie.After-board-in → tie.Else1
+tested b = b .before .before
+
+abbrev board : tie.After-grant → tie.After-board-in
+board g = g .before .before .before .before
+
+abbrev granted : tie.After-next → tie.After-grant
+granted n = n .before .before .before .before .before .before .before
 
 wanted-requires : tie.Need-wanted-requires
 wanted-requires c κs = search needs
@@ -27,37 +32,25 @@ same-length-2 : tie.Need-same-length-2
 same-length-2 c = search needs
 
 returns : tie.Need-returns
-returns c =
-    let s = c .before .before .before .before .before .before .before .before .before in
-    let a = s .args in
-    let x = c .before .before .wanted in
-    let y : Layout = record { size = a .size; align = a .align; flags = a .flags } in (
-      rw (c .refused .ensures)
-          (leaves-wanted (x .ensures (a .memory .now) (a .queue .now) refl refl) (Alloc y) refl (λ i. c .before .before .before .before .before .before .before .slice-known2 .given i .fits) (λ z. omega arith)),
-      beside-same,
-    )
+returns c = (
+  λ q s H. rw (c .refused .ensures) (alloc-refused H (c .before .before .wanted .ensures) (c .before .if1 .taken)),
+  beside-same,
+)
 
 board-in-requires : tie.Need-board-in-requires
 board-in-requires c κs = search needs
 
 grant-requires : tie.Need-grant-requires
 grant-requires c κs =
-    let s = c .before .before .before .before .before .before .before .before .before .before .before .before .before in
-    let a = s .args in
-    let board = boardIn (a .words .now) in
-    let x = c .before .before .before .before .before .before .wanted in
-    let W = x .ensures (a .memory .now) (a .queue .now) refl refl in
-    let z : x .result .number ≡ 0 = omega (arith, c .before .before .before .before .before .if1 .left) in
-    let st = stateWith (a .counters) (a .words .now) in
-    let w = worldOf st (a .records .now) (a .memory .now) (a .queue .now) in
-    (s .pre, ready board st (a .records .now) (a .memory .now) (a .queue .now) (wanted-sound {w = w} W z), W .small z)
+    let e = tested (c .before .before .before) in
+    let p = start (e .before) .pre in
+    (p .0, (p .1 .0, (p .1 .1, e .before .wanted .ensures .small (e .if1 .left))))
 
 handed-requires : tie.Need-handed-requires
 handed-requires c κs =
-    let a = c .before .before .before .before .before .before .before .before .before .before .before .before .before .before .before .before .before .before .before .before .before .args in
-    let x = c .before .before .before .before .before .before .before .before .before .before .before .before .before .before .wanted in
-    let z : x .result .number ≡ 0 = omega (arith, c .before .before .before .before .before .before .before .before .before .before .before .before .before .if1 .left) in
-    (c .before .before .before .before .before .before .before .before .before .before .before .board-in .ensures .1, x .ensures (a .memory .now) (a .queue .now) refl refl .small z)
+    let b = board (granted c) in
+    let e = tested b in
+    (b .board-in .ensures .1, e .before .wanted .ensures .small (e .if1 .left))
 
 same-length-3 : tie.Need-same-length-3
 same-length-3 c = search needs
@@ -70,25 +63,16 @@ same-length-5 c = search needs
 
 returns-2 : tie.Need-returns-2
 returns-2 c =
-    let a = c .before .before .before .before .before .before .before .before .before .before .before .before .before .before .before .before .before .before .before .before .before .before .args in
-    let board = boardIn (a .words .now) in
-    let x = c .before .before .before .before .before .before .before .before .before .before .before .before .before .before .before .wanted in
-    let g = c .before .before .before .before .before .before .before .before .grant in
-    let W = x .ensures (a .memory .now) (a .queue .now) refl refl in
-    let z : x .result .number ≡ 0 = omega (arith, c .before .before .before .before .before .before .before .before .before .before .before .before .before .before .if1 .left) in
-    let st = stateWith (a .counters) (a .words .now) in
-    let w = worldOf st (a .records .now) (a .memory .now) (a .queue .now) in
-    let y : Layout = record { size = a .size; align = a .align; flags = a .flags } in
-    let t = wanted-sound {w = w} {y = y} W z in
-    let k : pagesIn (a .records .now) ≡ pagesIn (g .last .1 .1 .0) = omega (arith, g .kept .1 .1 .0) in
-    let L
-    = subst (λ (n : ℕ). Lends board (recordAt (a .records .now)) n st (a .memory .now) (decode board w)) k (lends board st (a .records .now) (a .memory .now) (a .queue .now) t)
-    in (
-      rw (c .handed .ensures, c .before .before .before .before .before .before .before .before .before .before .before .before .board-in .ensures .0)
-          (leaves-alloc board st (a .records .now) (a .memory .now) (a .queue .now) t (g .last .1 .1 .0) (g .last .1 .1 .1 .0) (omega (arith, g .kept .1 .1 .0))
-          (λ i. c .before .before .before .before .before .before .before .before .before .before .before .before .before .before .before .before .before .before .before .before .slice-known2 .given i .fits) (λ i. c .before .before .before .before .slice-known5 .given i .fits) y (W .level z) (wanted-none {w = w} W z) (g .ensures .0 .0)
-          (g .ensures .1 .0 (decode board w) L)),
-      g .ensures .1 .1,
+    let g = granted (c .before) in
+    let y = g .grant in
+    let bs = y .last .1 .1 .0 in
+    let b = board g in
+    let e = tested b in (
+      λ q s H.
+          rw (c .handed .ensures, b .board-in .ensures .0)
+          (alloc-made H bs (y .last .1 .1 .1 .0) (y .kept .1 .1 .0) (bytes-small bs (c .before .before .before .before .slice-known5 .given)) (y .ensures .0)
+          (e .before .wanted .ensures) (e .if1 .left) (y .ensures .1 .1 .0)),
+      y .ensures .1 .1 .1,
     )
 
 pub alloc-spec : {M : Type 1} → statement M

@@ -7,16 +7,27 @@ use Rattle.grants.proofs.Giving.{held-level, held-room, page-in}
 use Rattle.grants.proofs.hand_over.Statement.{statement}
 use Rattle.grants.proofs.hand_over.Tie as tie
 
+-- the places that the proof starts from
+abbrev start : tie.After-board-in → tie.Start
+start b = b .before .before .before .before
+
+abbrev zeroed : tie.After-set-marks → tie.After-zero-if-asked
+zeroed m = m .before .before .before .before
+
+abbrev board : tie.After-zero-if-asked → tie.After-board-in
+board z = z .before .before .before
+
 board-in-requires : tie.Need-board-in-requires
 board-in-requires c κs = search needs
 
 zero-if-asked-requires : tie.Need-zero-if-asked-requires
 zero-if-asked-requires c κs =
-    let s = c .before .before .before .before .before .before in
-    let R = s .pre .0 .1 in
-    let I = s .pre .1 .0 in
-    let H = s .pre .1 .1 in
-    rw (c .before .before .board-in .ensures .0) ((page-in I (R .sane), held-level I (R .sane) H), held-room I (R .sane) H (R .memory))
+    let b = c .before .before in
+    let p = start b .pre in
+    let S = p .0 .1 in
+    let I = p .1 .1 .1 .0 in
+    let H = p .1 .1 .1 .1 in
+    rw (b .board-in .ensures .0) ((page-in I S, held-level I S H), held-room I S H (p .1 .0))
 
 set-marks-requires : tie.Need-set-marks-requires
 set-marks-requires c κs = search needs
@@ -26,9 +37,9 @@ pages-at-requires c κs = search needs
 
 count-alloc-requires : tie.Need-count-alloc-requires
 count-alloc-requires c κs =
-    let s = c .before .before .before .before .before .before .before .before .before .before .before .before .before .before in
-    let R = s .pre .0 .1 in
-    (omega (arith, R .kernel, c .pages-at .ensures, size-most (s .pre .0 .2)), omega (arith, R .page, c .pages-at .ensures, size-most (s .pre .0 .2)))
+    let p = start (board (zeroed (c .before .before .before))) .pre .1 .1 .0 in
+    let few = size-most (p .1) in
+    (omega (arith, p .0 .kernel, c .pages-at .ensures, few), omega (arith, p .0 .page, c .pages-at .ensures, few))
 
 same-length : tie.Need-same-length
 same-length c = search needs
@@ -38,9 +49,10 @@ same-length-2 c = search needs
 
 returns : tie.Need-returns
 returns c =
-    let z = c .before .before .before .before .before .before .before .before in (
+    let m = c .before .before .before .before in
+    let z = zeroed m in (
       rw (c .count-alloc .ensures, c .before .pages-at .ensures) refl,
-      (rw (← z .before .before .before .board-in .ensures .0) (z .zero-if-asked .ensures), c .before .before .before .before .set-marks .ensures),
+      (rw (← board z .board-in .ensures .0) (z .zero-if-asked .ensures), m .set-marks .ensures),
     )
 
 pub hand-over-spec : {M : Type 1} → statement M

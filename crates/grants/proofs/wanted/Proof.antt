@@ -1,28 +1,21 @@
--- The audit decides between 6 and the layout's refusals; where a level is found, what the rows list decides the rest.
+-- The layout's refusals come first; where a level is found, what the rows list decides the rest.
 use Prim.Native.Nat.{ℕ}
-use mathlib.Core.List.{List}
-use mathlib.Core.Path.{refl, sym, _∙_}
+use mathlib.Core.Bool.{not, cond}
+use mathlib.Core.Path.{_≡_, refl, sym, _∙_}
 use native.Mathlib.Omega.{arith}
 use borrow.Author.Needs.{needs}
-use borrow.Author.Tests.{not-true, not-false}
-use lib.ListN.{replicate, length-replicate}
-use Rattle.definition.specs.World.{decode}
-use Rattle.words.specs.Words.{boardIn}
-use Rattle.audit.proofs.Sheets.{sound-is}
 use Rattle.level.proofs.Ranks.{rank-below}
-use Rattle.world.proofs.Leaving.{sound-sane, sound-table}
-use Rattle.exam.specs.Promise.{stateWith, worldOf}
-use Rattle.grants.proofs.Asking.{wants-found, wants-refused, wants-torn}
+use Rattle.grants.specs.Granting.{WantsIn}
+use Rattle.grants.proofs.Asking.{wants-found, wants-refused}
 use Rattle.grants.proofs.wanted.Statement.{statement}
 use Rattle.grants.proofs.wanted.Tie as tie
 
-is-sound-requires : tie.Need-is-sound-requires
-is-sound-requires c κs = search needs
+-- the places that the proof starts from
+abbrev start : tie.After-find-level → tie.Start
+start f = f .before .before .before .before
 
-returns : tie.Need-returns
-returns c memory queue a b =
-    let r = c .before .is-sound in
-    wants-torn (sym (r .ensures memory queue a b) ∙ not-true (r .result) (c .if1 .taken)) refl
+abbrev found : tie.After-index → tie.After-find-level
+found i = i .before .before .before .before
 
 board-in-requires : tie.Need-board-in-requires
 board-in-requires c κs = search needs
@@ -37,29 +30,24 @@ index-requires : tie.Need-index-requires
 index-requires c κs = search needs
 
 is-listed-requires : tie.Need-is-listed-requires
-is-listed-requires c κs =
-    let i = c .before .before .before .before .before .before .before in
-    let s = i .before .before .before in
-    let r = i .is-sound in
-    let m : List ℕ = replicate (s .args .memory-len) 0 in
-    let q : List ℕ = replicate (s .args .queue-len) 0 in
-    let t = sym (r .ensures m q (length-replicate (s .args .memory-len) 0) (length-replicate (s .args .queue-len) 0)) ∙ not-false (r .result) (c .before .before .before .before .before .before .if1 .left) in
-    let w = worldOf (stateWith (s .args .counters) (s .args .words .now)) (s .args .records .now) m q in
-    ((s .pre, sound-sane w (sound-is (boardIn (s .args .words .now)) w t)), omega (arith, c .index .ensures, rank-below (c .before .before .level .given .0 .0)))
+is-listed-requires c κs = (start (found c) .pre, omega (arith, c .index .ensures, rank-below (c .before .before .level .given .0 .0)))
 
-returns-2 : tie.Need-returns-2
-returns-2 c memory queue a b =
-    let l = c .before in
-    let i = l .before .before .before .before .before .before .before .before in
-    let s = i .before .before .before in
-    let r = i .is-sound in
-    let w = worldOf (stateWith (s .args .counters) (s .args .words .now)) (s .args .records .now) memory queue in
-    let t = sym (r .ensures memory queue a b) ∙ not-false (r .result) (l .before .before .before .before .before .before .before .if1 .left) in
-    let f = l .before .before .before .before .before .find-level in
-    let v = l .before .before .before .level .given in
-    wants-found t (v .0 .0) (rw (← l .before .before .before .before .before .before .board-in .ensures .0) (sym (f .ensures (s .args .flags)) ∙ v .1)) (l .before .index .ensures)
-    (l .is-listed .result) (l .is-listed .ensures (decode (boardIn (s .args .words .now)) w .allocator) (sound-table w (sound-is (boardIn (s .args .words .now)) w t)))
-    (rw (c .if2 .taken) refl)
+-- a level was found, and the number is by what is listed there
+listed
+    : (l : tie.After-is-listed) (n : ℕ)
+    → let a = start (found (l .before)) .args in
+    n ≡ cond (not (l .is-listed .result)) (cond (a .flags .«wait_ok») 10 9) 0
+    → WantsIn (a .words .now) (a .records .now) (record { size = a .size; align = a .align; flags = a .flags })
+    (record { number = n; level = l .before .index .result })
+listed l n e =
+    let i = l .before in
+    let f = found i in
+    let v = i .before .before .level .given in
+    wants-found (v .0 .0) (rw (← f .before .board-in .ensures .0) (sym (f .find-level .ensures (start f .args .flags)) ∙ v .1)) (i .index .ensures)
+    (l .is-listed .ensures) e
+
+returns : tie.Need-returns
+returns c = listed (c .before) 0 (rw (c .if1 .taken) refl)
 
 enum-known-refusal : tie.Need-enum-known-refusal
 enum-known-refusal c = search needs
@@ -67,58 +55,30 @@ enum-known-refusal c = search needs
 number-of-requires : tie.Need-number-of-requires
 number-of-requires c κs = search needs
 
+returns-2 : tie.Need-returns-2
+returns-2 c = listed (c .before .before) 10 (rw (c .before .if1 .left, c .if2 .taken) refl)
+
 returns-3 : tie.Need-returns-3
-returns-3 c memory queue a b =
-    let l = c .before .before in
-    let i = l .before .before .before .before .before .before .before .before in
-    let s = i .before .before .before in
-    let r = i .is-sound in
-    let w = worldOf (stateWith (s .args .counters) (s .args .words .now)) (s .args .records .now) memory queue in
-    let t = sym (r .ensures memory queue a b) ∙ not-false (r .result) (l .before .before .before .before .before .before .before .if1 .left) in
-    let f = l .before .before .before .before .before .find-level in
-    let v = l .before .before .before .level .given in
-    wants-found t (v .0 .0) (rw (← l .before .before .before .before .before .before .board-in .ensures .0) (sym (f .ensures (s .args .flags)) ∙ v .1)) (l .before .index .ensures)
-    (l .is-listed .result) (l .is-listed .ensures (decode (boardIn (s .args .words .now)) w .allocator) (sound-table w (sound-is (boardIn (s .args .words .now)) w t)))
-    (rw (c .before .if2 .left, c .if3 .taken) refl)
+returns-3 c = listed (c .before .before) 9 (rw (c .before .if1 .left, c .if2 .left) refl)
 
 returns-4 : tie.Need-returns-4
-returns-4 c memory queue a b =
-    let l = c .before .before in
-    let i = l .before .before .before .before .before .before .before .before in
-    let s = i .before .before .before in
-    let r = i .is-sound in
-    let w = worldOf (stateWith (s .args .counters) (s .args .words .now)) (s .args .records .now) memory queue in
-    let t = sym (r .ensures memory queue a b) ∙ not-false (r .result) (l .before .before .before .before .before .before .before .if1 .left) in
-    let f = l .before .before .before .before .before .find-level in
-    let v = l .before .before .before .level .given in
-    wants-found t (v .0 .0) (rw (← l .before .before .before .before .before .before .board-in .ensures .0) (sym (f .ensures (s .args .flags)) ∙ v .1)) (l .before .index .ensures)
-    (l .is-listed .result) (l .is-listed .ensures (decode (boardIn (s .args .words .now)) w .allocator) (sound-table w (sound-is (boardIn (s .args .words .now)) w t)))
-    (rw (c .before .if2 .left, c .if3 .left) refl)
-
-returns-5 : tie.Need-returns-5
-returns-5 c memory queue a b =
-    let i = c .before .before .before .before .before .before .before in
-    let s = i .before .before .before in
-    let r = i .is-sound in
-    let t = sym (r .ensures memory queue a b) ∙ not-false (r .result) (c .before .before .before .before .before .before .if1 .left) in
-    let f = c .before .before .before .before .find-level in
+returns-4 c =
+    let f = c .before .before .before .before in
     let v = c .before .before .refusal .given in
-    wants-refused t (v .0 .0) (rw (← c .before .before .before .before .before .board-in .ensures .0) (sym (f .ensures (s .args .flags)) ∙ v .1)) (c .number-of .ensures)
+    wants-refused (v .0 .0) (rw (← f .before .board-in .ensures .0) (sym (f .find-level .ensures (start f .args .flags)) ∙ v .1)) (c .number-of .ensures)
 
 pub wanted-spec : {M : Type 1} → statement M
 wanted-spec =
     tie.close
     (tie.spec
-    is-sound-requires
-    returns
     board-in-requires
     find-level-requires
     enum-known-level
     index-requires
     is-listed-requires
-    returns-2
+    returns
     enum-known-refusal
     number-of-requires
+    returns-2
     returns-3
-    returns-4
-    returns-5)
+    returns-4)

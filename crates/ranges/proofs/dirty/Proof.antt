@@ -1,37 +1,26 @@
--- The examined frame loses its ZEROED mark and keeps its KERNEL mark.
-use mathlib.Core.Path.{_≡_, refl}
-use native.Mathlib.Omega.{arith}
+-- The ZEROED mark of the frame that was looked at.
 use borrow.Author.Needs.{needs}
-use Rattle.definition.specs.Board.{Board}
-use Rattle.definition.specs.Calls.{Dirty}
-use Rattle.definition.specs.World.{World, decode}
-use Rattle.words.specs.Words.{boardIn}
 use Rattle.world.proofs.Refusing.{one-frame}
-use Rattle.exam.specs.Promise.{Examined, bytesIf, stateWith, worldOf}
-use Rattle.exam.proofs.Promises.{examined-refused}
-use Rattle.ranges.proofs.Held.{examined-known, examined-spot}
-use Rattle.ranges.proofs.Marking.{dirty-done}
+use Rattle.definition.specs.Calls.{Dirty}
+use Rattle.words.specs.Words.{boardIn}
+use Rattle.exam.proofs.Making.{bytes-small, looked-refused}
+use Rattle.ranges.proofs.Held.{looked-known, looked-spot}
+use Rattle.ranges.proofs.Marking.{dirty-made}
 use Rattle.ranges.proofs.dirty.Statement.{statement}
 use Rattle.ranges.proofs.dirty.Tie as tie
 
--- the start, the board and the world that were given there, the frame that was examined in it, and that nothing refuses it
-abbrev start : tie.After-examine → tie.Start
-start c = c .before .before .before .before .before .before
+-- the places that the proof starts from
+abbrev start : tie.After-look → tie.Start
+start d = d .before .before .before .before
 
-abbrev board : tie.After-examine → Board
-board c = boardIn (start c .args .words .now)
+abbrev tested : tie.After-board-in → tie.Else1
+tested b = b .before .before
 
-abbrev world : tie.After-examine → World
-world c = let a = start c .args in worldOf (stateWith (a .counters) (a .words .now)) (a .records .now) (a .memory .now) (a .queue .now)
+abbrev board : tie.After-is-kernel → tie.After-board-in
+board x = x .before .before .before
 
-found : (c : tie.After-examine) → let a = start c .args in Examined (board c) (world c) (a .pa .0) 0 0 (c .examine .result)
-found c = c .examine .ensures (world c .memory) (world c .queue) refl refl
-
-none : (c : tie.Else1) → c .before .examine .result .number ≡ 0
-none c = omega (arith, c .if1 .left)
-
-examine-requires : tie.Need-examine-requires
-examine-requires c κs = search needs
+look-requires : tie.Need-look-requires
+look-requires c κs = search needs
 
 refused-requires : tie.Need-refused-requires
 refused-requires c κs = search needs
@@ -40,27 +29,28 @@ same-length : tie.Need-same-length
 same-length c = search needs
 
 returns : tie.Need-returns
-returns c =
-    let k = c .before .before in
-    let a = start k .args in
+returns c k m q s H =
+    let a = start (c .before .before) .args in
     rw (c .refused .ensures)
-    (examined-refused (found k) (Dirty (a .pa .0)) (λ i. k .before .before .before .before .slice-known .given i .fits) (λ t. one-frame (board k) (decode (board k) (world k)) (a .pa .0) 0 0) (λ h. omega arith))
+    (looked-refused H (c .before .before .look .ensures) (Dirty (a .pa .0)) (one-frame (boardIn (a .words .now)) s (a .pa .0) 0 0) (c .before .if1 .taken))
 
 board-in-requires : tie.Need-board-in-requires
 board-in-requires c κs = search needs
 
 frame-bytes-requires : tie.Need-frame-bytes-requires
-frame-bytes-requires c κs = let k = c .before .before in (c .board-in .ensures .1, examined-known (found (k .before)) (none k))
-
--- the bytes of the frame
-bytes-are : (c : tie.After-frame-bytes) → c .frame-bytes .result ≡ bytesIf (board (c .before .before .before .before)) (c .before .before .before .before .examine .result .seen)
-bytes-are c = rw (c .before .board-in .ensures .0) at (c .frame-bytes .ensures)
+frame-bytes-requires c κs =
+    let e = tested c in
+    let s = start (e .before) in
+    (c .board-in .ensures .1, looked-known (s .args .words .now) (s .args .records .now) (s .pre) (e .before .look .ensures) (e .if1 .left))
 
 is-kernel-requires : tie.Need-is-kernel-requires
 is-kernel-requires c κs = search needs
 
 set-marks-requires : tie.Need-set-marks-requires
-set-marks-requires c κs = let k = c .before .before .before .before .before in examined-spot (found (k .before)) (none k) (start (k .before) .pre)
+set-marks-requires c κs =
+    let e = tested (board c) in
+    let s = start (e .before) in
+    looked-spot (s .args .words .now) (s .args .records .now) (s .pre) (e .before .look .ensures) (e .if1 .left)
 
 raw-requires : tie.Need-raw-requires
 raw-requires c κs = search needs
@@ -72,24 +62,26 @@ same-length-2 : tie.Need-same-length-2
 same-length-2 c = search needs
 
 returns-2 : tie.Need-returns-2
-returns-2 c =
-    let k = c .before .before .before .before .before .before .before .before .before .before in
+returns-2 c k m q s H =
+    let x = c .before .before .before .before in
+    let b = board (x .before) in
+    let e = tested b in
+    let f = x .before .before .before .frame-bytes in
     rw (c .done .ensures, c .before .raw .ensures)
-    (dirty-done (found (k .before)) (none k)
+    (dirty-made H (e .before .look .ensures) (e .if1 .left)
     (record {
-      own = c .before .before .before .before .before .is-kernel .ensures;
-      turns = c .before .before .before .before .set-marks .ensures;
-      as-long = c .before .before .before .before .set-marks .kept .1 .0;
-      before = λ i. k .before .before .before .before .before .slice-known .given i .fits;
-      after = λ i. c .before .before .slice-known2 .given i .fits;
+      own = x .before .is-kernel .ensures;
+      turns = x .set-marks .ensures;
+      as-long = x .set-marks .kept .1 .0;
+      after = bytes-small (x .set-marks .last .1 .0) (c .before .before .slice-known2 .given);
     })
-    _ (bytes-are (c .before .before .before .before .before .before .before)))
+    (f .result) (rw (b .board-in .ensures .0) at (f .ensures)))
 
 pub dirty-spec : {M : Type 1} → statement M
 dirty-spec =
     tie.close
     (tie.spec
-    examine-requires
+    look-requires
     refused-requires
     same-length
     returns

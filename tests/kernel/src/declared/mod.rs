@@ -3,6 +3,7 @@
 
 mod header;
 mod names;
+mod places;
 mod rattle;
 
 use std::{collections::BTreeMap, fs};
@@ -48,15 +49,14 @@ pub fn all(root: &str) -> Done {
     names::sizes(&texts.words, &texts.header)?;
     names::refusals(&texts.definition, &texts.header)?;
     names::ops(&texts.lines, &texts.store, &texts.header)?;
-    Ok(format!("{} exported functions, declared alike in Rattle, Rust and C", exported.len()))
+    let places = every_place(root, &rattle::cases(&texts.lines, "Ask")?)?;
+    let functions = exported.len();
+    Ok(format!("{functions} exported functions, declared alike in Rattle, Rust and C; {places} places name every call"))
 }
 
 impl Texts {
     fn read(root: &str) -> Result<Texts, String> {
-        let read = |file: &str| {
-            let path = format!("{root}/{file}");
-            fs::read_to_string(&path).map_err(|error| format!("{path}: {error}"))
-        };
+        let read = |file: &str| read(root, file);
         Ok(Texts {
             store: read("crates/store/src/lib.rt")?,
             definition: read("crates/definition/src/lib.rt")?,
@@ -66,6 +66,30 @@ impl Texts {
             header: read("include/jilakkor.h")?,
         })
     }
+}
+
+/// How many places docs/ADDING-A-CALL.md lists, each of which names every call.
+fn every_place(root: &str, cases: &[String]) -> Result<usize, String> {
+    let guide = read(root, "docs/ADDING-A-CALL.md")?;
+    let places = places::listed(&guide);
+    for place in &places {
+        let text = read(root, place.file)?;
+        if let Some(case) = places::missing(&text, place.form, cases)? {
+            return Err(format!(
+                "{} does not name {case} as docs/ADDING-A-CALL.md says",
+                place.file
+            ));
+        }
+    }
+    match places.len() {
+        0 => Err("docs/ADDING-A-CALL.md lists no place".into()),
+        many => Ok(many),
+    }
+}
+
+fn read(root: &str, file: &str) -> Result<String, String> {
+    let path = format!("{root}/{file}");
+    fs::read_to_string(&path).map_err(|error| format!("{path}: {error}"))
 }
 
 /// Both have the same functions, each with the same names and types in its order.

@@ -1,7 +1,7 @@
 -- The number that `read_place` gives is the answer's.
 use borrow.Author.Needs.{needs}
-use Rattle.copies.proofs.read_number.Statement.{statement}
-use Rattle.copies.proofs.read_number.Tie as tie
+use Rattle.door.proofs.read_number.Statement.{statement}
+use Rattle.door.proofs.read_number.Tie as tie
 
 read-place-requires : tie.Need-read-place-requires
 read-place-requires c κs = search needs

@@ -1,9 +1,9 @@
 -- The part is the one that `read_place` finds.
 use native.Mathlib.Omega.{arith}
 use borrow.Author.Needs.{needs}
-use Rattle.copies.proofs.Reading.{lends-none, lends-part}
-use Rattle.copies.proofs.read.Statement.{statement}
-use Rattle.copies.proofs.read.Tie as tie
+use Rattle.door.proofs.Reporting.{lends-none, lends-part}
+use Rattle.door.proofs.read.Statement.{statement}
+use Rattle.door.proofs.read.Tie as tie
 
 read-place-requires : tie.Need-read-place-requires
 read-place-requires c κs = search needs
