@@ -17,8 +17,8 @@
  *
  * Longer slices do no harm, and what lies behind is left alone. Every function
  * returns 0 where the call was accepted, else the number of the refusal, enum
- * jilakkor_refusal; the lowest that applies. A refused call changes nothing that
- * was lent. Each call tests all that it is lent and is refused 6 where that is no
+ * jilakkor_refusal; the first of these that applies. A refused call changes nothing
+ * that was lent. Each call tests all that it is lent and is refused 6 where that is no
  * whole state: after a write by somebody else, with fewer words, another version
  * or over 8 rows in the first, or an answer of fewer than two places. The boot reads no
  * state; what is too short for it is refused 5.
@@ -35,9 +35,8 @@ extern "C" {
 
 /* ---- sizes */
 
-#define JILAKKOR_VERSION 1       /* of the state's layout */
-#define JILAKKOR_WORDS 101       /* of the state */
-#define JILAKKOR_KEPT_WORDS 92   /* of the state without its counters, the last nine */
+#define JILAKKOR_VERSION 2       /* of the state's layout */
+#define JILAKKOR_WORDS 512       /* of the state */
 #define JILAKKOR_ROWS 8          /* kept regions at most, and entries of a map */
 #define JILAKKOR_LEVELS 3        /* of frames */
 #define JILAKKOR_RECORD_BYTES 16 /* of a managed page's record */
@@ -139,6 +138,7 @@ struct jilakkor_state {
     uint64_t rounds; /* of the pass of reclaim rounds under way, */
     uint64_t freed;  /* and frames that they freed */
     struct jilakkor_counters counters;
+    uint64_t reserved[411]; /* no meaning yet: no call reads or writes them */
 };
 
 /* The state by both its names. */
@@ -148,11 +148,13 @@ union jilakkor_words {
 };
 
 /* A size or a place that differs makes an array of negative length. */
-typedef char jilakkor_state_has_808_bytes[sizeof(struct jilakkor_state) == 808 ? 1 : -1];
+typedef char jilakkor_state_has_4096_bytes[sizeof(struct jilakkor_state) == 4096 ? 1 : -1];
 typedef char jilakkor_words_are_the_state[sizeof(union jilakkor_words) == 8 * JILAKKOR_WORDS ? 1 : -1];
 typedef char jilakkor_row_has_88_bytes[sizeof(struct jilakkor_row) == 88 ? 1 : -1];
-typedef char jilakkor_counters_come_last[
-    offsetof(struct jilakkor_state, counters) == 8 * JILAKKOR_KEPT_WORDS ? 1 : -1];
+typedef char jilakkor_counters_start_at_word_92[
+    offsetof(struct jilakkor_state, counters) == 8 * 92 ? 1 : -1];
+typedef char jilakkor_reserved_starts_at_word_101[
+    offsetof(struct jilakkor_state, reserved) == 8 * 101 ? 1 : -1];
 
 /* ---- the boot and the audit */
 
@@ -329,12 +331,13 @@ enum jilakkor_op {
 };
 
 /*
- * The call of a number, with the counters as a struct of their own and the words
- * without them, JILAKKOR_KEPT_WORDS; missing numbers count as 0. Answers and is
- * refused as the call is; 17, whatever is lent, where there is no such op, and for
- * a boot whose numbers do not come in threes. A write reads bytes and the
- * statistics are written there, which takes JILAKKOR_STATS_BYTES, else 6; every
- * other call leaves bytes alone, and their length may be 0.
+ * The call of a number, with the counters as a struct of their own beside all
+ * JILAKKOR_WORDS words; it shares no byte with them, and the words' own counters
+ * are neither read nor written. Missing numbers count as 0. Answers and is refused
+ * as the call is; 17, whatever is lent, where there is no such op, and for a boot
+ * whose numbers do not come in threes. A write reads bytes and the statistics are
+ * written there, which takes JILAKKOR_STATS_BYTES, else 6; every other call leaves
+ * bytes alone, and their length may be 0.
  */
 uint32_t jilakkor_call(struct jilakkor_counters *counters,
                        uint64_t *words, size_t words_len, uint8_t *records, size_t records_len,

@@ -2,11 +2,11 @@
 //! records, with slices indexed as one writes them. The walk of a list is there
 //! twice: from both ends at once, as the store walks, and from one.
 
-const VERSION: u32 = 1;
+const VERSION: u32 = 2;
 const ROW: usize = 11;
 const QUEUED: usize = 1 + 8 * ROW;
 const COUNTERS: usize = QUEUED + 3;
-const WORDS: usize = COUNTERS + 9;
+const WORDS: usize = 512;
 
 /// 2^40 bytes, in pages.
 const LAST: u64 = 1 << 28;

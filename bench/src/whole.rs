@@ -8,9 +8,10 @@ pub struct Store {
 }
 
 /// The words of a state: a version and how many rows are in use, a row of eleven
-/// words for each region, three for the queue and the pass, and the counters.
-const WORDS: usize = 101;
-const VERSION: u64 = 1;
+/// words for each region, three for the queue and the pass, the counters, and words
+/// without a meaning.
+const WORDS: usize = 512;
+const VERSION: u64 = 2;
 const ROW: usize = 1;
 const COUNTERS: usize = 92;
 

@@ -55,8 +55,8 @@ pub enum Op {
 }
 
 /// The same store for a kernel that keeps the nine counters as a struct of its own,
-/// which other code reads: the words are then the first
-/// [`KEPT_WORDS`](crate::KEPT_WORDS).
+/// which other code reads. The words are as many as ever, [`WORDS`](crate::WORDS);
+/// their own counters are neither read nor written.
 pub struct CountedStore<'a> {
     counters: &'a mut Counters,
     words: &'a mut [u64],

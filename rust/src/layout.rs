@@ -13,15 +13,13 @@ pub const RECORD_BYTES: usize = 16;
 /// Entries of the longest boot map.
 pub const MAX_REGIONS: usize = 8;
 
-/// Words of the state, the counters included.
-pub const WORDS: usize = 101;
-
-/// Words of the state without the counters, which are the last nine.
-pub const KEPT_WORDS: usize = 92;
+/// Words of the state, the counters included. Those behind the counters, from the
+/// word 101 on, have no meaning yet: no call reads or writes them.
+pub const WORDS: usize = 512;
 
 /// The number in the low half of the first word: the version of this layout. The
 /// high half has the number of regions, at most eight.
-pub const VERSION: u64 = 1;
+pub const VERSION: u64 = 2;
 
 /// Bytes that the statistics need.
 pub const STATS_BYTES: usize = 368;
@@ -31,4 +29,4 @@ pub(crate) const ROWS_AT: usize = 1;
 pub(crate) const ROW_WORDS: usize = 11;
 pub(crate) const QUEUED_AT: usize = 89;
 pub(crate) const PASS_AT: usize = 90;
-pub(crate) const COUNTERS_AT: usize = KEPT_WORDS;
+pub(crate) const COUNTERS_AT: usize = 92;

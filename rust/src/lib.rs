@@ -50,8 +50,6 @@ mod types;
 pub use counted::{CountedStore, Op};
 pub use error::Error;
 pub use ffi::Counters;
-pub use layout::{
-    FRAME_SIZE, KEPT_WORDS, LEVEL_SIZES, MAX_REGIONS, RECORD_BYTES, STATS_BYTES, VERSION, WORDS,
-};
+pub use layout::{FRAME_SIZE, LEVEL_SIZES, MAX_REGIONS, RECORD_BYTES, STATS_BYTES, VERSION, WORDS};
 pub use store::FrameStore;
 pub use types::{Frame, FrameAllocFlags, MemoryRegion, MemoryRegionKind, Pass, PhysAddr};

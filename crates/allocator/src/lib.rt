@@ -1,16 +1,16 @@
-// The allocator over all regions, after frame.rs's PhysicalFrameAllocator: which region manages an address, and the free, the split and the grant that change one
-// of them. The regions' rows stand in the lent words; a function reads the one that it wants there. The board is the one that the words
-// are of. Where a function has a `requires`, that is what the audit establishes (`SaneIn`), or what an earlier look at an address did.
+// The allocator over all regions, after frame.rs's PhysicalFrameAllocator: which region manages an address, and the free, the split and the
+// grant that change one of them. The regions' rows stand in the lent words; a function reads the one that it wants there. The board is the
+// one that the words are of. Where a function has a `requires`, that is what the audit establishes (`SaneIn`), or what an earlier look at
+// an address did.
 ghost use Rattle.definition.specs.Basics.{everywhere};
 use address::PhysAddr;
 use definition::Row;
 use region::FoundPage;
 ghost use mathlib.Core.Path.{_≡_};
 ghost use mathlib.Core.Bool.{false};
-ghost use Prim.Native.Nat.{_/_, _≤_, _<_};
-ghost use lib.ListN.{length};
+ghost use Prim.Native.Nat.{_/_, _<_};
 ghost use Rattle.definition.specs.Allocator.{doAlloc};
-ghost use Rattle.words.specs.Words.{boardIn, RowsBeside};
+ghost use Rattle.words.specs.Words.{boardIn, Long, RowsBeside};
 ghost use Rattle.allocator.specs.Spots.{
   SaneIn,
   numberIn,
@@ -43,7 +43,7 @@ pub struct Seen {
 
 // get_frame, frame.rs 742.
 pub fn see(words: &[u64], records: &[u8], pa: PhysAddr) -> Seen
-    requires { ⌜ (92 ≤ length (now words)) × SaneIn (now records) (now words) ⌝ }
+    requires { ⌜ Long (now words) × SaneIn (now records) (now words) ⌝ }
     ensures { λ r. ⌜ SeesIn (now (records .entry)) (now (words .entry)) (pa .0 / boardIn (now (words .entry)) .page) r ⌝ }
 {
     let board = words::board_in(words);
@@ -93,7 +93,7 @@ pub fn nothing_seen() -> Seen
 
 // Whether some list holds a frame of the level or above.
 pub fn is_listed(words: &[u64], records: &[u8], level: usize) -> bool
-    requires { ⌜ (92 ≤ length (now words)) × SaneIn (now records) (now words) ⌝ }
+    requires { ⌜ Long (now words) × SaneIn (now records) (now words) ⌝ }
     requires { ⌜ level < 3 ⌝ }
     ensures { λ r. ⌜ ListedIn (now (records .entry)) (now (words .entry)) level r ⌝ }
 {
@@ -130,9 +130,10 @@ fn lists_some(row: Row, level: usize) -> bool
 
 // free, frame.rs 611, of a held frame.
 pub fn free(words: &mut [u64], records: &mut [u8], spot: Spot)
-    requires { ⌜ (92 ≤ length (now words)) × SaneIn (now records) (now words) ⌝ }
+    requires { ⌜ Long (now words) × SaneIn (now records) (now words) ⌝ }
     requires { ⌜ HeldIn (now records) (now words) spot ⌝ }
-    ensures { λ _. ⌜ TurnsIn (freeAt (boardIn (now (words .entry))) (numberIn (now (words .entry)) spot)) (now (records .entry)) (now (words .entry)) (now (records .exit)) (now (words .exit)) ⌝ }
+    ensures { λ _. ⌜ TurnsIn (freeAt (boardIn (now (words .entry))) (numberIn (now (words .entry)) spot)) (now (records .entry))
+        (now (words .entry)) (now (records .exit)) (now (words .exit)) ⌝ }
     ensures { λ _. ⌜ RowsBeside (now (words .entry)) (now (words .exit)) ⌝ }
 {
     let board = words::board_in(words);
@@ -141,9 +142,10 @@ pub fn free(words: &mut [u64], records: &mut [u8], spot: Spot)
 
 // split_frame, frame.rs 753, of a held frame.
 pub fn split_frame(words: &[u64], records: &mut [u8], spot: Spot)
-    requires { ⌜ (92 ≤ length (now words)) × SaneIn (now records) (now words) ⌝ }
+    requires { ⌜ Long (now words) × SaneIn (now records) (now words) ⌝ }
     requires { ⌜ HeldIn (now records) (now words) spot ⌝ }
-    ensures { λ _. ⌜ TurnsIn (splitAt (numberIn (now (words .entry)) spot)) (now (records .entry)) (now (words .entry)) (now (records .exit)) (now (words .entry)) ⌝ }
+    ensures { λ _. ⌜ TurnsIn (splitAt (numberIn (now (words .entry)) spot)) (now (records .entry)) (now (words .entry))
+        (now (records .exit)) (now (words .entry)) ⌝ }
 {
     let board = words::board_in(words);
     let row = words::row_at(words, spot.index);
@@ -152,9 +154,10 @@ pub fn split_frame(words: &[u64], records: &mut [u8], spot: Spot)
 
 // set_not_zero, zero but for the bytes, and set_kernel (frame.rs 443, 430, 470): the marks of a held frame.
 pub fn set_marks(words: &[u64], records: &mut [u8], spot: Spot, zeroed: bool, kernel: bool)
-    requires { ⌜ (92 ≤ length (now words)) × SaneIn (now records) (now words) ⌝ }
+    requires { ⌜ Long (now words) × SaneIn (now records) (now words) ⌝ }
     requires { ⌜ HeldIn (now records) (now words) spot ⌝ }
-    ensures { λ _. ⌜ TurnsIn (markAt zeroed kernel (numberIn (now (words .entry)) spot)) (now (records .entry)) (now (words .entry)) (now (records .exit)) (now (words .entry)) ⌝ }
+    ensures { λ _. ⌜ TurnsIn (markAt zeroed kernel (numberIn (now (words .entry)) spot)) (now (records .entry)) (now (words .entry))
+        (now (records .exit)) (now (words .entry)) ⌝ }
 {
     let board = words::board_in(words);
     let row = words::row_at(words, spot.index);
@@ -175,9 +178,10 @@ fn pass(
     try_zero: bool,
     only_zero: bool,
 ) -> Picked
-    requires { ⌜ (92 ≤ length (now words)) × SaneIn (now records) (now words) ⌝ }
+    requires { ⌜ Long (now words) × SaneIn (now records) (now words) ⌝ }
     requires { ⌜ level < 3 ⌝ }
-    ensures { λ r. ⌜ PicksIn (passBy level «try_zero» «only_zero») (now (records .entry)) (now (words .entry)) (now (records .exit)) (now (words .exit)) (r .found) (r .spot) ⌝ }
+    ensures { λ r. ⌜ PicksIn (passBy level «try_zero» «only_zero») (now (records .entry)) (now (words .entry)) (now (records .exit))
+        (now (words .exit)) (r .found) (r .spot) ⌝ }
     ensures { λ _. ⌜ RowsBeside (now (words .entry)) (now (words .exit)) ⌝ }
 {
     let board = words::board_in(words);
@@ -220,9 +224,10 @@ fn nothing_picked() -> Picked
 
 // __do_alloc, frame.rs 594: zeroed only where that was asked, else dirty only; then either kind.
 pub fn do_alloc(words: &mut [u64], records: &mut [u8], level: usize, needs_zero: bool) -> Picked
-    requires { ⌜ (92 ≤ length (now words)) × SaneIn (now records) (now words) ⌝ }
+    requires { ⌜ Long (now words) × SaneIn (now records) (now words) ⌝ }
     requires { ⌜ level < 3 ⌝ }
-    ensures { λ r. ⌜ PicksIn (doAlloc everywhere level «needs_zero») (now (records .entry)) (now (words .entry)) (now (records .exit)) (now (words .exit)) (r .found) (r .spot) ⌝ }
+    ensures { λ r. ⌜ PicksIn (doAlloc everywhere level «needs_zero») (now (records .entry)) (now (words .entry)) (now (records .exit))
+        (now (words .exit)) (r .found) (r .spot) ⌝ }
     ensures { λ _. ⌜ RowsBeside (now (words .entry)) (now (words .exit)) ⌝ }
 {
     let picked = pass(words, records, level, false, needs_zero);

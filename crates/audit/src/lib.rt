@@ -1,6 +1,7 @@
-// The torn sheet of all that a later call is given (01, "Torn unless all hold"). `survey` makes the tests of each row and its region in one pass over the
-// rows, other functions those of all rows together, of the counters and of the rest. `audit` is true exactly where every sentence holds: on any rows,
-// numbers and bytes whatever, reading nothing outside the loans. Boot asks four of them of the rows that it keeps.
+// The torn sheet of all that a later call is given (01, "Torn unless all hold"). `survey` makes the tests of each row and its region in one
+// pass over the rows, other functions those of all rows together, of the counters and of the rest. `audit` is true exactly where every
+// sentence holds: on any rows, numbers and bytes whatever, reading nothing outside the loans. Boot asks four of them of the rows that it
+// keeps.
 use definition::Board;
 use definition::Counters;
 use definition::Pass;
@@ -29,7 +30,7 @@ ghost use Rattle.definition.specs.Torn.{
   passWithin,
 };
 ghost use Rattle.record.specs.Records.{pagesIn};
-ghost use Rattle.words.specs.Words.{boardIn, rowsIn, queuedIn, passIn, usedIn};
+ghost use Rattle.words.specs.Words.{boardIn, Long, rowsIn, queuedIn, passIn, usedIn};
 ghost use Rattle.audit.specs.Sheet.{rowAt, Few, Visited, Surveys, countsAs, Exact};
 
 // ---- "the rows' starts and pages are such as boot makes"
@@ -128,8 +129,10 @@ pub fn total_pages(board: Board, rows: [Row; 8], used: usize) -> usize
 
 // No two rows in use share a page. A single row shares none, and then the rows are not read.
 fn apart(words: &[u64], used: usize) -> bool
-    requires { ⌜ (92 ≤ length (now words)) × (used ≡ length (usedRows (rowsIn (now words)))) × (all (rowAsBoot (boardIn (now words))) (usedRows (rowsIn (now words))) ≡ true) ⌝ }
-    ensures { λ r. ⌜ r ≡ not (overlap (boardIn (now (words .entry))) (regionsOf (boardIn (now (words .entry))) (rowsIn (now (words .entry))))) ⌝ }
+    requires { ⌜ Long (now words) × (used ≡ length (usedRows (rowsIn (now words))))
+        × (all (rowAsBoot (boardIn (now words))) (usedRows (rowsIn (now words))) ≡ true) ⌝ }
+    ensures { λ r. ⌜ r ≡ not
+        (overlap (boardIn (now (words .entry))) (regionsOf (boardIn (now (words .entry))) (rowsIn (now (words .entry))))) ⌝ }
 {
     if used < 2 {
         return true;
@@ -169,7 +172,8 @@ pub fn loans_long(board: Board, rows: [Row; 8], used: usize, records: usize, mem
 
 // ---- the rows and their regions
 
-// What the rows up to one are found to be: how many are in use, their pages with the tables and without, and the pages that their regions hold.
+// What the rows up to one are found to be: how many are in use, their pages with the tables and without, and the pages that their regions
+// hold.
 struct Surveyed {
     ok: bool,
     used: usize,
@@ -194,8 +198,9 @@ fn torn_rows() -> Surveyed
 
 // The row in use behind those that were seen: that it is as boot makes it, that the loan has its records, and that its region is whole.
 fn visit(records: &[u8], words: &[u64], seen: Surveyed) -> Surveyed
-    requires { ⌜ Few seen × (92 ≤ length (now words)) × (seen .used < 8) × (seen .used < usedIn (now words)) ⌝ }
-    ensures { λ r. ⌜ Visited (boardIn (now (words .entry))) (recordAt (now (records .entry))) (pagesIn (now (records .entry))) (rowAt (rowsIn (now (words .entry))) (seen .used)) seen r ⌝ }
+    requires { ⌜ Few seen × Long (now words) × (seen .used < 8) × (seen .used < usedIn (now words)) ⌝ }
+    ensures { λ r. ⌜ Visited (boardIn (now (words .entry))) (recordAt (now (records .entry))) (pagesIn (now (records .entry)))
+        (rowAt (rowsIn (now (words .entry))) (seen .used)) seen r ⌝ }
 {
     let board = words::board_in(words);
     let row = words::row_at(words, seen.used);
@@ -232,8 +237,9 @@ fn visit(records: &[u8], words: &[u64], seen: Surveyed) -> Surveyed
 
 // The rows in use, each looked at once, and behind them the unused ones, all zeros.
 fn survey(records: &[u8], words: &[u64]) -> Surveyed
-    requires { ⌜ 92 ≤ length (now words) ⌝ }
-    ensures { λ r. ⌜ Surveys (boardIn (now (words .entry))) (recordAt (now (records .entry))) (pagesIn (now (records .entry))) (rowsIn (now (words .entry))) r ⌝ }
+    requires { ⌜ Long (now words) ⌝ }
+    ensures { λ r. ⌜ Surveys (boardIn (now (words .entry))) (recordAt (now (records .entry))) (pagesIn (now (records .entry)))
+        (rowsIn (now (words .entry))) r ⌝ }
 {
     let mut seen = Surveyed {
         ok: true,
@@ -275,7 +281,7 @@ fn counted(counters: Counters, seen: Surveyed) -> bool
     counters.page_data == seen.page
 }
 
-// ---- "`waiting` is 0; the queue's count is within its loan; pass rounds are at most 1,001 and freed at most 100 × rounds", by the board's numbers
+// ---- "`waiting` is 0; the queue's count is within its loan; pass rounds are at most 1,001 and freed at most 100 × rounds"
 
 fn pass_within(board: Board, pass: Pass) -> bool
     requires { ⌜ Fit board ⌝ }
@@ -302,8 +308,8 @@ fn within(board: Board, counters: Counters, queued: usize, room: usize, pass: Pa
 
 // ---- the sheet
 
-// Whether all that a later call is given is as the sheet says. The memory's bytes and the queue's places are not read: any loans of `memory_len` bytes
-// and `queue_len` places do.
+// Whether all that a later call is given is as the sheet says. The memory's bytes and the queue's places are not read: any loans of
+// `memory_len` bytes and `queue_len` places do.
 pub fn audit(
     counters: Counters,
     words: &[u64],
@@ -311,8 +317,9 @@ pub fn audit(
     memory_len: usize,
     queue_len: usize,
 ) -> bool
-    requires { ⌜ 92 ≤ length (now words) ⌝ }
-    ensures { λ r. ⌜ Exact (boardIn (now (words .entry))) (rowsIn (now (words .entry))) counters (queuedIn (now (words .entry))) (passIn (now (words .entry))) (now (records .entry)) «memory_len» «queue_len» r ⌝ }
+    requires { ⌜ Long (now words) ⌝ }
+    ensures { λ r. ⌜ Exact (boardIn (now (words .entry))) (rowsIn (now (words .entry))) counters (queuedIn (now (words .entry)))
+        (passIn (now (words .entry))) (now (records .entry)) «memory_len» «queue_len» r ⌝ }
 {
     let board = words::board_in(words);
     let seen = survey(records, words);

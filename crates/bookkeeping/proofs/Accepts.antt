@@ -17,7 +17,7 @@ use Rattle.definition.specs.Board.{Board, Fit}
 use Rattle.definition.specs.Basics.{sum, any}
 use Rattle.definition.specs.Allocator.{AllocationRegion, tablePages, startPage, nrPages, isUsable, isKept, emptyRegion, total}
 use Rattle.definition.specs.Boot.{managedPages, keptRegions, mostRows, highestAddress, mostPages, recordSize, endsFar, bootSheet}
-use Rattle.definition.specs.Refusal.{lowest}
+use Rattle.definition.specs.Refusal.{firstMet}
 use Rattle.bookkeeping.specs.Blocks.{All, emptied, tables}
 use Rattle.bookkeeping.specs.Blocks.All.{all-none, all-more}
 use Rattle.bookkeeping.specs.Good.{AsBoot, Accepted}
@@ -82,7 +82,7 @@ module _ {b : Board} (fit : Fit b) where
       go true h = omega arith
       go false h = omega arith
 
-  pub accepted : (map : List MemoryRegion) (records memory : ℕ) → lowest (bootSheet b map records memory) ≡ none → Accepted b map records memory
+  pub accepted : (map : List MemoryRegion) (records memory : ℕ) → firstMet (bootSheet b map records memory) ≡ none → Accepted b map records memory
   accepted map records memory e = go (unmet (bootSheet b map records memory) e)
     where
       go : Unmet (bootSheet b map records memory) → Accepted b map records memory

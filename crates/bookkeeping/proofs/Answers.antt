@@ -16,7 +16,7 @@ use Rattle.definition.specs.declared.Refusal.the-variants.{BadLayout, NoLevel, 
 use Rattle.definition.specs.Board.{Board}
 use Rattle.definition.specs.Basics.{any, sum, bit}
 use Rattle.definition.specs.Allocator.{PhysicalFrameAllocator, doAlloc, isListed}
-use Rattle.definition.specs.Refusal.{_when_, orLater, lowest}
+use Rattle.definition.specs.Refusal.{_when_, orLater, firstMet}
 use Rattle.definition.specs.Store.{Store}
 use Rattle.definition.specs.Tracker.{Granted, granted, tryAllocFrame, tryAllocSplitFrames}
 use Rattle.definition.specs.Calls.{
@@ -118,21 +118,21 @@ module _ (b : Board) (s : Store) (c : Call) where
   unchanged none x h r e = absurd (h r e)
   unchanged (some q) x h r e = refl
 
-  refused : (r : Refusal) → (step b s c .answer ≡ Refused r) ↔ (lowest (sheet b s (names c)) ≡ some r)
+  refused : (r : Refusal) → (step b s c .answer ≡ Refused r) ↔ (firstMet (sheet b s (names c)) ≡ some r)
   unfolding step
-  refused r = as-sheet (lowest (sheet b s (names c))) (perform b s c) (perform-accepts b s c) r
+  refused r = as-sheet (firstMet (sheet b s (names c))) (perform b s c) (perform-accepts b s c) r
 
   untouched : (r : Refusal) → step b s c .answer ≡ Refused r → step b s c .store ≡ s
   unfolding step
-  untouched r e = unchanged (lowest (sheet b s (names c))) (perform b s c) (perform-accepts b s c) r e
+  untouched r e = unchanged (firstMet (sheet b s (names c))) (perform b s c) (perform-accepts b s c) r e
 
   passes : (o : Option Refusal) (x : Outcome) → o ≡ none → unlessRefused s o x ≡ x
   passes none x e = refl
   passes (some r) x e = absurd (let z : _≡_ {A = ℕ} 0 1 = cc in omega arith)
 
-  step-performs : lowest (sheet b s (names c)) ≡ none → step b s c ≡ perform b s c
+  step-performs : firstMet (sheet b s (names c)) ≡ none → step b s c ≡ perform b s c
   unfolding step
-  step-performs e = passes (lowest (sheet b s (names c))) (perform b s c) e
+  step-performs e = passes (firstMet (sheet b s (names c))) (perform b s c) e
 
 -- ---- the frame that the search finds
 
@@ -167,12 +167,12 @@ module _ (b : Board) (s : Store) (y : Layout) where
   picks : Grantable b s y → (p : ℕ) × (doAlloc (mine s) (findLevel b y) (y .flags .zeroed) (s .allocator) .page ≡ some p)
   picks g = finds (mine s) (findLevel b y) (y .flags .zeroed) (s .allocator) (g .low) (g .listed)
 
-  alloc-picked : lowest (sheet b s (names (Alloc y))) ≡ none → Picked b s y (step b s (Alloc y) .answer)
+  alloc-picked : firstMet (sheet b s (names (Alloc y))) ≡ none → Picked b s y (step b s (Alloc y) .answer)
   alloc-picked e =
       let x = picks (grantable b s (names (Alloc y)) y [] refl (passed b s (names (Alloc y)) e)) in
       record { page = x .0; found = x .1; given = ap (λ (o : Outcome). o .answer) (step-performs b s (Alloc y) e) ∙ alloc-answer (x .0) (x .1) }
 
-  take-picked : lowest (sheet b s (names (Take y))) ≡ none → Picked b s y (step b s (Take y) .answer)
+  take-picked : firstMet (sheet b s (names (Take y))) ≡ none → Picked b s y (step b s (Take y) .answer)
   take-picked e =
       let x = picks (grantable b s (names (Take y)) y [] refl (passed b s (names (Take y)) e)) in
       record { page = x .0; found = x .1; given = ap (λ (o : Outcome). o .answer) (step-performs b s (Take y) e) ∙ take-answer (x .0) (x .1) }
@@ -205,8 +205,8 @@ unfolding grantSheet
 lacks-grant bad high want true (i, j, k) = inr (rw (i, j, k))
 lacks-grant bad high want false (i, j, k) = inl (rw (i, j, k))
 
-sheet-of : (b : Board) (s : Store) (y : Layout) → lowest (sheet b s (layoutNamed y)) ≡ grantSheet (badLayout y) (noLevel b y) (wants b s y) (y .flags .«wait_ok»)
-unfolding sheet lowest any grantSheet
+sheet-of : (b : Board) (s : Store) (y : Layout) → firstMet (sheet b s (layoutNamed y)) ≡ grantSheet (badLayout y) (noLevel b y) (wants b s y) (y .flags .«wait_ok»)
+unfolding sheet firstMet any grantSheet
 sheet-of b s y = refl
 
 module _ (among : ℕ → Bool) (l : ℕ) where
@@ -250,12 +250,12 @@ module _ (b : Board) (s : Store) (y : Layout) where
   abbrev Want : Type 0
   Want = (badLayout y ≡ false) × (noLevel b y ≡ false) × NoneFrom (findLevel b y) s
 
-  sheet-want : Lacking (lowest (sheet b s (layoutNamed y))) → Want
+  sheet-want : Lacking (firstMet (sheet b s (layoutNamed y))) → Want
   sheet-want e =
       let x = grant-lacks (badLayout y) (noLevel b y) (wants b s y) (y .flags .«wait_ok») (rw sheet-of at e) in
       (x .0, x .1, none-listed (level-low b y (x .1)) (x .2))
 
-  want-sheet : Want → Lacking (lowest (sheet b s (layoutNamed y)))
+  want-sheet : Want → Lacking (firstMet (sheet b s (layoutNamed y)))
   want-sheet (i, j, k) = rw sheet-of (lacks-grant (badLayout y) (noLevel b y) (wants b s y) (y .flags .«wait_ok») (i, j, listed-none (level-low b y j) k))
 
   -- a call whose sheet is the grant's
@@ -263,10 +263,10 @@ module _ (b : Board) (s : Store) (y : Layout) where
   wants-exactly c e = (to, from)
     where
       to : Wanting (step b s c .answer) → Want
-      to (inl i) = sheet-want (subst (λ (n : Names). Lacking (lowest (sheet b s n))) e (inl (refused b s c NoFrame .0 i)))
-      to (inr i) = sheet-want (subst (λ (n : Names). Lacking (lowest (sheet b s n))) e (inr (refused b s c MustWait .0 i)))
+      to (inl i) = sheet-want (subst (λ (n : Names). Lacking (firstMet (sheet b s n))) e (inl (refused b s c NoFrame .0 i)))
+      to (inr i) = sheet-want (subst (λ (n : Names). Lacking (firstMet (sheet b s n))) e (inr (refused b s c MustWait .0 i)))
 
-      back : Lacking (lowest (sheet b s (names c))) → Wanting (step b s c .answer)
+      back : Lacking (firstMet (sheet b s (names c))) → Wanting (step b s c .answer)
       back (inl i) = inl (refused b s c NoFrame .1 i)
       back (inr i) = inr (refused b s c MustWait .1 i)
 
@@ -286,6 +286,6 @@ answered b s c =
     asks y (inl e) = ap names e
     asks y (inr e) = ap names e
 
-    picked : (y : Layout) → Asks c y → lowest (sheet b s (names c)) ≡ none → Picked b s y (step b s c .answer)
-    picked y (inl e) = subst (λ (c : Call). lowest (sheet b s (names c)) ≡ none → Picked b s y (step b s c .answer)) (sym e) (alloc-picked b s y)
-    picked y (inr e) = subst (λ (c : Call). lowest (sheet b s (names c)) ≡ none → Picked b s y (step b s c .answer)) (sym e) (take-picked b s y)
+    picked : (y : Layout) → Asks c y → firstMet (sheet b s (names c)) ≡ none → Picked b s y (step b s c .answer)
+    picked y (inl e) = subst (λ (c : Call). firstMet (sheet b s (names c)) ≡ none → Picked b s y (step b s c .answer)) (sym e) (alloc-picked b s y)
+    picked y (inr e) = subst (λ (c : Call). firstMet (sheet b s (names c)) ≡ none → Picked b s y (step b s c .answer)) (sym e) (take-picked b s y)

@@ -12,7 +12,7 @@ use Rattle.definition.specs.Basics.{sum, bit}
 use Rattle.definition.specs.Frame.{Frames}
 use Rattle.definition.specs.Allocator.{AllocationRegion, isManaged}
 use Rattle.definition.specs.Boot.{bootSheet}
-use Rattle.definition.specs.Refusal.{lowest}
+use Rattle.definition.specs.Refusal.{firstMet}
 use Rattle.definition.specs.Store.{Memory, Store}
 use Rattle.definition.specs.Calls.{Call}
 use Rattle.definition.specs.Book.{Book}
@@ -113,7 +113,7 @@ always-answered b x (c ∷ cs) = along-more (answered b (x .store) c) (always-an
 module _ {b : Board} (fit : Fit b) where
   -- the invariant after every list of calls
   pub agrees
-      : (map : List MemoryRegion) (records memory : ℕ) → lowest (bootSheet b map records memory) ≡ none → (bytes : Memory) (room : ℕ) (calls : List Call)
+      : (map : List MemoryRegion) (records memory : ℕ) → firstMet (bootSheet b map records memory) ≡ none → (bytes : Memory) (room : ℕ) (calls : List Call)
       → let x = afterCalls b map bytes room calls in Holds b (x .store) (x .book)
   agrees map records memory e bytes room calls =
       let a = accepted fit map records memory e .placed in
@@ -121,7 +121,7 @@ module _ {b : Board} (fit : Fit b) where
 
   -- Demand 3, of any board that is fit: a map that boot accepts with loans of some lengths, any bytes in the memory, any room in the queue, every list of calls.
   pub bookkeeping
-      : (map : List MemoryRegion) (records memory : ℕ) → lowest (bootSheet b map records memory) ≡ none → (bytes : Memory) (room : ℕ) (calls : List Call)
+      : (map : List MemoryRegion) (records memory : ℕ) → firstMet (bootSheet b map records memory) ≡ none → (bytes : Memory) (room : ℕ) (calls : List Call)
       → Claim b map bytes room calls
   bookkeeping map records memory e bytes room calls =
       let x = afterCalls b map bytes room calls in

@@ -13,7 +13,7 @@ use Rattle.definition.specs.Basics.{sum, any}
 use Rattle.definition.specs.Frame.{Frames}
 use Rattle.definition.specs.Allocator.{AllocationRegion, managed, total}
 use Rattle.definition.specs.Boot.{managedPages, shares, overlap, bootSheet}
-use Rattle.definition.specs.Refusal.{lowest}
+use Rattle.definition.specs.Refusal.{firstMet}
 use Rattle.definition.specs.Store.{Memory, Store}
 use Rattle.definition.specs.Contents.{sizeOf}
 use Rattle.definition.specs.Calls.{Call}
@@ -125,7 +125,7 @@ module _ (b : Board) where
 -- After every list of calls from an accepted boot.
 module _ {b : Board} (fit : Fit b) where
   pub good
-      : (map : List MemoryRegion) (records memory : ℕ) → lowest (bootSheet b map records memory) ≡ none → (bytes : Memory) (room : ℕ) (calls : List Call)
+      : (map : List MemoryRegion) (records memory : ℕ) → firstMet (bootSheet b map records memory) ≡ none → (bytes : Memory) (room : ℕ) (calls : List Call)
       → let x = afterCalls b map bytes room calls in Good b (x .store) (x .book)
   good map records memory e bytes room calls =
       let x = afterCalls b map bytes room calls in

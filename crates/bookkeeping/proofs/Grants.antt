@@ -85,7 +85,7 @@ module _ (b : Board) (pos : 0 < b .page) (m : List AllocationRegion) (s : Store)
     -- the frame f at the page p, which is aside, is held by the book from now on
     last
         : (t : Store) (f : Frame) → Aside b (roomOf b m) m (t .memory) (listed (a .regions) ++ holding (k .held)) p (t .allocator .frames) f → f .level ≡ l
-        → f .kernel ≡ flags .kernel → t .allocator .regions ≡ a .regions → t .queue ≡ s .queue → t .room ≡ s .room → t .pass ≡ s .pass
+        → f .kernel ≡ flags .kernel → t .allocator .regions ≡ a .regions → t .queue ≡ s .queue → t .kept ≡ s .kept → t .pass ≡ s .pass
         → Handed b m (withCounters t (countAlloc (size l) (flags .kernel) (s .counters))) k p l (flags .kernel)
     unfolding countAlloc sum holding
     last t f i el ek er eq em ep =

@@ -71,7 +71,7 @@ pub record Agree (b : Board) (m : List AllocationRegion) (s : Store) (k : Book) 
   pub counted : Counted b m (s .counters) (s .allocator .regions) (k .held)
   pub regions : k .regions ≡ m
   pub queue : s .queue ≡ k .queue
-  pub room : length (s .queue) ≤ s .room
+  pub room : length (s .queue) ≤ s .kept .room
   pub rounds : s .pass .rounds ≤ b .«max_rounds» + 1
   pub freed : s .pass .freed ≤ b .«per_round» * s .pass .rounds
 

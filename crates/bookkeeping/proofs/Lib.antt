@@ -18,5 +18,5 @@ pub mod Bookkeeping
 pub mod Tilings
 pub mod Listings
 pub mod Good
-pub mod Rooms
+pub mod Kept
 pub mod Regions

@@ -18,7 +18,7 @@ use Rattle.definition.specs.Board.{Board, Fit}
 use Rattle.definition.specs.Basics.{sum}
 use Rattle.definition.specs.Allocator.{AllocationRegion, total}
 use Rattle.definition.specs.Boot.{managedPages}
-use Rattle.definition.specs.Refusal.{lowest}
+use Rattle.definition.specs.Refusal.{firstMet}
 use Rattle.definition.specs.Store.{Store, withCounters, withQueue}
 use Rattle.definition.specs.Tracker.{tryAllocFrame, tryAllocSplitFrames, thenSplitFrame, splitFrame, withPagerOutstanding, trackFramePager, untrackFramePager}
 use Rattle.definition.specs.Calls.{
@@ -117,7 +117,7 @@ module _ (b : Board) (pos : 0 < b .page) (m : List AllocationRegion) (sums : man
         (rw (mul-div-cancel-left p pos) (rw (eq-eqb p p refl) at z))
 
   queue-agree
-      : (a : ℕ) → leb (s .room) (length (s .queue)) ≡ false
+      : (a : ℕ) → leb (s .kept .room) (length (s .queue)) ≡ false
       → Agree b m (withQueue s (s .queue ++ (a ∷ []))) (withWaiting k (k .queue ++ (a ∷ [])))
   queue-agree a e =
       record {
@@ -125,7 +125,7 @@ module _ (b : Board) (pos : 0 < b .page) (m : List AllocationRegion) (sums : man
         counted = h .counted;
         regions = h .regions;
         queue = ap (λ q. q ++ (a ∷ [])) (h .queue);
-        room = simp length-append (omega (arith, leb-false (s .room) (length (s .queue)) e));
+        room = simp length-append (omega (arith, leb-false (s .kept .room) (length (s .queue)) e));
         rounds = h .rounds;
         freed = h .freed;
       }
@@ -162,7 +162,7 @@ module _ (b : Board) (pos : 0 < b .page) (m : List AllocationRegion) (sums : man
   perform-agree (Zero a) x = let i = named b s (names (Zero a)) _ [] refl x .at in zero-agree b pos m s k h (a / b .page) (i .frame) (i .here) (i .held)
   perform-agree (Dirty a) x = let i = named b s (names (Dirty a)) _ [] refl x .at in dirty-agree b pos m s k h (a / b .page) (i .frame) (i .here) (i .held)
   perform-agree (Find a) x = h
-  perform-agree (Queue a) x = queue-agree a (any-head (λ (a : ℕ). leb (s .room) (length (s .queue))) a [] (x .queue))
+  perform-agree (Queue a) x = queue-agree a (any-head (λ (a : ℕ). leb (s .kept .room) (length (s .queue))) a [] (x .queue))
   perform-agree (Fill a off len byte) x =
       let i = named b s (names (Fill a off len byte)) _ [] refl x in
       fill-agree b pos m s k h (a / b .page) (i .at .frame) (i .at .here) (i .at .held) off len byte (i .range)
@@ -184,9 +184,9 @@ module _ (b : Board) (pos : 0 < b .page) (m : List AllocationRegion) (sums : man
 
   pub step-agree : (c : Call) → Keeps c (step b s c)
   unfolding step
-  step-agree c = go (lowest (sheet b s (names c))) refl
+  step-agree c = go (firstMet (sheet b s (names c))) refl
     where
-      go : (o : Option Refusal) → lowest (sheet b s (names c)) ≡ o → Keeps c (unlessRefused s o (perform b s c))
+      go : (o : Option Refusal) → firstMet (sheet b s (names c)) ≡ o → Keeps c (unlessRefused s o (perform b s c))
       go (some r) e = h
       go none e = perform-agree c (passed b s (names c) e)
 

@@ -14,7 +14,7 @@ use Rattle.definition.specs.Basics.{sum, bit}
 use Rattle.definition.specs.Frame.{levels}
 use Rattle.definition.specs.Allocator.{isManaged, doAlloc}
 use Rattle.definition.specs.Boot.{managedPages, keptRegions, boot}
-use Rattle.definition.specs.Refusal.{lowest}
+use Rattle.definition.specs.Refusal.{firstMet}
 use Rattle.definition.specs.Store.{Memory, Store}
 use Rattle.definition.specs.Calls.{Layout, Call, Alloc, Take, Answer, Refused, Done, names, badLayout, noLevel, bytesOfLevel, findLevel, mine, sheet, step}
 use Rattle.definition.specs.Book.{Book, emptyBook, noteAnswer}
@@ -107,12 +107,12 @@ pub record Picked (b : Board) (s : Store) (y : Layout) (answer : Answer) : Type 
 
 pub record Answered (b : Board) (s : Store) (c : Call) : Type 0 where
   -- "each call [is] refused exactly as 01's sheet says"
-  pub refusedAsSheet : (r : Refusal) → (step b s c .answer ≡ Refused r) ↔ (lowest (sheet b s (names c)) ≡ some r)
+  pub refusedAsSheet : (r : Refusal) → (step b s c .answer ≡ Refused r) ↔ (firstMet (sheet b s (names c)) ≡ some r)
   -- and a refused one changes nothing
   pub untouched : (r : Refusal) → step b s c .answer ≡ Refused r → step b s c .store ≡ s
   -- "exactly when no earlier refusal meets it and no listed frame of the asked level or above exists just before it"
   pub wantExactly : (y : Layout) → Asks c y → Wanting (step b s c .answer) ↔ ((badLayout y ≡ false) × (noLevel b y ≡ false) × NoneFrom (findLevel b y) s)
-  pub picked : (y : Layout) → Asks c y → lowest (sheet b s (names c)) ≡ none → Picked b s y (step b s c .answer)
+  pub picked : (y : Layout) → Asks c y → firstMet (sheet b s (names c)) ≡ none → Picked b s y (step b s c .answer)
 
 -- ---- the claim
 

@@ -133,6 +133,6 @@ pub record Good (b : Board) (s : Store) (k : Book) : Type 0 where
   pub waiting : s .counters .waiting ≡ 0
   -- the queue is the book's and has its place, and the pass is within its bounds
   pub queue : s .queue ≡ k .queue
-  pub room : length (s .queue) ≤ s .room
+  pub room : length (s .queue) ≤ s .kept .room
   pub rounds : s .pass .rounds ≤ b .«max_rounds» + 1
   pub freed : s .pass .freed ≤ b .«per_round» * s .pass .rounds

@@ -17,7 +17,7 @@ use Rattle.definition.specs.Board.{Board}
 use Rattle.definition.specs.Allocator.{AllocationRegion, PhysicalFrameAllocator, total}
 use Rattle.definition.specs.Boot.{boot, bootSheet, bootWith, countersAtBoot, endsFar, keptRegions, managedPages, recordSize}
 use Rattle.definition.specs.Calls.{Answer as AnswerOf, Refused, Done}
-use Rattle.definition.specs.Refusal.{lowest, numberOf}
+use Rattle.definition.specs.Refusal.{firstMet, numberOf}
 use Rattle.definition.specs.Store.{Store}
 use Rattle.definition.specs.World.{World, bareRegion, encode, memoryOf, recordAt, usedRows}
 use Rattle.definition.specs.Torn.{Left, bareRegions, bootCall, booted, loansLong, regionsOf, unlessRefused}
@@ -44,21 +44,21 @@ module _ {board : Board} where
 
   module _ (ms : List MemoryRegion) (w : World) where
     pub boots-refused
-        : (n : ℕ) → n ≡ numberIf (lowest (bootSheet board ms (length (w .records)) (length (w .memory)))) → (n ≡ 0 → ⊥) → Boots board ms w w (refusedBy n)
+        : (n : ℕ) → n ≡ numberIf (firstMet (bootSheet board ms (length (w .records)) (length (w .memory)))) → (n ≡ 0 → ⊥) → Boots board ms w w (refusedBy n)
     unfolding bootCall
-    boots-refused n e d = go (one-met (lowest (bootSheet board ms (length (w .records)) (length (w .memory)))) n (sym e) d)
+    boots-refused n e d = go (one-met (firstMet (bootSheet board ms (length (w .records)) (length (w .memory)))) n (sym e) d)
       where
-        go : (r : Refusal) × (lowest (bootSheet board ms (length (w .records)) (length (w .memory))) ≡ some r) × (numberOf r ≡ n) → Boots board ms w w (refusedBy n)
+        go : (r : Refusal) × (firstMet (bootSheet board ms (length (w .records)) (length (w .memory))) ≡ some r) × (numberOf r ≡ n) → Boots board ms w w (refusedBy n)
         go (r, f, m) = rw (← m) (boots-as ms w w (Refused r) (ap (λ (o : Option Refusal). unlessRefused w o (booted board ms w)) f))
 
     pub boots-accepted
-        : (v : World) → 0 ≡ numberIf (lowest (bootSheet board ms (length (w .records)) (length (w .memory))))
+        : (v : World) → 0 ≡ numberIf (firstMet (bootSheet board ms (length (w .records)) (length (w .memory))))
         → encode board (boot board ms (memoryOf board (w .memory) (keptRegions board ms)) (length (w .queue))) w ≡ v
         → Boots board ms w v (record { number = 0; address = 0; bytes = board .page * managedPages board (keptRegions board ms) })
     unfolding bootCall
     boots-accepted v e d =
         boots-as ms w v (Done 0 (board .page * managedPages board (keptRegions board ms)))
-        (ap (λ (o : Option Refusal). unlessRefused w o (booted board ms w)) (none-met (lowest (bootSheet board ms (length (w .records)) (length (w .memory)))) (sym e))
+        (ap (λ (o : Option Refusal). unlessRefused w o (booted board ms w)) (none-met (firstMet (bootSheet board ms (length (w .records)) (length (w .memory)))) (sym e))
         ∙ ap (λ (x : World). record { world = x; answer = Done 0 (board .page * managedPages board (keptRegions board ms)) }) d)
 
 -- ---- what is said of regions by their starts and pages
@@ -157,7 +157,7 @@ module _
 
       pub boots-done
           : (managed : ℕ) → managed ≡ managedPages board (regionsOf board rows)
-          → 0 ≡ numberIf (lowest (bootSheet board ms (length (w .records)) (length (w .memory))))
+          → 0 ≡ numberIf (firstMet (bootSheet board ms (length (w .records)) (length (w .memory))))
           → Boots board ms w after (record { number = 0; address = 0; bytes = board .page * managed })
       boots-done managed e z =
           rw (e, same-spans) (boots-accepted ms w after z (ap (λ (s : Store). encode board s w) store-is ∙ written))

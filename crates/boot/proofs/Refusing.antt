@@ -10,7 +10,7 @@ use Rattle.definition.specs.declared.MemoryRegion.{MemoryRegion}
 use Rattle.definition.specs.Board.{Board}
 use Rattle.definition.specs.Basics.{any}
 use Rattle.definition.specs.Boot.{bootSheet, endsFar, keptRegions}
-use Rattle.definition.specs.Refusal.{lowest}
+use Rattle.definition.specs.Refusal.{firstMet}
 use Rattle.definition.specs.Torn.{regionsOf, rowsAsBoot}
 use Rattle.definition.specs.World.{usedRows}
 use Rattle.audit.proofs.Regions.{loans-fit}
@@ -23,7 +23,7 @@ use Rattle.boot.proofs.Sheet.{Admitted, admitted, far-map, long-map, ne
 
 module _ {map : List MemoryRegion} {count : ℕ} {ms : List MemoryRegion} (M : Mapped map count ms) where
   pub given-long
-      : (board : Board) (records memory : ℕ) → 8 < count → _≡_ {A = ℕ} 1 (numberIf (lowest (bootSheet board ms records memory)))
+      : (board : Board) (records memory : ℕ) → 8 < count → _≡_ {A = ℕ} 1 (numberIf (firstMet (bootSheet board ms records memory)))
   given-long board records memory h = sym (long-map board ms records memory (omega (arith, M .long)))
 
   module _ (few : count ≤ 8) where
@@ -32,7 +32,7 @@ module _ {map : List MemoryRegion} {count : ℕ} {ms : List MemoryRegion} (M : M
 
     pub given-far
         : (board : Board) (records memory : ℕ) → any endsFar (take count map) ≡ true
-        → _≡_ {A = ℕ} 2 (numberIf (lowest (bootSheet board ms records memory)))
+        → _≡_ {A = ℕ} 2 (numberIf (firstMet (bootSheet board ms records memory)))
     given-far board records memory f = sym (far-map board ms records memory (omega (arith, M .long)) (ap (any endsFar) (sym all-given) ∙ f))
 
     pub given-near : any endsFar (take count map) ≡ false → any endsFar ms ≡ false
@@ -46,7 +46,7 @@ module _ {map : List MemoryRegion} {count : ℕ} {ms : List MemoryRegion} (M : M
         pub given-spans : regionsOf board (r .rows) ≡ keptRegions board ms
         given-spans = rw given-kept (kept-spans fit ms (given-near near))
 
-        pub given-rows : (records memory : ℕ) → rowsRefusal board (r .rows) records memory ≡ numberIf (lowest (bootSheet board ms records memory))
+        pub given-rows : (records memory : ℕ) → rowsRefusal board (r .rows) records memory ≡ numberIf (firstMet (bootSheet board ms records memory))
         given-rows records memory = sym (near-map board ms records memory (omega (arith, M .long)) (given-near near) (r .rows) given-spans)
 
 -- ---- a map that is not refused

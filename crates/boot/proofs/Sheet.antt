@@ -18,7 +18,7 @@ use Rattle.definition.specs.Board.{Board}
 use Rattle.definition.specs.Basics.{any}
 use Rattle.definition.specs.Allocator.{total}
 use Rattle.definition.specs.Boot.{bootSheet, endsFar, keptRegions, managedPages, mostPages, mostRows, overlap, recordSize}
-use Rattle.definition.specs.Refusal.{lowest, _when_}
+use Rattle.definition.specs.Refusal.{firstMet, _when_}
 use Rattle.definition.specs.Torn.{loansLong, regionsOf, rowsAsBoot}
 use Rattle.definition.proofs.Row as R
 use Rattle.definition.proofs.Tests.{and-true}
@@ -28,9 +28,9 @@ use Rattle.boot.specs.Booting.{RowsKept, rowsRefusal}
 
 sheet-number
     : (a b c d e : Bool)
-    → numberIf (lowest ((LongMap when a) ∷ (FarAddress when b) ∷ (Overlap when c) ∷ (TooManyPages when d) ∷ (ShortLoan when e) ∷ []))
+    → numberIf (firstMet ((LongMap when a) ∷ (FarAddress when b) ∷ (Overlap when c) ∷ (TooManyPages when d) ∷ (ShortLoan when e) ∷ []))
     ≡ cond a 1 (cond b 2 (cond c 3 (cond d 4 (cond e 5 0))))
-unfolding lowest
+unfolding firstMet
 sheet-number true b c d e = refl
 sheet-number false true c d e = refl
 sheet-number false false true d e = refl
@@ -52,22 +52,22 @@ module _ (board : Board) (ms : List MemoryRegion) (records memory : ℕ) where
   short = ltb records (recordSize * managedPages board (keptRegions board ms)) || ltb memory (board .page * managedPages board (keptRegions board ms))
 
   by-tests
-      : numberIf (lowest (bootSheet board ms records memory))
+      : numberIf (firstMet (bootSheet board ms records memory))
       ≡ cond (ltb mostRows (length ms)) 1
       (cond (any endsFar ms) 2 (cond (overlap board (keptRegions board ms)) 3 (cond (ltb mostPages (total (keptRegions board ms))) 4 (cond short 5 0))))
   by-tests =
       sheet-number (ltb mostRows (length ms)) (any endsFar ms) (overlap board (keptRegions board ms)) (ltb mostPages (total (keptRegions board ms))) short
 
-  pub long-map : 8 < length ms → numberIf (lowest (bootSheet board ms records memory)) ≡ 1
+  pub long-map : 8 < length ms → numberIf (firstMet (bootSheet board ms records memory)) ≡ 1
   long-map h = by-tests ∙ rw (lt-ltb 8 (length ms) h) refl
 
   module _ (few : length ms ≤ 8) where
-    pub far-map : any endsFar ms ≡ true → numberIf (lowest (bootSheet board ms records memory)) ≡ 2
+    pub far-map : any endsFar ms ≡ true → numberIf (firstMet (bootSheet board ms records memory)) ≡ 2
     far-map f = by-tests ∙ rw (le-ltb 8 (length ms) few, f) refl
 
     pub near-map
         : any endsFar ms ≡ false → (rows : List Row) → regionsOf board rows ≡ keptRegions board ms
-        → numberIf (lowest (bootSheet board ms records memory)) ≡ rowsRefusal board rows records memory
+        → numberIf (firstMet (bootSheet board ms records memory)) ≡ rowsRefusal board rows records memory
     unfolding rowsRefusal loansLong
     near-map f rows e =
         by-tests

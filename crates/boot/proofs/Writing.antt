@@ -14,7 +14,7 @@ use Rattle.definition.specs.declared.Row.{Row}
 use Rattle.definition.specs.Boot.{countersAtBoot}
 use Rattle.definition.specs.World.{World, noRow, usedRows}
 use Rattle.record.specs.Records.{withBytes}
-use Rattle.words.specs.Words.{Narrow, keptOf, passIn, queuedIn, rowsIn}
+use Rattle.words.specs.Words.{Long, Narrow, keptOf, passIn, queuedIn, rowsIn}
 use Rattle.words.proofs.Words.{pass-written, queued-written, rows-written}
 use Rattle.allocator.proofs.Arrays.{stand-length}
 use Rattle.allocator.proofs.Turning.{used-most}
@@ -34,7 +34,7 @@ module _ {board : Board} where
 
 -- the count that is written is that of the rows in use, so that they are read again as they were laid out
 module _
-    (ws : List ℕ) (laid : List Row) (h : 92 ≤ length ws) (n : Narrow laid) (used : ℕ) (many : used ≡ length (usedRows laid))
+    (ws : List ℕ) (laid : List Row) (h : Long ws) (n : Narrow laid) (used : ℕ) (many : used ≡ length (usedRows laid))
     (unused : drop (length (usedRows laid)) laid ≡ replicate (8 - length (usedRows laid)) noRow)
   where
     abbrev none : Pass

@@ -14,7 +14,7 @@ use Rattle.definition.specs.Board.{Board}
 use Rattle.definition.specs.Basics.{all, any}
 use Rattle.definition.specs.Allocator.{PhysicalFrameAllocator, admitRegion, isKept, nrPages, startPage, total}
 use Rattle.definition.specs.Boot.{bootSheet, countersAtBoot, endsFar, managedPages, mostPages, overlap}
-use Rattle.definition.specs.Refusal.{lowest}
+use Rattle.definition.specs.Refusal.{firstMet}
 use Rattle.definition.specs.World.{World, bareRegion, noRow, usedRows}
 use Rattle.definition.specs.Torn.{bootCall, isNoRow, loansLong, regionsOf, rowAsBoot}
 use Rattle.record.specs.Records.{withBytes}
@@ -71,7 +71,7 @@ module _ (board : Board) where
 
   -- the sheet's number, whatever stands past the eighth entry; where there is none, every entry is in the array
   pub record RefusedAs (map : List MemoryRegion) (count records memory r : ℕ) : Type 0 where
-    pub number : (ms : List MemoryRegion) → Mapped map count ms → r ≡ numberIf (lowest (bootSheet board ms records memory))
+    pub number : (ms : List MemoryRegion) → Mapped map count ms → r ≡ numberIf (firstMet (bootSheet board ms records memory))
     pub few : r ≡ 0 → count ≤ 8
     pub near : r ≡ 0 → any endsFar (take count map) ≡ false
 

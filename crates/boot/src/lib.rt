@@ -1,5 +1,5 @@
-// The boot (frame.rs's init): the refusals of a map, 1 to 5, and the layout of the regions that it keeps. A refused boot leaves everything as it was. Numbers
-// of a map are any of 64 bits, so an entry is rounded to pages only once no usable one ends past 2^40.
+// The boot (frame.rs's init): the refusals of a map, 1 to 5, and the layout of the regions that it keeps. A refused boot leaves everything
+// as it was. Numbers of a map are any of 64 bits, so an entry is rounded to pages only once no usable one ends past 2^40.
 use address::PhysAddr;
 use definition::Board;
 use definition::Counters;
@@ -18,6 +18,7 @@ ghost use Rattle.definition.specs.Basics.{any};
 ghost use Rattle.definition.specs.Boot.{countersAtBoot, endsFar};
 ghost use Rattle.definition.specs.World.{recordAt};
 ghost use Rattle.record.specs.Records.{pagesIn};
+ghost use Rattle.words.specs.Words.{Long};
 ghost use Rattle.exam.specs.Promise.{stateWith, worldOf};
 ghost use Rattle.boot.specs.Booting.{
   Keeps,
@@ -138,15 +139,15 @@ fn refusal_of_rows(board: Board, rows: [Row; 8], used: usize, records: usize, me
     ensures { λ r. ⌜ r ≡ rowsRefusal board rows records memory ⌝ }
 {
     if audit::overlaps(board, rows, used) {
-        return 3;
+        return definition::OVERLAP;
     }
     if 1048576 < audit::total_pages(board, rows, used) {
-        return 4;
+        return definition::TOO_MANY_PAGES;
     }
     if audit::loans_long(board, rows, used, records, memory) {
         return 0;
     }
-    5
+    definition::SHORT_LOAN
 }
 
 // Of a map of `count` entries the first eight are given; of a longer one none is read.
@@ -161,10 +162,10 @@ pub fn refusal_of_map(
     ensures { λ r. ⌜ RefusedAs board map count records memory r ⌝ }
 {
     if 8 < count {
-        return 1;
+        return definition::LONG_MAP;
     }
     if any_far(map, count) {
-        return 2;
+        return definition::FAR_ADDRESS;
     }
     let kept = kept_rows(board, map, count);
     let rows = kept.rows;
@@ -177,7 +178,8 @@ pub fn refusal_of_map(
 fn lay_out(board: Board, records: &mut [u8], rows: [Row; 8], used: usize) -> [Row; 8]
     requires { ⌜ Fit board ⌝ }
     requires { ⌜ Ready board rows used (pagesIn (now records)) ⌝ }
-    ensures { λ r. ⌜ Lays board (recordAt (now (records .entry))) rows (recordAt (now (records .exit))) (pagesIn (now (records .exit))) r ⌝ }
+    ensures { λ r. ⌜ Lays board (recordAt (now (records .entry))) rows (recordAt (now (records .exit))) (pagesIn (now (records .exit)))
+        r ⌝ }
 {
     let mut next = rows;
     let mut base: usize = 0;
@@ -209,8 +211,8 @@ pub fn started(pages: usize) -> Counters
     }
 }
 
-// init, frame.rs 707: the store that a map of `count` entries makes, of which `map` has the first eight. The memory's bytes stay. Nothing of
-// the words is read, so that the board is the caller's to give.
+// init, frame.rs 707: the store that a map of `count` entries makes, of which `map` has the first eight. The memory's bytes stay. Nothing
+// of the words is read, so that the board is the caller's to give.
 pub fn boot(
     board: Board,
     counters: Counters,
@@ -222,8 +224,11 @@ pub fn boot(
     queue: &[u64],
 ) -> Outcome
     requires { ⌜ Fit board ⌝ }
-    requires { ⌜ 92 ≤ length (now words) ⌝ }
-    ensures { λ r. ⌜ BootsAll board map count (worldOf (stateWith counters (now (words .entry))) (now (records .entry)) (now (memory .entry)) (now (queue .entry))) (worldOf (stateWith (r .counters) (now (words .exit))) (now (records .exit)) (now (memory .entry)) (now (queue .entry))) (r .answer) ⌝ }
+    requires { ⌜ Long (now words) ⌝ }
+    ensures { λ r. ⌜ BootsAll board map count
+        (worldOf (stateWith counters (now (words .entry))) (now (records .entry)) (now (memory .entry)) (now (queue .entry)))
+        (worldOf (stateWith (r .counters) (now (words .exit))) (now (records .exit)) (now (memory .entry)) (now (queue .entry)))
+        (r .answer) ⌝ }
     ensures { λ r. ⌜ BootsOver (now (words .entry)) (now (words .exit)) (r .answer) ⌝ }
 {
     let number = refusal_of_map(board, map, count, records.len(), memory.len());

@@ -1,5 +1,5 @@
-// Every call that answers by numbers, by its op and at most five numbers: one dispatch for all that read a call from elsewhere, a line of a script or words that a
-// kernel lends. It asks for what the torn test gives and promises what the call promises.
+// Every call that answers by numbers, by its op and at most five numbers: one dispatch for all that read a call from elsewhere, a line of a
+// script or words that a kernel lends. It asks for what the torn test gives and promises what the call promises.
 use address::PhysAddr;
 use definition::Counters;
 use definition::FrameAllocFlags;

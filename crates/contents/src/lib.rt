@@ -1,5 +1,5 @@
-// The bytes of the lent memory: a range filled, written, copied, or lent as a part (frame.rs 430 to 541 without the frames and their marks).
-// Each contract is an equation on the whole loan: `withBytes bs at xs` is bs but for the bytes of xs from `at` on.
+// The bytes of the lent memory: a range filled, written, copied, or lent as a part (frame.rs 430 to 541 without the frames and their
+// marks). Each contract is an equation on the whole loan: `withBytes bs at xs` is bs but for the bytes of xs from `at` on.
 ghost use mathlib.Core.Path.{_≡_};
 ghost use Prim.Native.Nat.{_+_, _<_, _≤_};
 ghost use lib.ListN.{length, take, drop, replicate};

@@ -11,10 +11,11 @@ use lib.ListN.{length}
 use Rattle.definition.specs.Board.{Board}
 use Rattle.definition.specs.Contents.{copyContentsFrom, copyContentsFromPhysaddr, isZeroedAt, zeroRange}
 use Rattle.definition.specs.Calls.{Copy, done, perform, step}
+use Rattle.definition.specs.Refusal.{rankOf}
 use Rattle.definition.specs.Store.{Store}
 use Rattle.definition.specs.World.{World, recordAt}
 use Rattle.record.specs.Records.{pagesIn}
-use Rattle.world.specs.Refusals.{lower, refusalOf}
+use Rattle.world.specs.Refusals.{earlier, refusalOf}
 use Rattle.world.proofs.Refusing.{two-frames}
 use Rattle.allocator.specs.declared.Seen.{Seen}
 use Rattle.allocator.specs.Spots.{numberAt}
@@ -66,9 +67,9 @@ pub spans-of
     → SpansIn ws rs m (x .seen) off len
 spans-of ws rs m T room L z = record { held = L .held z; range = L .range z; ends = omega (arith, looked-ends ws rs T L z m room) }
 
--- no refusal is the lower of two where each is none
-pub lower-none : (a b : ℕ) → lower a b ≡ 0 → (a ≡ 0) × (b ≡ 0)
-lower-none a b e = go (ℕ-discrete a 0) (ℕ-discrete b 0)
+-- the earlier of two is none where each is none
+pub earlier-none : (a b : ℕ) → earlier a b ≡ 0 → (a ≡ 0) × (b ≡ 0)
+earlier-none a b e = go (ℕ-discrete a 0) (ℕ-discrete b 0)
   where
     less : (t : Bool) → cond t a b ≡ 0 → (a ≡ 0 → ⊥) → (b ≡ 0 → ⊥) → ⊥
     less true e h k = h e
@@ -78,7 +79,7 @@ lower-none a b e = go (ℕ-discrete a 0) (ℕ-discrete b 0)
     go (yes h) (yes k) = (h, k)
     go (yes h) (no k) = absurd (k (rw (eq-eqb a 0 h) at e))
     go (no h) (yes k) = absurd (h (rw (ne-eqb a 0 h, eq-eqb b 0 k) at e))
-    go (no h) (no k) = absurd (less (ltb a b) (rw (ne-eqb a 0 h, ne-eqb b 0 k) at e) h k)
+    go (no h) (no k) = absurd (less (ltb (rankOf a) (rankOf b)) (rw (ne-eqb a 0 h, ne-eqb b 0 k) at e) h k)
 
 -- ---- the promise
 
@@ -87,11 +88,11 @@ module _ {board : Board} {w : World} {s : Store} (W : Whole board w s) where
   LooksAt a off len x = Looks board (recordAt (w .records)) (pagesIn (w .records)) (w .rows) a off len x
 
   module _ {a off b soff len : ℕ} {to from : Exam} (L : LooksAt a off len to) (F : LooksAt b soff len from) where
-    refusal : refusalOf board s (Copy a off b soff len) ≡ lower (to .number) (from .number)
+    refusal : refusalOf board s (Copy a off b soff len) ≡ earlier (to .number) (from .number)
     refusal = two-frames board s a off b soff len ∙ rw (looked-refusal W L, looked-refusal W F) refl
 
     pub copy-refused
-        : (n : ℕ) → n ≡ lower (to .number) (from .number) → (n ≡ 0 → ⊥)
+        : (n : ℕ) → n ≡ earlier (to .number) (from .number) → (n ≡ 0 → ⊥)
         → Made board (step board s (Copy a off b soff len)) w w (refusedBy n)
     copy-refused n e d = made-refused W (Copy a off b soff len) n (refusal ∙ sym e) d
 

@@ -17,7 +17,7 @@ use Rattle.definition.specs.Basics.{any}
 use Rattle.definition.specs.Board.{Board, Fit}
 use Rattle.definition.specs.Boot.{managedPages}
 use Rattle.definition.specs.Allocator.{AllocationRegion, PhysicalFrameAllocator, contains, end, isManaged}
-use Rattle.definition.specs.Refusal.{_when_, lowest}
+use Rattle.definition.specs.Refusal.{_when_, firstMet}
 use Rattle.definition.specs.Contents.{bytesAt, copyContentsFromPhysaddr}
 use Rattle.definition.specs.Calls.{Pcopy, done, leavesRegion, perform, step}
 use Rattle.definition.specs.Store.{Store}
@@ -25,7 +25,7 @@ use Rattle.definition.specs.World.{World, bareRegion, recordAt, usedRows}
 use Rattle.definition.specs.Torn.{bareRegions, regionsOf}
 use Rattle.record.specs.Records.{pagesIn}
 use Rattle.region.specs.Rep.{Inside, fromOf, managed}
-use Rattle.world.specs.Refusals.{lower, numberIf, placeRefusal, rangeOf, refusalOf}
+use Rattle.world.specs.Refusals.{earlier, numberIf, placeRefusal, rangeOf, refusalOf}
 use Rattle.world.specs.Stands.{Disjoint, Each, Parted, rowAt}
 use Rattle.world.specs.Stands.Disjoint.{disjoint-more}
 use Rattle.world.specs.Stands.Each.{each-none, each-more}
@@ -86,8 +86,8 @@ module _ (board : Board) where
 
 -- ---- the refusal
 
-by-tests : (e h : Bool) → numberIf (lowest ((Outside when not e) ∷ (PastTheEnd when h) ∷ [])) ≡ cond (not e) 11 (cond h 14 0)
-unfolding lowest
+by-tests : (e h : Bool) → numberIf (firstMet ((Outside when not e) ∷ (PastTheEnd when h) ∷ [])) ≡ cond (not e) 11 (cond h 14 0)
+unfolding firstMet
 by-tests false h = refl
 by-tests true true = refl
 by-tests true false = refl
@@ -182,11 +182,11 @@ module _ {board : Board} {w : World} {s : Store} (W : Whole board w s) (a : ℕ)
     -- ---- the promise
 
     module _ {b off len : ℕ} {to : Exam} (L : Looks board (recordAt (w .records)) (pagesIn (w .records)) (w .rows) b off len to) where
-      refusal : refusalOf board s (Pcopy b off a len) ≡ lower (to .number) (placeSeen board (w .rows) r a len)
+      refusal : refusalOf board s (Pcopy b off a len) ≡ earlier (to .number) (placeSeen board (w .rows) r a len)
       refusal = frame-and-place board s b off a 0 len len ∙ rw (looked-refusal W L, place-seen len) refl
 
       pub pcopy-refused
-          : (n : ℕ) → n ≡ lower (to .number) (placeSeen board (w .rows) r a len) → (n ≡ 0 → ⊥)
+          : (n : ℕ) → n ≡ earlier (to .number) (placeSeen board (w .rows) r a len) → (n ≡ 0 → ⊥)
           → Made board (step board s (Pcopy b off a len)) w w (refusedBy n)
       pcopy-refused n e d = made-refused W (Pcopy b off a len) n (refusal ∙ sym e) d
 

@@ -10,7 +10,7 @@ use Rattle.definition.proofs.Boards.{page-most}
 use Rattle.definition.proofs.Bytes.{aligned-is, pages-order}
 use Rattle.definition.specs.Board.{Board}
 use Rattle.definition.specs.Contents.{bytesAt}
-use Rattle.definition.specs.Refusal.{lowest}
+use Rattle.definition.specs.Refusal.{firstMet}
 use Rattle.definition.specs.Calls.{Answer, Bytes, Done, Outcome, Read, Refused, Text, answerNumber, names, perform, sheet, step, tells}
 use Rattle.definition.specs.Store.{Store}
 use Rattle.definition.specs.World.{World, recordAt}
@@ -71,7 +71,7 @@ module _ {board : Board} {w : World} {s : Store} (W : Whole board w s) {a off le
 
       stepped : step board s (Read a off len) ≡ tells s (Bytes (take len (drop at (w .memory))))
       unfolding step
-      stepped = rw (none-met (lowest (sheet board s (names (Read a off len)))) free) performed
+      stepped = rw (none-met (firstMet (sheet board s (names (Read a off len)))) free) performed
 
       read-made : Made board (step board s (Read a off len)) w w (readBy 0 len)
       read-made = rw as-many at (made-same W (Read a off len) (tells s (Bytes (take len (drop at (w .memory))))) free performed refl)

@@ -13,7 +13,7 @@ ghost use lib.ListN.{length};
 ghost use Rattle.definition.specs.Board.{Fit};
 ghost use Rattle.definition.specs.Contents.{zeroRange, copyContentsFrom};
 ghost use Rattle.definition.specs.Calls.{Copy, Pcopy};
-ghost use Rattle.words.specs.Words.{boardIn, keptWords, rowsIn};
+ghost use Rattle.words.specs.Words.{boardIn, Long, rowsIn};
 ghost use Rattle.allocator.specs.Spots.{numberIn};
 ghost use Rattle.exam.specs.Promise.{LevelKnown, bytesIf};
 ghost use Rattle.exam.specs.Making.{TableIn, RoomIn, Writes};
@@ -144,7 +144,7 @@ pub fn copy(
 {
     let to = exam::look(words, records, target, target_offset, len);
     let from = exam::look(words, records, source, source_offset, len);
-    let number = exam::lower(to.number, from.number);
+    let number = exam::earlier(to.number, from.number);
     if number != 0 {
         return exam::refused(number);
     }
@@ -165,11 +165,11 @@ pub fn copy(
 
 // Refusals 11 and 14 of a physical source, which need only be managed, up to the end of its region.
 fn place_refusal(words: &[u64], seen: Seen, pa: PhysAddr, len: u64) -> u32
-    requires { ⌜ (keptWords ≤ length (now words)) × Placed (boardIn (now words)) (rowsIn (now words)) seen (pa .0) ⌝ }
+    requires { ⌜ Long (now words) × Placed (boardIn (now words)) (rowsIn (now words)) seen (pa .0) ⌝ }
     ensures { λ r. ⌜ r ≡ placeSeen (boardIn (now (words .entry))) (rowsIn (now (words .entry))) seen (pa .0) len ⌝ }
 {
     if !seen.managed {
-        return 11;
+        return definition::OUTSIDE;
     }
     let board = words::board_in(words);
     let spot = seen.spot;
@@ -177,7 +177,7 @@ fn place_refusal(words: &[u64], seen: Seen, pa: PhysAddr, len: u64) -> u32
     let start = row.start;
     let end = board.page * (start.page_number(board.page) + row.pages);
     if (end as u64) - pa.raw() < len {
-        return 14;
+        return definition::PAST_THE_END;
     }
     0
 }
@@ -200,7 +200,7 @@ pub fn pcopy(
 {
     let to = exam::look(words, records, target, target_offset, len);
     let seen = allocator::see(words, records, source);
-    let number = exam::lower(to.number, place_refusal(words, seen, source, len));
+    let number = exam::earlier(to.number, place_refusal(words, seen, source, len));
     if number != 0 {
         return exam::refused(number);
     }

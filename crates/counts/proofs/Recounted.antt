@@ -50,7 +50,7 @@ module _ {board : Board} {w : World} {s : Store} (H : Whole board w s) where
   recounted-made x c free p =
       let S = H .stands in
       made-left H (withCounters s c) (recounted w c) (unturned H) refl (H .bytes) (unwritten H) refl (S .pass) (S .queue) (S .queued)
-      (S .room) x 0 (c .«pager_outstanding») free p refl
+      refl refl x 0 (c .«pager_outstanding») free p refl
 
   pub lend-made
       : (n : ℕ) (c : Counters) → c ≡ trackFramePager n (w .counters)

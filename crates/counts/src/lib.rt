@@ -1,5 +1,5 @@
-// The pager's loan, low memory and the statistics. Each call is given the counters, and the words where it wants the board, and promises definition's `step`
-// (exam/specs/Making.antt).
+// The pager's loan, low memory and the statistics. Each call is given the counters, and the words where it wants the board, and promises
+// definition's `step` (exam/specs/Making.antt).
 use definition::Counters;
 use exam::Answer;
 use exam::Outcome;
@@ -25,7 +25,7 @@ pub fn back(counters: Counters, count: usize) -> Outcome
     if counters.pager_outstanding < count {
         return Outcome {
             counters,
-            answer: exam::refused(15),
+            answer: exam::refused(definition::PAGER_LOW),
         };
     }
     counted(tracker::untrack_frame_pager(counters, count))

@@ -6,3 +6,4 @@ pub mod Cases
 pub mod Departures
 pub mod Tests
 pub mod Passing
+pub mod Order

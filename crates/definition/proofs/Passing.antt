@@ -10,7 +10,7 @@ use lib.Dec.{leb, ltb}
 use lib.ListN.{length}
 use Rattle.definition.specs.Board.{Board}
 use Rattle.definition.specs.Basics.{any}
-use Rattle.definition.specs.Refusal.{Test, orLater, lowest}
+use Rattle.definition.specs.Refusal.{Test, orLater, firstMet}
 use Rattle.definition.specs.Store.{Store}
 use Rattle.definition.specs.Tracker.{startsFrame, isHeld}
 use Rattle.definition.specs.Calls.{Names, badLayout, noLevel, wants, outside, leavesFrame, leavesRegion, sheet}
@@ -20,13 +20,13 @@ pub data Unmet : List Test → Type 0 where
   unmet-none : Unmet []
   unmet-more : {t : Test} {ts : List Test} → t .met ≡ false → Unmet ts → Unmet (t ∷ ts)
 
-pub unmet : (ts : List Test) → lowest ts ≡ none → Unmet ts
-unfolding lowest
+pub unmet : (ts : List Test) → firstMet ts ≡ none → Unmet ts
+unfolding firstMet
 unmet [] e = unmet-none
 unmet (t ∷ ts) e = go (t .met) refl e (unmet ts)
   where
     go
-        : (u : Bool) → t .met ≡ u → orLater (record { refusal = t .refusal; met = u }) (lowest ts) ≡ none → (lowest ts ≡ none → Unmet ts)
+        : (u : Bool) → t .met ≡ u → orLater (record { refusal = t .refusal; met = u }) (firstMet ts) ≡ none → (firstMet ts ≡ none → Unmet ts)
         → Unmet (t ∷ ts)
     go true x y more = absurd (let z : _≡_ {A = ℕ} 0 1 = cc in omega arith)
     go false x y more = unmet-more x (more y)
@@ -42,9 +42,9 @@ pub record Passed (b : Board) (s : Store) (n : Names) : Type 0 where
   pub held : any (λ r. not (isHeld b s (r .address))) (n .frames) ≡ false
   pub ends : (any (leavesFrame b s) (n .frames) || any (leavesRegion b s) (n .places)) ≡ false
   pub pager : any (ltb (s .counters .«pager_outstanding»)) (n .returned) ≡ false
-  pub queue : any (λ (a : ℕ). leb (s .room) (length (s .queue))) (n .queued) ≡ false
+  pub queue : any (λ (a : ℕ). leb (s .kept .room) (length (s .queue))) (n .queued) ≡ false
 
-pub passed : (b : Board) (s : Store) (n : Names) → lowest (sheet b s n) ≡ none → Passed b s n
+pub passed : (b : Board) (s : Store) (n : Names) → firstMet (sheet b s n) ≡ none → Passed b s n
 unfolding sheet
 passed b s n e = go (unmet (sheet b s n) e)
   where

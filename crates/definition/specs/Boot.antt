@@ -77,7 +77,7 @@ bootWith a memory room =
       memory = memory;
       counters = countersAtBoot (total (a .regions));
       queue = [];
-      room = room;
+      kept = record { room = room };
       pass = record { rounds = 0; freed = 0 };
     }
 

@@ -21,7 +21,7 @@ use Rattle.definition.specs.declared.Refusal.the-variants.{
 }
 use Rattle.definition.specs.Board.{Board}
 use Rattle.definition.specs.Basics.{any, range, bit, everywhere}
-use Rattle.definition.specs.Refusal.{numberOf, Test, _when_, lowest}
+use Rattle.definition.specs.Refusal.{numberOf, Test, _when_, firstMet}
 use Rattle.definition.specs.Frame.{size, levels}
 use Rattle.definition.specs.Allocator.{AllocationRegion, contains, end, isManaged, isListed}
 use Rattle.definition.specs.Store.{Store, withCounters, withQueue}
@@ -222,7 +222,7 @@ sheet b s n =
     ∷ (NotHeld when any (λ r. not (isHeld b s (r .address))) (n .frames))
     ∷ (PastTheEnd when any (leavesFrame b s) (n .frames) || any (leavesRegion b s) (n .places))
     ∷ (PagerLow when any (ltb (s .counters .«pager_outstanding»)) (n .returned))
-    ∷ (QueueFull when any (λ a. leb (s .room) (length (s .queue))) (n .queued))
+    ∷ (QueueFull when any (λ a. leb (s .kept .room) (length (s .queue))) (n .queued))
     ∷ []
 
 -- ---- what an accepted call does
@@ -271,7 +271,7 @@ unlessRefused s refusal o = elim refusal [ some r ↦ tells s (Refused r) | none
 
 -- one call on a store whose loans are whole
 unfoldable pub step : Board → Store → Call → Outcome
-step b s c = unlessRefused s (lowest (sheet b s (names c))) (perform b s c)
+step b s c = unlessRefused s (firstMet (sheet b s (names c))) (perform b s c)
 
 -- ---- a list of calls: each gets the store as the last left it
 

@@ -24,7 +24,7 @@ unfolding Text.bytesOf Text.lastDigits
 texts = tt
 
 unfoldable pub refusals : Unit {0}
-unfolding Refusal.lowest
+unfolding Refusal.placeIn Refusal.firstMet
 refusals = tt
 
 unfoldable pub frames : Unit {0}

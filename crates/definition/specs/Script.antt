@@ -17,7 +17,7 @@ use Rattle.definition.specs.declared.Refusal.the-variants.{BadLine}
 use Rattle.definition.specs.Board.{Board}
 use Rattle.definition.specs.Basics.{isSome}
 use Rattle.definition.specs.Text.{bytesOf, digitsOf}
-use Rattle.definition.specs.Refusal.{numberOf, lowest}
+use Rattle.definition.specs.Refusal.{numberOf, firstMet}
 use Rattle.definition.specs.Store.{Store}
 use Rattle.definition.specs.Boot.{bootSheet, keptRegions, managedPages, boot}
 use Rattle.definition.specs.Calls.{
@@ -236,7 +236,7 @@ abbrev pub turnOn : Board → World → Running → List ℕ → Command → Opt
 turnOn b w r name (AddRegion m) none = record { running = record { map = r .map ++ (m ∷ []); store = none }; text = [] }
 turnOn b w r name (AddRegion m) (some s) = bad r
 turnOn b w r name BootNow none =
-    bootTurn b w r name (lowest (bootSheet b (r .map) (length (w .records)) (length (w .memory))))
+    bootTurn b w r name (firstMet (bootSheet b (r .map) (length (w .records)) (length (w .memory))))
 turnOn b w r name BootNow (some s) = bad r
 turnOn b w r name (Ask c) none = bad r
 turnOn b w r name (Ask c) (some s) = callTurn r name (step b s c)

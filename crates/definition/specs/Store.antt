@@ -10,32 +10,37 @@ use Rattle.definition.specs.Allocator.{PhysicalFrameAllocator}
 abbrev pub Memory : Type 0
 Memory = ℕ → ℕ
 
+-- what a boot fixes; no call changes it
+pub record Kept : Type 0 where
+  -- how many addresses the queue has places for
+  pub room : ℕ
+
 pub record Store : Type 0 where
   pub allocator : PhysicalFrameAllocator
   pub memory : Memory
   pub counters : Counters
-  -- addresses to reclaim, the oldest first, and how many have a place
+  -- addresses to reclaim, the oldest first
   pub queue : List ℕ
-  pub room : ℕ
+  pub kept : Kept
   pub pass : Pass
 
 abbrev pub withAllocator : Store → PhysicalFrameAllocator → Store
-withAllocator s a = record { allocator = a; memory = s .memory; counters = s .counters; queue = s .queue; room = s .room; pass = s .pass }
+withAllocator s a = record { allocator = a; memory = s .memory; counters = s .counters; queue = s .queue; kept = s .kept; pass = s .pass }
 
 abbrev pub withFrames : Store → Frames → Store
 withFrames s fs = withAllocator s (record { frames = fs; regions = s .allocator .regions })
 
 abbrev pub withMemory : Store → Memory → Store
-withMemory s m = record { allocator = s .allocator; memory = m; counters = s .counters; queue = s .queue; room = s .room; pass = s .pass }
+withMemory s m = record { allocator = s .allocator; memory = m; counters = s .counters; queue = s .queue; kept = s .kept; pass = s .pass }
 
 abbrev pub withCounters : Store → Counters → Store
-withCounters s c = record { allocator = s .allocator; memory = s .memory; counters = c; queue = s .queue; room = s .room; pass = s .pass }
+withCounters s c = record { allocator = s .allocator; memory = s .memory; counters = c; queue = s .queue; kept = s .kept; pass = s .pass }
 
 abbrev pub withQueue : Store → List ℕ → Store
-withQueue s q = record { allocator = s .allocator; memory = s .memory; counters = s .counters; queue = q; room = s .room; pass = s .pass }
+withQueue s q = record { allocator = s .allocator; memory = s .memory; counters = s .counters; queue = q; kept = s .kept; pass = s .pass }
 
 abbrev pub withPass : Store → Pass → Store
-withPass s p = record { allocator = s .allocator; memory = s .memory; counters = s .counters; queue = s .queue; room = s .room; pass = p }
+withPass s p = record { allocator = s .allocator; memory = s .memory; counters = s .counters; queue = s .queue; kept = s .kept; pass = p }
 
 -- a mark of the frame at a page set or cleared
 abbrev pub mark : (Frame → Frame) → Store → ℕ → Store

@@ -20,7 +20,7 @@ use Rattle.definition.specs.Basics.{all, sum, range, member, bit}
 use Rattle.definition.specs.Frame.{size, levels, slot}
 use Rattle.definition.specs.Allocator.{AllocationRegion, tablePages, first, managed, end, total}
 use Rattle.definition.specs.Boot.{managedPages, overlap, mostRows, highestAddress, mostPages, recordSize, bootSheet, keptRegions, boot}
-use Rattle.definition.specs.Refusal.{lowest}
+use Rattle.definition.specs.Refusal.{firstMet}
 use Rattle.definition.specs.Calls.{Call, Answer, Refused, Done, Outcome, step}
 use Rattle.definition.specs.World.{
   World,
@@ -286,4 +286,4 @@ unlessRefused w refusal l = elim refusal [ some r ↦ untouched w r | none ↦ l
 
 -- a boot, which looks at nothing of the world but the lengths of its loans
 unfoldable pub bootCall : Board → List MemoryRegion → World → Left
-bootCall b map w = unlessRefused w (lowest (bootSheet b map (length (w .records)) (length (w .memory)))) (booted b map w)
+bootCall b map w = unlessRefused w (firstMet (bootSheet b map (length (w .records)) (length (w .memory)))) (booted b map w)

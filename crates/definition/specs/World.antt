@@ -200,7 +200,7 @@ decodeWith b w rs =
       memory = memoryOf b (w .memory) rs;
       counters = w .counters;
       queue = take (w .queued) (w .queue);
-      room = length (w .queue);
+      kept = record { room = length (w .queue) };
       pass = w .pass;
     }
 

@@ -1,8 +1,9 @@
-// The plain types that the definitions in specs/ and the code share: the numbers of a board, the boot map, the refusals, the records, the rows and the counters.
-// Nothing here computes but `standard`; what the types mean stands in specs/.
+// The plain types that the definitions in specs/ and the code share: the numbers of a board, the boot map, the refusals, the records, the
+// rows and the counters. Nothing here computes but `standard` and `rank_of`; what the types mean stands in specs/.
 use address::PhysAddr;
 ghost use mathlib.Core.Path.{_≡_};
 ghost use Rattle.definition.specs.Board.{standard as «standard_def»};
+ghost use Rattle.definition.specs.Refusal.{rankOf};
 
 // The numbers that a board fixes. They are kept in no other place of the code: what reads one is given a board.
 pub struct Board {
@@ -48,7 +49,7 @@ pub struct MemoryRegion {
     pub kind: MemoryRegionKind,
 }
 
-// 01, "The refusal sheet": its words, in the order of its numbers, 1 to 17.
+// 01, "The refusal sheet": its words, in the order of its numbers, 1 to 17. Which comes first where several apply is `rank_of`'s to say.
 pub enum Refusal {
     LongMap,
     FarAddress,
@@ -67,6 +68,100 @@ pub enum Refusal {
     PagerLow,
     QueueFull,
     BadLine,
+}
+
+// Its numbers, as an answer gives them; 0 is no refusal.
+pub const LONG_MAP: u32 = 1;
+
+pub const FAR_ADDRESS: u32 = 2;
+
+pub const OVERLAP: u32 = 3;
+
+pub const TOO_MANY_PAGES: u32 = 4;
+
+pub const SHORT_LOAN: u32 = 5;
+
+pub const TORN: u32 = 6;
+
+pub const BAD_LAYOUT: u32 = 7;
+
+pub const NO_LEVEL: u32 = 8;
+
+pub const NO_FRAME: u32 = 9;
+
+pub const MUST_WAIT: u32 = 10;
+
+pub const OUTSIDE: u32 = 11;
+
+pub const NO_FRAME_START: u32 = 12;
+
+pub const NOT_HELD: u32 = 13;
+
+pub const PAST_THE_END: u32 = 14;
+
+pub const PAGER_LOW: u32 = 15;
+
+pub const QUEUE_FULL: u32 = 16;
+
+pub const BAD_LINE: u32 = 17;
+
+// The place of a refusal's number in the order in which the refusals are tried (specs/Refusal.antt, `order`), and past its end for any
+// other number.
+pub fn rank_of(number: u32) -> u32
+    ensures { λ r. ⌜ r ≡ rankOf number ⌝ }
+{
+    if number == LONG_MAP {
+        return 0;
+    }
+    if number == FAR_ADDRESS {
+        return 1;
+    }
+    if number == OVERLAP {
+        return 2;
+    }
+    if number == TOO_MANY_PAGES {
+        return 3;
+    }
+    if number == SHORT_LOAN {
+        return 4;
+    }
+    if number == TORN {
+        return 5;
+    }
+    if number == BAD_LAYOUT {
+        return 6;
+    }
+    if number == NO_LEVEL {
+        return 7;
+    }
+    if number == NO_FRAME {
+        return 8;
+    }
+    if number == MUST_WAIT {
+        return 9;
+    }
+    if number == OUTSIDE {
+        return 10;
+    }
+    if number == NO_FRAME_START {
+        return 11;
+    }
+    if number == NOT_HELD {
+        return 12;
+    }
+    if number == PAST_THE_END {
+        return 13;
+    }
+    if number == PAGER_LOW {
+        return 14;
+    }
+    if number == QUEUE_FULL {
+        return 15;
+    }
+    if number == BAD_LINE {
+        return 16;
+    }
+    17
 }
 
 // tracker.rs 376: what a grant asks for.

@@ -1,6 +1,6 @@
-// The door to the calls: the torn test of all that is lent (refusal 6), made once, and then the call. What passes it is definition's `call` of the loans, on any
-// words, records, memory and queue whatever. `ask` makes any call that answers by numbers; the calls that a kernel makes most, and those that take or give bytes,
-// go straight.
+// The door to the calls: the torn test of all that is lent (refusal 6), made once, and then the call. What passes it is definition's `call`
+// of the loans, on any words, records, memory and queue whatever. `ask` makes any call that answers by numbers; the calls that a kernel
+// makes most, and those that take or give bytes, go straight.
 use address::PhysAddr;
 use copies::Place;
 use counts::Report;
@@ -10,10 +10,9 @@ use exam::Answer;
 use exam::Outcome;
 use lines::Ask;
 ghost use mathlib.Core.Path.{_≡_};
-ghost use Prim.Native.Nat.{_≤_};
-ghost use lib.ListN.{getD, length};
+ghost use lib.ListN.{getD};
 ghost use Rattle.definition.specs.Calls.{Alloc, Free, Find, Write, Read};
-ghost use Rattle.words.specs.Words.{boardIn, keptWords, Beside};
+ghost use Rattle.words.specs.Words.{boardIn, Long, Beside};
 ghost use Rattle.exam.specs.Promise.{Leaves};
 ghost use Rattle.exam.specs.Making.{world};
 ghost use Rattle.lines.specs.Reading.{callOf};
@@ -25,7 +24,7 @@ fn torn(counters: Counters) -> Outcome
 {
     Outcome {
         counters,
-        answer: exam::refused(6),
+        answer: exam::refused(definition::TORN),
     }
 }
 
@@ -40,9 +39,10 @@ pub fn ask(
     op: Ask,
     n: [u64; 5],
 ) -> Outcome
-    requires { ⌜ keptWords ≤ length (now words) ⌝ }
+    requires { ⌜ Long (now words) ⌝ }
     ensures { λ r. ⌜ Leaves (boardIn (now (words .entry)))
-        (world counters (now (words .entry)) (now (records .entry)) (now (memory .entry)) (now (queue .entry))) (callOf op (λ i. getD n i 0))
+        (world counters (now (words .entry)) (now (records .entry)) (now (memory .entry)) (now (queue .entry)))
+        (callOf op (λ i. getD n i 0))
         (world (r .counters) (now (words .exit)) (now (records .exit)) (now (memory .exit)) (now (queue .exit))) (r .answer) ⌝ }
     ensures { λ _. ⌜ Beside (now (words .entry)) (now (words .exit)) ⌝ }
 {
@@ -62,13 +62,13 @@ pub fn find(
     queue: &[u64],
     pa: PhysAddr,
 ) -> Answer
-    requires { ⌜ keptWords ≤ length (now words) ⌝ }
+    requires { ⌜ Long (now words) ⌝ }
     ensures { λ r. ⌜ Leaves (boardIn (now (words .entry)))
         (world counters (now (words .entry)) (now (records .entry)) (now (memory .entry)) (now (queue .entry))) (Find (pa .0))
         (world counters (now (words .entry)) (now (records .entry)) (now (memory .entry)) (now (queue .entry))) r ⌝ }
 {
     if !exam::is_sound(counters, words, records, memory, queue) {
-        return exam::refused(6);
+        return exam::refused(definition::TORN);
     }
     frames::find(words, records, pa)
 }
@@ -81,7 +81,7 @@ pub fn free(
     queue: &[u64],
     pa: PhysAddr,
 ) -> Outcome
-    requires { ⌜ keptWords ≤ length (now words) ⌝ }
+    requires { ⌜ Long (now words) ⌝ }
     ensures { λ r. ⌜ Leaves (boardIn (now (words .entry)))
         (world counters (now (words .entry)) (now (records .entry)) (now (memory .entry)) (now (queue .entry))) (Free (pa .0))
         (world (r .counters) (now (words .exit)) (now (records .exit)) (now (memory .entry)) (now (queue .entry))) (r .answer) ⌝ }
@@ -103,7 +103,7 @@ pub fn alloc(
     align: u64,
     flags: FrameAllocFlags,
 ) -> Outcome
-    requires { ⌜ keptWords ≤ length (now words) ⌝ }
+    requires { ⌜ Long (now words) ⌝ }
     ensures { λ r. ⌜ Leaves (boardIn (now (words .entry)))
         (world counters (now (words .entry)) (now (records .entry)) (now (memory .entry)) (now (queue .entry)))
         (Alloc (record { size = size; align = align; flags = flags }))
@@ -128,14 +128,14 @@ pub fn write(
     offset: u64,
     bytes: &[u8],
 ) -> Answer
-    requires { ⌜ keptWords ≤ length (now words) ⌝ }
+    requires { ⌜ Long (now words) ⌝ }
     ensures { λ r. ⌜ Leaves (boardIn (now (words .entry)))
         (world counters (now (words .entry)) (now (records .entry)) (now (memory .entry)) (now (queue .entry)))
         (Write (pa .0) offset (now (bytes .entry)))
         (world counters (now (words .entry)) (now (records .exit)) (now (memory .exit)) (now (queue .entry))) r ⌝ }
 {
     if !exam::is_sound(counters, words, records, memory, queue) {
-        return exam::refused(6);
+        return exam::refused(definition::TORN);
     }
     ranges::write(words, records, memory, pa, offset, bytes)
 }
@@ -150,13 +150,16 @@ pub fn read_place(
     offset: u64,
     len: u64,
 ) -> Place
-    requires { ⌜ keptWords ≤ length (now words) ⌝ }
+    requires { ⌜ Long (now words) ⌝ }
     ensures { λ r. ⌜ Finds (boardIn (now (words .entry)))
         (world counters (now (words .entry)) (now (records .entry)) (now (memory .entry)) (now (queue .entry)))
         (Read (pa .0) offset len) len r ⌝ }
 {
     if !exam::is_sound(counters, words, records, memory, queue) {
-        return Place { number: 6, at: 0 };
+        return Place {
+            number: definition::TORN,
+            at: 0,
+        };
     }
     copies::read_place(words, records, pa, offset, len)
 }
@@ -172,7 +175,7 @@ pub fn read_number(
     offset: u64,
     len: u64,
 ) -> u32
-    requires { ⌜ keptWords ≤ length (now words) ⌝ }
+    requires { ⌜ Long (now words) ⌝ }
     ensures { λ r. ⌜ Numbers (boardIn (now (words .entry)))
         (world counters (now (words .entry)) (now (records .entry)) (now (memory .entry)) (now (queue .entry)))
         (Read (pa .0) offset len) r ⌝ }
@@ -191,7 +194,7 @@ pub fn read<'a>(
     offset: u64,
     len: u64,
 ) -> &'a [u8]
-    requires { ⌜ keptWords ≤ length (now words) ⌝ }
+    requires { ⌜ Long (now words) ⌝ }
     ensures { λ r. ⌜ Lends (boardIn (now (words .entry)))
         (world counters (now (words .entry)) (now (records .entry)) (now (memory .entry)) (now (queue .entry)))
         (Read (pa .0) offset len) (now r) ⌝ }
@@ -211,14 +214,14 @@ pub fn stats(
     memory: &[u8],
     queue: &[u64],
 ) -> Report
-    requires { ⌜ keptWords ≤ length (now words) ⌝ }
+    requires { ⌜ Long (now words) ⌝ }
     ensures { λ r. ⌜ Reports (boardIn (now (words .entry)))
         (world counters (now (words .entry)) (now (records .entry)) (now (memory .entry)) (now (queue .entry))) r ⌝ }
 {
     if !exam::is_sound(counters, words, records, memory, queue) {
         let text = [0u8; 368];
         return Report {
-            number: 6,
+            number: definition::TORN,
             len: 0,
             text,
         };

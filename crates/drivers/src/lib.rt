@@ -1,5 +1,6 @@
-// What bench/ times of the calls: loops over a store of one region, exported on slices and numbers. Nothing else calls them. Each boots the store first, and
-// stops at the first call that is refused, so that its answer says how many were accepted. What it leaves in the loans is what those calls leave (`Drives`).
+// What bench/ times of the calls: loops over a store of one region, exported on slices and numbers. Nothing else calls them. Each boots the
+// store first, and stops at the first call that is refused, so that its answer says how many were accepted. What it leaves in the loans is
+// what those calls leave (`Drives`).
 use address::PhysAddr;
 use definition::Counters;
 use definition::FrameAllocFlags;
@@ -8,10 +9,9 @@ use definition::MemoryRegionKind;
 use exam::Answer;
 use exam::Outcome;
 ghost use mathlib.Core.Path.{_≡_};
-ghost use Prim.Native.Nat.{_≤_};
 ghost use lib.ListN.{length, replicate};
 ghost use Rattle.definition.specs.Calls.{Alloc, Find, Zero, Fill, Copy};
-ghost use Rattle.words.specs.Words.{boardIn, keptWords};
+ghost use Rattle.words.specs.Words.{boardIn, Long, stateWords};
 ghost use Rattle.exam.specs.Promise.{stateWith, worldOf, Leaves};
 ghost use Rattle.exam.specs.Making.{world};
 ghost use Rattle.drivers.specs.Driving.{Drives, bootedWorld, grantAndFree, held, onFrame, plain, toSecond, turn, turns};
@@ -25,8 +25,9 @@ fn booted(
     start: u64,
     bytes: usize,
 ) -> Counters
-    requires { ⌜ 92 ≤ length (now words) ⌝ }
-    ensures { λ r. ⌜ bootedWorld (now (words .entry)) (now (records .entry)) (now (memory .entry)) (now (queue .entry)) start bytes ≡ worldOf (stateWith r (now (words .exit))) (now (records .exit)) (now (memory .entry)) (now (queue .entry)) ⌝ }
+    requires { ⌜ Long (now words) ⌝ }
+    ensures { λ r. ⌜ bootedWorld (now (words .entry)) (now (records .entry)) (now (memory .entry)) (now (queue .entry)) start bytes ≡ world
+        r (now (words .exit)) (now (records .exit)) (now (memory .entry)) (now (queue .entry)) ⌝ }
 {
     let unused = MemoryRegion {
         start: PhysAddr::new(0),
@@ -62,8 +63,13 @@ fn granted(
     queue: &[u64],
     size: u64,
 ) -> Outcome
-    requires { ⌜ 92 ≤ length (now words) ⌝ }
-    ensures { λ r. ⌜ turn (Alloc (plain size)) (worldOf (stateWith counters (now (words .entry))) (now (records .entry)) (now (memory .entry)) (now (queue .entry))) ≡ (record { world = worldOf (stateWith (r .counters) (now (words .exit))) (now (records .exit)) (now (memory .exit)) (now (queue .entry)); answer = r .answer }) ⌝ }
+    requires { ⌜ Long (now words) ⌝ }
+    ensures { λ r. ⌜ turn (Alloc (plain size))
+        (world counters (now (words .entry)) (now (records .entry)) (now (memory .entry)) (now (queue .entry)))
+        ≡ (record {
+          world = world (r .counters) (now (words .exit)) (now (records .exit)) (now (memory .exit)) (now (queue .entry));
+          answer = r .answer;
+        }) ⌝ }
 {
     let flags = FrameAllocFlags {
         zeroed: false,
@@ -83,8 +89,12 @@ fn holding(
     bytes: usize,
     size: u64,
 ) -> Outcome
-    requires { ⌜ 92 ≤ length (now words) ⌝ }
-    ensures { λ r. ⌜ held (now (words .entry)) (now (records .entry)) (now (memory .entry)) (now (queue .entry)) start bytes size ≡ (record { world = worldOf (stateWith (r .counters) (now (words .exit))) (now (records .exit)) (now (memory .exit)) (now (queue .entry)); answer = r .answer }) ⌝ }
+    requires { ⌜ Long (now words) ⌝ }
+    ensures { λ r. ⌜ held (now (words .entry)) (now (records .entry)) (now (memory .entry)) (now (queue .entry)) start bytes size
+        ≡ (record {
+          world = world (r .counters) (now (words .exit)) (now (records .exit)) (now (memory .exit)) (now (queue .entry));
+          answer = r .answer;
+        }) ⌝ }
 {
     let counters = booted(words, records, memory, queue, start, bytes);
     granted(counters, words, records, memory, queue, size)
@@ -98,8 +108,12 @@ fn granted_and_freed(
     memory: &mut [u8],
     queue: &[u64],
 ) -> Outcome
-    requires { ⌜ 92 ≤ length (now words) ⌝ }
-    ensures { λ r. ⌜ grantAndFree (worldOf (stateWith counters (now (words .entry))) (now (records .entry)) (now (memory .entry)) (now (queue .entry))) ≡ (record { world = worldOf (stateWith (r .counters) (now (words .exit))) (now (records .exit)) (now (memory .exit)) (now (queue .entry)); answer = r .answer }) ⌝ }
+    requires { ⌜ Long (now words) ⌝ }
+    ensures { λ r. ⌜ grantAndFree (world counters (now (words .entry)) (now (records .entry)) (now (memory .entry)) (now (queue .entry)))
+        ≡ (record {
+          world = world (r .counters) (now (words .exit)) (now (records .exit)) (now (memory .exit)) (now (queue .entry));
+          answer = r .answer;
+        }) ⌝ }
 {
     let grant = granted(counters, words, records, memory, queue, 4096);
     let frame = grant.answer;
@@ -126,9 +140,12 @@ pub extern "C" fn drivers_grants(
     bytes: usize,
     times: usize,
 ) -> usize
-    ensures { λ r. ⌜ Drives (turns grantAndFree times 0 (bootedWorld (replicate 92 0) (now (records .entry)) (now (memory .entry)) (now (queue .entry)) start bytes)) (now (records .exit)) (now (memory .exit)) r ⌝ }
+    ensures { λ r. ⌜ Drives
+        (turns grantAndFree times 0
+        (bootedWorld (replicate stateWords 0) (now (records .entry)) (now (memory .entry)) (now (queue .entry)) start bytes))
+        (now (records .exit)) (now (memory .exit)) r ⌝ }
 {
-    let mut words = [0u64; 92];
+    let mut words = [0u64; words::STATE_WORDS];
     let mut counters = booted(&mut words, records, memory, queue, start, bytes);
     let mut i: usize = 0;
     while i < times {
@@ -154,9 +171,12 @@ pub extern "C" fn drivers_finds(
     address: u64,
     times: usize,
 ) -> usize
-    ensures { λ r. ⌜ Drives (turns (turn (Find address)) times 0 (bootedWorld (replicate 92 0) (now (records .entry)) (now (memory .entry)) (now (queue .entry)) start bytes)) (now (records .exit)) (now (memory .exit)) r ⌝ }
+    ensures { λ r. ⌜ Drives
+        (turns (turn (Find address)) times 0
+        (bootedWorld (replicate stateWords 0) (now (records .entry)) (now (memory .entry)) (now (queue .entry)) start bytes))
+        (now (records .exit)) (now (memory .exit)) r ⌝ }
 {
-    let mut words = [0u64; 92];
+    let mut words = [0u64; words::STATE_WORDS];
     let counters = booted(&mut words, records, memory, queue, start, bytes);
     let mut i: usize = 0;
     while i < times {
@@ -186,7 +206,7 @@ fn zero(
     queue: &[u64],
     pa: PhysAddr,
 ) -> Answer
-    requires { ⌜ keptWords ≤ length (now words) ⌝ }
+    requires { ⌜ Long (now words) ⌝ }
     ensures { λ r. ⌜ Leaves (boardIn (now (words .entry)))
         (world counters (now (words .entry)) (now (records .entry)) (now (memory .entry)) (now (queue .entry)))
         (Zero (pa .0))
@@ -209,7 +229,7 @@ fn fill(
     len: u64,
     byte: u8,
 ) -> Answer
-    requires { ⌜ keptWords ≤ length (now words) ⌝ }
+    requires { ⌜ Long (now words) ⌝ }
     ensures { λ r. ⌜ Leaves (boardIn (now (words .entry)))
         (world counters (now (words .entry)) (now (records .entry)) (now (memory .entry)) (now (queue .entry)))
         (Fill (pa .0) offset len byte)
@@ -233,7 +253,7 @@ fn copy(
     source_offset: u64,
     len: u64,
 ) -> Answer
-    requires { ⌜ keptWords ≤ length (now words) ⌝ }
+    requires { ⌜ Long (now words) ⌝ }
     ensures { λ r. ⌜ Leaves (boardIn (now (words .entry)))
         (world counters (now (words .entry)) (now (records .entry)) (now (memory .entry)) (now (queue .entry)))
         (Copy (target .0) «target_offset» (source .0) «source_offset» len)
@@ -267,9 +287,12 @@ pub extern "C" fn drivers_zero(
     size: u64,
     times: usize,
 ) -> usize
-    ensures { λ r. ⌜ Drives (onFrame Zero times (held (replicate 92 0) (now (records .entry)) (now (memory .entry)) (now (queue .entry)) start bytes size)) (now (records .exit)) (now (memory .exit)) r ⌝ }
+    ensures { λ r. ⌜ Drives
+        (onFrame Zero times
+        (held (replicate stateWords 0) (now (records .entry)) (now (memory .entry)) (now (queue .entry)) start bytes size))
+        (now (records .exit)) (now (memory .exit)) r ⌝ }
 {
-    let mut words = [0u64; 92];
+    let mut words = [0u64; words::STATE_WORDS];
     let grant = holding(&mut words, records, memory, queue, start, bytes, size);
     let frame = grant.answer;
     let pa = PhysAddr::new(frame.address);
@@ -295,9 +318,12 @@ pub extern "C" fn drivers_fill(
     size: u64,
     times: usize,
 ) -> usize
-    ensures { λ r. ⌜ Drives (onFrame (λ a. Fill a 0 size 85) times (held (replicate 92 0) (now (records .entry)) (now (memory .entry)) (now (queue .entry)) start bytes size)) (now (records .exit)) (now (memory .exit)) r ⌝ }
+    ensures { λ r. ⌜ Drives
+        (onFrame (λ a. Fill a 0 size 85) times
+        (held (replicate stateWords 0) (now (records .entry)) (now (memory .entry)) (now (queue .entry)) start bytes size))
+        (now (records .exit)) (now (memory .exit)) r ⌝ }
 {
-    let mut words = [0u64; 92];
+    let mut words = [0u64; words::STATE_WORDS];
     let grant = holding(&mut words, records, memory, queue, start, bytes, size);
     let frame = grant.answer;
     let pa = PhysAddr::new(frame.address);
@@ -333,8 +359,11 @@ fn copy_all(
     size: u64,
     times: usize,
 ) -> usize
-    requires { ⌜ 92 ≤ length (now words) ⌝ }
-    ensures { λ r. ⌜ Drives (turns (turn (Copy target 0 source 0 size)) times 0 (worldOf (stateWith counters (now (words .entry))) (now (records .entry)) (now (memory .entry)) (now (queue .entry)))) (now (records .exit)) (now (memory .exit)) r ⌝ }
+    requires { ⌜ Long (now words) ⌝ }
+    ensures { λ r. ⌜ Drives
+        (turns (turn (Copy target 0 source 0 size)) times 0
+        (world counters (now (words .entry)) (now (records .entry)) (now (memory .entry)) (now (queue .entry))))
+        (now (records .exit)) (now (memory .exit)) r ⌝ }
 {
     let to = PhysAddr::new(target);
     let from = PhysAddr::new(source);
@@ -371,9 +400,12 @@ pub extern "C" fn drivers_copy(
     size: u64,
     times: usize,
 ) -> usize
-    ensures { λ r. ⌜ Drives (toSecond size times (held (replicate 92 0) (now (records .entry)) (now (memory .entry)) (now (queue .entry)) start bytes size)) (now (records .exit)) (now (memory .exit)) r ⌝ }
+    ensures { λ r. ⌜ Drives
+        (toSecond size times
+        (held (replicate stateWords 0) (now (records .entry)) (now (memory .entry)) (now (queue .entry)) start bytes size))
+        (now (records .exit)) (now (memory .exit)) r ⌝ }
 {
-    let mut words = [0u64; 92];
+    let mut words = [0u64; words::STATE_WORDS];
     let first = holding(&mut words, records, memory, queue, start, bytes, size);
     let from = first.answer;
     let second = granted(first.counters, &mut words, records, memory, queue, size);

@@ -17,23 +17,22 @@ use Rattle.definition.specs.declared.Refusal.{Refusal}
 use Rattle.definition.specs.Board.{Board}
 use Rattle.definition.specs.Boot.{managedPages, overlap, recordSize}
 use Rattle.definition.specs.Contents.{frameBytes}
-use Rattle.definition.specs.Refusal.{lowest, numberOf}
+use Rattle.definition.specs.Refusal.{firstMet, numberOf}
 use Rattle.definition.specs.Calls.{Call, Outcome, Refused, done, names, perform, sheet, step}
-use Rattle.definition.specs.Store.{Store}
+use Rattle.definition.specs.Store.{Kept, Store}
 use Rattle.definition.specs.World.{World, decode, encode, recordAt}
 use Rattle.definition.specs.Torn.{Sound, call, regionsOf, sound}
 use Rattle.definition.proofs.Bytes.{pages-same}
 use Rattle.definition.proofs.Tests.{and-left, and-right}
 use Rattle.record.specs.Records.{pagesIn}
-use Rattle.words.specs.Words.{boardIn, keptWords, passIn, rowsIn}
+use Rattle.words.specs.Words.{boardIn, Long, passIn, rowsIn}
 use Rattle.audit.proofs.Sheets.{sound-is}
 use Rattle.world.specs.Refusals.{frameRefusal, rangeOf, refusalOf}
 use Rattle.world.specs.Stands.{Stands}
 use Rattle.world.specs.Tables.{Table, Turned}
 use Rattle.world.proofs.Calling.{none-met, one-met}
 use Rattle.world.proofs.Encoding.{ends-agree, stands-encode}
-use Rattle.world.proofs.Leaving.{sound-sane}
-use Rattle.world.proofs.RoundTrip.{decode-stands}
+use Rattle.world.proofs.RoundTrip.{decode-stands, sound-sane}
 use Rattle.world.proofs.Sheets.{as-boot}
 use Rattle.world.proofs.Spans.{bared, managed-spans, rewritten-same, spans-bare, spans-turned, turned-bare}
 use Rattle.world.proofs.Writing.{Rewritten}
@@ -69,7 +68,7 @@ module _ {board : Board} where
       record { world = rw t (m .world); answer = rw t (m .answer) }
 
 -- what the test gives the calls
-pub sound-ready : (k : Counters) (ws rs m q : List ℕ) → keptWords ≤ length ws → sound (boardIn ws) (world k ws rs m q) ≡ true → Ready k ws rs m q
+pub sound-ready : (k : Counters) (ws rs m q : List ℕ) → Long ws → sound (boardIn ws) (world k ws rs m q) ≡ true → Ready k ws rs m q
 sound-ready k ws rs m q long t =
     let b = boardIn ws in
     let w = world k ws rs m q in
@@ -90,11 +89,11 @@ sound-ready k ws rs m q long t =
 -- ---- refused, or done
 
 module _ (board : Board) (s : Store) (c : Call) where
-  step-refused : (r : Refusal) → lowest (sheet board s (names c)) ≡ some r → step board s c ≡ record { store = s; answer = Refused r }
+  step-refused : (r : Refusal) → firstMet (sheet board s (names c)) ≡ some r → step board s c ≡ record { store = s; answer = Refused r }
   unfolding step
   step-refused r e = rw e refl
 
-  step-done : lowest (sheet board s (names c)) ≡ none → step board s c ≡ perform board s c
+  step-done : firstMet (sheet board s (names c)) ≡ none → step board s c ≡ perform board s c
   unfolding step
   step-done e = rw e refl
 
@@ -107,9 +106,9 @@ module _ {board : Board} {w : World} {s : Store} (H : Whole board w s) where
   table-as-long bs e = let same : pagesIn bs ≡ pagesIn (w .records) = ap (λ (n : ℕ). n / recordSize) e in rw same whole-table
 
   pub made-refused : (c : Call) (n : ℕ) → refusalOf board s c ≡ n → (n ≡ 0 → ⊥) → Made board (step board s c) w w (refusedBy n)
-  made-refused c n e d = go (one-met (lowest (sheet board s (names c))) n e d)
+  made-refused c n e d = go (one-met (firstMet (sheet board s (names c))) n e d)
     where
-      go : (r : Refusal) × (lowest (sheet board s (names c)) ≡ some r) × (numberOf r ≡ n) → Made board (step board s c) w w (refusedBy n)
+      go : (r : Refusal) × (firstMet (sheet board s (names c)) ≡ some r) × (numberOf r ≡ n) → Made board (step board s c) w w (refusedBy n)
       go (r, f, m) =
           rw (step-refused board s c r f, ← m)
           (record { whole = H; world = stands-encode w w s (H .stands) (H .bytes) refl refl refl; answer = refl })
@@ -118,7 +117,7 @@ module _ {board : Board} {w : World} {s : Store} (H : Whole board w s) where
       : (c : Call) (o : Outcome) (v : World) → refusalOf board s c ≡ 0 → perform board s c ≡ o → Whole board v (o .store) → encode board (o .store) w ≡ v
       → Made board (step board s c) w v (told (o .answer))
   made-done c o v e p W d =
-      rw (step-done board s c (none-met (lowest (sheet board s (names c))) e), p) (record { whole = W; world = d; answer = refl })
+      rw (step-done board s c (none-met (firstMet (sheet board s (names c))) e), p) (record { whole = W; world = d; answer = refl })
 
   -- where the store stays
   pub made-same
@@ -142,7 +141,7 @@ module _ {board : Board} {w : World} {s : Store} (H : Whole board w s) where
       (as-long : length (v .records) ≡ length (w .records)) (bytes : (i : ℕ) → getD (v .records) i 0 < 256)
       (written : Rewritten board (s .allocator .regions) (w .memory) (t .memory) (v .memory)) (counters : t .counters ≡ v .counters)
       (pass : t .pass ≡ v .pass) (queue : t .queue ≡ take (v .queued) (v .queue)) (queued : v .queued ≤ length (v .queue))
-      (room : t .room ≡ length (v .queue))
+      (kept : t .kept ≡ s .kept) (places : length (v .queue) ≡ length (w .queue))
     where
       turned-here : Turned board (recordAt (w .records)) (w .rows) (recordAt (v .records)) (pagesIn (w .records)) (v .rows) (t .allocator)
       turned-here = let same : pagesIn (v .records) ≡ pagesIn (w .records) = ap (λ (n : ℕ). n / recordSize) as-long in rw (← same) turned
@@ -167,7 +166,7 @@ module _ {board : Board} {w : World} {s : Store} (H : Whole board w s) where
                   pass = pass;
                   queue = queue;
                   queued = queued;
-                  room = room;
+                  room = ap (λ (k : Kept). k .room) kept ∙ H .stands .room ∙ sym places;
                   fits = omega (arith, here .as-long, pages-same (board .page) same-managed, H .stands .fits);
                   memory = here .memory;
                 };

@@ -15,7 +15,7 @@ use Rattle.definition.specs.Basics.{isSome}
 use Rattle.definition.specs.Board.{Board}
 use Rattle.definition.specs.Frame.{Frame, isAllocated, size}
 use Rattle.definition.specs.Contents.{sizeOf}
-use Rattle.definition.specs.Refusal.{_when_, lowest}
+use Rattle.definition.specs.Refusal.{_when_, firstMet}
 use Rattle.definition.specs.Store.{Store}
 use Rattle.definition.specs.Allocator.{PhysicalFrameAllocator, isManaged}
 use Rattle.definition.specs.Tracker.{startsFrame, isHeld}
@@ -32,9 +32,9 @@ use Rattle.exam.specs.Promise.{HeldSeen, Leveled, bytesIf, seenRefusal}
 
 -- the four lines of the sheet by their tests
 by-tests : (a b c d : Bool)
-    → numberIf (lowest ((Outside when not a) ∷ (NoFrameStart when not b) ∷ (NotHeld when not c) ∷ (PastTheEnd when d) ∷ []))
+    → numberIf (firstMet ((Outside when not a) ∷ (NoFrameStart when not b) ∷ (NotHeld when not c) ∷ (PastTheEnd when d) ∷ []))
     ≡ cond (not a) 11 (cond (not b) 12 (cond (not c) 13 (cond d 14 0)))
-unfolding lowest
+unfolding firstMet
 by-tests false b c d = refl
 by-tests true false c d = refl
 by-tests true true false d = refl

@@ -14,7 +14,7 @@ use Rattle.definition.specs.Store.{Store}
 use Rattle.definition.specs.Torn.{regionsOf}
 use Rattle.definition.specs.World.{World, encode, recordAt}
 use Rattle.record.specs.Records.{pagesIn}
-use Rattle.words.specs.Words.{boardIn, keptWords, passIn, queuedIn, rowsIn}
+use Rattle.words.specs.Words.{boardIn, Long, passIn, queuedIn, rowsIn}
 use Rattle.world.specs.Stands.{Stands}
 use Rattle.world.specs.Tables.{Sane}
 use Rattle.allocator.specs.Spots.{SaneIn}
@@ -30,7 +30,7 @@ world k ws rs m q = worldOf (stateWith k ws) rs m q
 
 -- words enough, and a sane table in them and the records
 abbrev pub TableIn : (words records : List ℕ) → Type 0
-TableIn ws rs = (keptWords ≤ length ws) × SaneIn rs ws
+TableIn ws rs = Long ws × SaneIn rs ws
 
 -- every managed page has its bytes in the memory
 abbrev pub RoomIn : (words memory : List ℕ) → Type 0

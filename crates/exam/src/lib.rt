@@ -1,16 +1,19 @@
-// What every call shares: its answer, the torn test (refusal 6), which comes before a call or a list of calls, and the refusals of a frame that must be held
-// (11 to 14). A call is lent what it reads and writes of the state, and promises `Makes` of specs/Making.antt.
+// What every call shares: its answer, the torn test (refusal 6), which comes before a call or a list of calls, and the refusals of a frame
+// that must be held (11 to 14). A call is lent what it reads and writes of the state, and promises `Makes` of specs/Making.antt.
 use address::PhysAddr;
 use allocator::Seen;
 use definition::Board;
 use definition::Counters;
+use definition::NO_FRAME_START;
+use definition::NOT_HELD;
+use definition::OUTSIDE;
+use definition::PAST_THE_END;
 ghost use mathlib.Core.Path.{_≡_};
-ghost use Prim.Native.Nat.{ℕ, _+_, _*_, _/_, _%_, _<_, _≤_, _^_};
-ghost use lib.ListN.{length};
+ghost use Prim.Native.Nat.{ℕ, _+_, _*_, _/_, _%_, _<_, _^_};
 ghost use Rattle.definition.specs.Board.{Fit};
 ghost use Rattle.definition.specs.Torn.{sound};
-ghost use Rattle.words.specs.Words.{boardIn, keptWords};
-ghost use Rattle.world.specs.Refusals.{lower as «lower_def»};
+ghost use Rattle.words.specs.Words.{boardIn, Long};
+ghost use Rattle.world.specs.Refusals.{earlier as «earlier_def»};
 ghost use Rattle.exam.specs.Promise.{LevelKnown, Leveled, bytesIf, seenRefusal};
 ghost use Rattle.exam.specs.Making.{LooksIn, TableIn, world};
 
@@ -57,7 +60,7 @@ pub fn is_sound(
     memory: &[u8],
     queue: &[u64],
 ) -> bool
-    requires { ⌜ keptWords ≤ length (now words) ⌝ }
+    requires { ⌜ Long (now words) ⌝ }
     ensures { λ r. ⌜ r ≡ sound (boardIn (now (words .entry)))
         (world counters (now (words .entry)) (now (records .entry)) (now (memory .entry)) (now (queue .entry))) ⌝ }
 {
@@ -84,23 +87,23 @@ fn refusal(board: Board, seen: Seen, pa: PhysAddr, offset: u64, len: u64) -> u32
     ensures { λ r. ⌜ r ≡ seenRefusal board seen (pa .0) offset len ⌝ }
 {
     if !seen.managed {
-        return 11;
+        return OUTSIDE;
     }
     if !pa.is_aligned_to(board.page as u64) {
-        return 12;
+        return NO_FRAME_START;
     }
     if !record::is_admitted(seen.marks) {
-        return 12;
+        return NO_FRAME_START;
     }
     if !record::is_allocated(seen.marks) {
-        return 13;
+        return NOT_HELD;
     }
     let bytes = frame_bytes(board, seen);
     if bytes < offset {
-        return 14;
+        return PAST_THE_END;
     }
     if bytes - offset < len {
-        return 14;
+        return PAST_THE_END;
     }
     0
 }
@@ -132,9 +135,9 @@ pub fn place(words: &[u64], page: usize, offset: u64) -> usize
     board.page * page + offset as usize
 }
 
-// Of two refusals the lower number, where 0 is none.
-pub fn lower(a: u32, b: u32) -> u32
-    ensures { λ r. ⌜ r ≡ «lower_def» a b ⌝ }
+// Of two refusals' numbers that of the one that is tried first, where 0 is none.
+pub fn earlier(a: u32, b: u32) -> u32
+    ensures { λ r. ⌜ r ≡ «earlier_def» a b ⌝ }
 {
     if a == 0 {
         return b;
@@ -142,5 +145,7 @@ pub fn lower(a: u32, b: u32) -> u32
     if b == 0 {
         return a;
     }
-    if a < b { a } else { b }
+    let first = definition::rank_of(a);
+    let second = definition::rank_of(b);
+    if first < second { a } else { b }
 }

@@ -18,7 +18,7 @@ use Rattle.definition.specs.Board.{Board, Fit}
 use Rattle.definition.specs.Frame.{Frame, isAllocated, size}
 use Rattle.definition.specs.Allocator.{AllocationRegion, PhysicalFrameAllocator, contains, end, first, isManaged}
 use Rattle.definition.specs.Contents.{frameBytes}
-use Rattle.definition.specs.Refusal.{_when_, lowest}
+use Rattle.definition.specs.Refusal.{_when_, firstMet}
 use Rattle.definition.specs.Store.{Store, withAllocator, withCounters}
 use Rattle.definition.specs.Tracker.{countFree, freeFrame, splitFrame}
 use Rattle.definition.specs.Calls.{Call, Find, Free, Split, done, perform, step}
@@ -74,7 +74,7 @@ module _ {board : Board} {w : World} {s : Store} (H : Whole board w s) (bs : Lis
   turned-made c x k rows a n free p T small =
       let t = withCounters (withAllocator s x) k in
       let S = H .stands in
-      made-left H t (turnedInto w rows k bs) T e small (unwritten H) refl (S .pass) (S .queue) (S .queued) (S .room) c a n free p refl
+      made-left H t (turnedInto w rows k bs) T e small (unwritten H) refl (S .pass) (S .queue) (S .queued) refl refl c a n free p refl
 
 -- ---- a held frame
 
@@ -177,10 +177,10 @@ module _ (board : Board) (fit : Fit board) where
 
   -- so it is refused 11 or not at all
   pub place-refusal : (s : Store) (a : ℕ) → refusalOf board s (Find a) ≡ cond (isManaged board (s .allocator .regions) (a / board .page)) 0 11
-  unfolding lowest
+  unfolding firstMet
   place-refusal s a = one-place board s a 0 0 ∙ rw (stays (s .allocator .regions) a) (go (isManaged board (s .allocator .regions) (a / board .page)))
     where
-      go : (m : Bool) → numberIf (lowest ((Outside when not m) ∷ (PastTheEnd when false) ∷ [])) ≡ cond m 0 11
+      go : (m : Bool) → numberIf (firstMet ((Outside when not m) ∷ (PastTheEnd when false) ∷ [])) ≡ cond m 0 11
       go true = refl
       go false = refl
 

@@ -1,5 +1,5 @@
-// Calls on one frame: lookup, split and free. Each is lent what it reads and writes, asks for a sane table, and promises definition's `step` of the store that the
-// words and the records hold (exam/specs/Making.antt); the torn test comes before it.
+// Calls on one frame: lookup, split and free. Each is lent what it reads and writes, asks for a sane table, and promises definition's
+// `step` of the store that the words and the records hold (exam/specs/Making.antt); the torn test comes before it.
 use address::PhysAddr;
 use allocator::Seen;
 use definition::Counters;
@@ -23,7 +23,7 @@ pub fn find(words: &[u64], records: &[u8], pa: PhysAddr) -> Answer
 {
     let seen = allocator::see(words, records, pa);
     if !seen.managed {
-        return exam::refused(11);
+        return exam::refused(definition::OUTSIDE);
     }
     let board = words::board_in(words);
     let page = board.page as u64;

@@ -60,7 +60,7 @@ module _ (board : Board) where
         memory = cond (flags .zeroed && not (isZeroedAt s p)) (filled (board .page * p) (frameBytes board s p) 0 (s .memory)) (s .memory);
         counters = countAlloc pages (flags .kernel) (s .counters);
         queue = s .queue;
-        room = s .room;
+        kept = s .kept;
         pass = s .pass;
       }
 
@@ -84,7 +84,7 @@ module _ (board : Board) where
             memory = m;
             counters = countAlloc pages kernel (s .counters);
             queue = s .queue;
-            room = s .room;
+            kept = s .kept;
             pass = s .pass;
           }
 

@@ -31,7 +31,7 @@ use Rattle.grants.proofs.Marking.{split-none, split-some, try-none, try
 
 record Kept (s t : Store) : Type 0 where
   pub queue : t .queue ≡ s .queue
-  pub room : t .room ≡ s .room
+  pub kept : t .kept ≡ s .kept
   pub pass : t .pass ≡ s .pass
 
 module _ (board : Board) where
@@ -40,15 +40,15 @@ module _ (board : Board) where
     try-keeps = go (doAlloc everywhere l (flags .zeroed) (s .allocator) .page) refl
       where
         go : (o : Option ℕ) → doAlloc everywhere l (flags .zeroed) (s .allocator) .page ≡ o → Kept s (tryAllocFrame board everywhere l flags s .store)
-        go none e = rw (try-none board l flags s e) (record { queue = refl; room = refl; pass = refl })
-        go (some p) e = rw (try-some board l flags s p e) (record { queue = refl; room = refl; pass = refl })
+        go none e = rw (try-none board l flags s e) (record { queue = refl; kept = refl; pass = refl })
+        go (some p) e = rw (try-some board l flags s p e) (record { queue = refl; kept = refl; pass = refl })
 
     split-keeps : Kept s (tryAllocSplitFrames board everywhere l flags s .store)
     split-keeps = go (tryAllocFrame board everywhere l flags s .page) refl
       where
         go : (o : Option ℕ) → tryAllocFrame board everywhere l flags s .page ≡ o → Kept s (tryAllocSplitFrames board everywhere l flags s .store)
         go none e = rw (split-none board l flags s e) try-keeps
-        go (some p) e = rw (split-some board l flags s p e) (record { queue = try-keeps .queue; room = try-keeps .room; pass = try-keeps .pass })
+        go (some p) e = rw (split-some board l flags s p e) (record { queue = try-keeps .queue; kept = try-keeps .kept; pass = try-keeps .pass })
 
 -- ---- what it hands out
 
@@ -106,7 +106,8 @@ module _ {board : Board} {w : World} {s : Store} (H : Whole board w s) where
               (K .pass ∙ S .pass ∙ sym (F .pass))
               (K .queue ∙ S .queue ∙ ap (λ (n : ℕ). take n (w .queue)) (sym (F .queued)))
               (rw (F .queued) (S .queued))
-              (K .room ∙ S .room)
+              (K .kept)
+              refl
               c a n z p refl
 
           go : (b : Bool) → r .found ≡ b → Made board (step board s c) w (leftBy r) (handed board b (r .address) l)

@@ -4,6 +4,8 @@ use allocator::Spot;
 use definition::Board;
 use definition::Counters;
 use definition::FrameAllocFlags;
+use definition::MUST_WAIT;
+use definition::NO_FRAME;
 use definition::Refusal;
 use exam::Answer;
 use exam::Outcome;
@@ -20,7 +22,7 @@ ghost use Rattle.definition.specs.Calls.{Alloc, Take};
 ghost use Rattle.definition.specs.Refusal.{numberOf};
 ghost use Rattle.definition.specs.World.{recordAt};
 ghost use Rattle.record.specs.Records.{pagesIn};
-ghost use Rattle.words.specs.Words.{boardIn, keptWords, rowsIn, Beside};
+ghost use Rattle.words.specs.Words.{boardIn, Long, rowsIn, Beside};
 ghost use Rattle.allocator.specs.Spots.{HeldIn, TurnsIn, markAt, numberIn};
 ghost use Rattle.exam.specs.Promise.{stateWith};
 ghost use Rattle.exam.specs.Making.{TableIn, RoomIn, Few, Grants};
@@ -42,23 +44,23 @@ fn number_of(refusal: Refusal) -> u32
     ensures { λ r. ⌜ r ≡ numberOf refusal ⌝ }
 {
     match refusal {
-        Refusal::LongMap => 1,
-        Refusal::FarAddress => 2,
-        Refusal::Overlap => 3,
-        Refusal::TooManyPages => 4,
-        Refusal::ShortLoan => 5,
-        Refusal::Torn => 6,
-        Refusal::BadLayout => 7,
-        Refusal::NoLevel => 8,
-        Refusal::NoFrame => 9,
-        Refusal::MustWait => 10,
-        Refusal::Outside => 11,
-        Refusal::NoFrameStart => 12,
-        Refusal::NotHeld => 13,
-        Refusal::PastTheEnd => 14,
-        Refusal::PagerLow => 15,
-        Refusal::QueueFull => 16,
-        Refusal::BadLine => 17,
+        Refusal::LongMap => definition::LONG_MAP,
+        Refusal::FarAddress => definition::FAR_ADDRESS,
+        Refusal::Overlap => definition::OVERLAP,
+        Refusal::TooManyPages => definition::TOO_MANY_PAGES,
+        Refusal::ShortLoan => definition::SHORT_LOAN,
+        Refusal::Torn => definition::TORN,
+        Refusal::BadLayout => definition::BAD_LAYOUT,
+        Refusal::NoLevel => definition::NO_LEVEL,
+        Refusal::NoFrame => definition::NO_FRAME,
+        Refusal::MustWait => definition::MUST_WAIT,
+        Refusal::Outside => definition::OUTSIDE,
+        Refusal::NoFrameStart => definition::NO_FRAME_START,
+        Refusal::NotHeld => definition::NOT_HELD,
+        Refusal::PastTheEnd => definition::PAST_THE_END,
+        Refusal::PagerLow => definition::PAGER_LOW,
+        Refusal::QueueFull => definition::QUEUE_FULL,
+        Refusal::BadLine => definition::BAD_LINE,
     }
 }
 
@@ -84,7 +86,7 @@ fn wanted(words: &[u64], records: &[u8], size: u64, align: u64, flags: FrameAllo
                 };
             }
             Asked {
-                number: if flags.wait_ok { 10 } else { 9 },
+                number: if flags.wait_ok { MUST_WAIT } else { NO_FRAME },
                 level: index,
             }
         }
@@ -143,7 +145,7 @@ fn hand_over(
 
 // The first address of a page of a row.
 fn address_of(words: &[u64], spot: Spot) -> u64
-    requires { ⌜ (keptWords ≤ length (now words)) × Near (boardIn (now words)) (rowsIn (now words)) spot ⌝ }
+    requires { ⌜ Long (now words) × Near (boardIn (now words)) (rowsIn (now words)) spot ⌝ }
     ensures { λ r. ⌜ r ≡ boardIn (now (words .entry)) .page * numberIn (now (words .entry)) spot ⌝ }
 {
     let board = words::board_in(words);

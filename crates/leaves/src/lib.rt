@@ -1,5 +1,6 @@
-// What bench/ times: loops over the records, the lists, the allocator of one region and the contents of memory, exported on slices and numbers. Nothing else
-// calls them. Each tests what it was lent and answers 0 where the loan does not fit; a loan of records that fits has one for each page, and at most 1,048,576.
+// What bench/ times: loops over the records, the lists, the allocator of one region and the contents of memory, exported on slices and
+// numbers. Nothing else calls them. Each tests what it was lent and answers 0 where the loan does not fit; a loan of records that fits has
+// one for each page, and at most 1,048,576.
 use address::PhysAddr;
 use definition::Board;
 use definition::Links;
@@ -11,11 +12,10 @@ ghost use mathlib.Core.Path.{_≡_};
 ghost use Prim.Native.Nat.{_+_, _≤_, _<_, _^_};
 ghost use mathlib.Core.Bool.{_&&_};
 ghost use lib.Dec.{leb};
-ghost use lib.ListN.{length};
 ghost use Rattle.definition.specs.World.{recordAt};
 ghost use Rattle.record.specs.Records.{pagesIn};
 ghost use Rattle.list.specs.Linked.{Sound};
-ghost use Rattle.words.specs.Words.{InUse, rowOf, rowsIn};
+ghost use Rattle.words.specs.Words.{Long, InUse, rowOf, rowsIn};
 ghost use Rattle.region.specs.Rep.{SoundAt, WholeAt};
 ghost use Rattle.leaves.specs.Contents.{inside, turnsIf, filled, copied};
 
@@ -160,7 +160,7 @@ pub extern "C" fn leaves_push_pop(records: &mut [u8], count: usize) -> usize
 
 // Makes the words those of a state whose one row is `row`.
 fn keep(words: &mut [u64], row: Row)
-    requires { ⌜ 92 ≤ length (now words) ⌝ }
+    requires { ⌜ Long (now words) ⌝ }
     ensures { λ _. ⌜ InUse (now (words .exit)) 0 × (rowOf (rowsIn (now (words .exit))) 0 ≡ row) ⌝ }
 {
     let unused = region::empty_row(PhysAddr::new(0), 0);
@@ -200,8 +200,8 @@ fn grant_all(
     i
 }
 
-// Lays a region out, makes up to `times` grants of a level, and answers how many there were. The first grant that finds its list empty splits a frame
-// of the next level.
+// Lays a region out, makes up to `times` grants of a level, and answers how many there were. The first grant that finds its list empty
+// splits a frame of the next level.
 #[no_mangle]
 pub extern "C" fn leaves_grants(
     records: &mut [u8],
@@ -227,7 +227,7 @@ pub extern "C" fn leaves_grants(
         return 0;
     }
     let row = region::new(board, records, 0, PhysAddr::new(start), pages);
-    let mut words = [0u64; 92];
+    let mut words = [0u64; words::STATE_WORDS];
     keep(&mut words, row);
     grant_all(board, records, &mut words, level, times)
 }

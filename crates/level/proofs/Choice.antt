@@ -13,7 +13,7 @@ use borrow.Author.Tests.{eq-eqb, eqb-true, le-leb, leb-true, leb-false, lt-ltb, 
 use Rattle.definition.specs.Board.{Board}
 use Rattle.definition.specs.Frame.{size, levels, highest}
 use Rattle.definition.specs.Calls.{Layout, badLayout, bytesOfLevel, noLevel, levelFrom, findLevel}
-use Rattle.definition.specs.Refusal.{Test, _when_, lowest}
+use Rattle.definition.specs.Refusal.{Test, _when_, firstMet}
 use Rattle.definition.specs.declared.Refusal.{Refusal}
 use Rattle.definition.specs.declared.Refusal.the-variants.{BadLayout, NoLevel}
 use Rattle.level.specs.Level.{rank, levelAt, serves, takes, foundLevel, Finds}
@@ -97,8 +97,8 @@ module _ (s a : ℕ) where
       neither false q = refl
 
 refusal : (t u : Bool) (l : Level) (r : Refusal) (later : List Test) → cond t (Refused BadLayout) (cond u (Refused NoLevel) (At l)) ≡ Refused r
-    → lowest ((BadLayout when t) ∷ (NoLevel when u) ∷ later) ≡ some r
-unfolding lowest
+    → firstMet ((BadLayout when t) ∷ (NoLevel when u) ∷ later) ≡ some r
+unfolding firstMet
 refusal true u l r later e = cc
 refusal false true l r later e = cc
 refusal false false l r later e = let z : _≡_ {A = ℕ} 0 1 = cc in absurd (omega arith)
@@ -171,10 +171,10 @@ module _ (b : Board) (y : Layout) where
           record { fine = p; within = q; number = ap rank same ∙ rank-of-level (findLevel b y) (found-below q) }
 
   pub refuses : (r : Refusal) → foundLevel b y ≡ Refused r → (later : List Test)
-      → lowest ((BadLayout when badLayout y) ∷ (NoLevel when noLevel b y) ∷ later) ≡ some r
+      → firstMet ((BadLayout when badLayout y) ∷ (NoLevel when noLevel b y) ∷ later) ≡ some r
   refuses r e later = refusal (badLayout y) (noLevel b y) (levelAt (findLevel b y)) r later e
 
   pub passes : {l : Level} → Finds b y l → (later : List Test)
-      → lowest ((BadLayout when badLayout y) ∷ (NoLevel when noLevel b y) ∷ later) ≡ lowest later
-  unfolding lowest
-  passes f later = ap₂ (λ (t u : Bool). lowest ((BadLayout when t) ∷ (NoLevel when u) ∷ later)) (f .fine) (f .within)
+      → firstMet ((BadLayout when badLayout y) ∷ (NoLevel when noLevel b y) ∷ later) ≡ firstMet later
+  unfolding firstMet
+  passes f later = ap₂ (λ (t u : Bool). firstMet ((BadLayout when t) ∷ (NoLevel when u) ∷ later)) (f .fine) (f .within)

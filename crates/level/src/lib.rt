@@ -153,15 +153,16 @@ pub enum FoundLevel {
     Refused(Refusal),
 }
 
-// 01's refusal 7, which Rust's Layout keeps out: an alignment that is no power of two, or a size that is over 2^63 - 1 once rounded up to it.
-// A power of two has one bit set. 2^63 is a multiple of it, so that no size need be rounded, and no sum can wrap.
+// 01's refusal 7, which Rust's Layout keeps out: an alignment that is no power of two, or a size that is over 2^63 - 1 once rounded up to
+// it. A power of two has one bit set. 2^63 is a multiple of it, so that no size need be rounded, and no sum can wrap.
 fn is_bad_layout(size: u64, align: u64) -> bool
     ensures { λ r. ⌜ r ≡ not (isPowerOfTwo align) || ltb (2 ^ 63 - 1) (roundUp size align) ⌝ }
 {
     u64::count_ones(align) != 1 || size > 9223372036854775808 - align
 }
 
-// frame.rs 176, find_level: the first level that suffices, after 01's refusals 7 and 8. It looks at no flag, so the definition's answer is given for any.
+// frame.rs 176, find_level: the first level that suffices, after 01's refusals 7 and 8. It looks at no flag, so the definition's answer is
+// given for any.
 pub fn find_level(board: Board, size: u64, align: u64) -> FoundLevel
     requires { ⌜ Fit board ⌝ }
     ensures { λ r. ⌜ ((flags : FrameAllocFlags) → r ≡ foundLevel board (record { size = size; align = align; flags = flags })) ⌝ }

@@ -16,7 +16,7 @@ use Rattle.definition.specs.declared.Refusal.{Refusal}
 use Rattle.definition.specs.declared.Refusal.the-variants.{BadLayout, NoLevel, NoFrame, MustWait}
 use Rattle.definition.specs.Board.{Board, Fit}
 use Rattle.definition.specs.Basics.{any, range, isSome, everywhere}
-use Rattle.definition.specs.Refusal.{lowest, orLater, _when_}
+use Rattle.definition.specs.Refusal.{firstMet, orLater, _when_}
 use Rattle.definition.specs.Frame.{Frame, size, levels, changed, withKernel, withZeroed}
 use Rattle.definition.specs.Allocator.{Allocated, doAlloc, isListed}
 use Rattle.definition.specs.Store.{Store, withAllocator}
@@ -110,8 +110,8 @@ grantSheet bad large wanting waits =
     (orLater (NoFrame when (wanting && not waits || false)) (orLater (MustWait when (wanting && waits || false)) none)))
 
 sheet-of-grant : (b : Board) (s : Store) (y : Layout)
-    → lowest (sheet b s (layoutNamed y)) ≡ grantSheet (badLayout y) (noLevel b y) (wants b s y) (y .flags .«wait_ok»)
-unfolding lowest sheet any
+    → firstMet (sheet b s (layoutNamed y)) ≡ grantSheet (badLayout y) (noLevel b y) (wants b s y) (y .flags .«wait_ok»)
+unfolding firstMet sheet any
 sheet-of-grant b s y = refl
 
 -- a layout on common ground, and what follows of it
@@ -160,7 +160,7 @@ module _ (b : Board) (fit : Fit b) (y : Layout) (ground : groundLayout b y ≡ t
       ap (λ (n : ℕ). n / b .page) (w .2) ∙ mul-div-cancel-left (size (w .0)) (page-positive fit) ∙ sym (ap size level-is)
 
   listed-sheet : (s : Store) (t : Bool) → isListed everywhere (findLevel b y) (s .allocator .regions) ≡ t
-      → lowest (sheet b s (layoutNamed y)) ≡ cond t none (some NoFrame)
+      → firstMet (sheet b s (layoutNamed y)) ≡ cond t none (some NoFrame)
   unfolding mine
   listed-sheet s t h =
       sheet-of-grant b s y
@@ -251,7 +251,7 @@ module _ (b : Board) (fit : Fit b) (s : Store) (y : Layout) (ground : groundLayo
 
   abbrev Like : (Granted → Granted) → (Granted → Granted) → Type 0
   Like rust own = Rust.unlessNone (not (y .flags .«wait_ok»)) (orNone b y (rust (Rust.tryAllocFrame b y s)))
-      ≡ some (unlessRefused s (lowest (sheet b s (layoutNamed y))) (hands b level (own given)))
+      ≡ some (unlessRefused s (firstMet (sheet b s (layoutNamed y))) (hands b level (own given)))
 
   grant-like : (rust own : Granted → Granted) → Sane s
       → rust refused ≡ refused

@@ -11,7 +11,7 @@ use Rattle.definition.proofs.Boards.{page-positive}
 use Rattle.definition.proofs.Tests.{and-left, and-right}
 use Rattle.definition.specs.Board.{Board, Fit}
 use Rattle.definition.specs.Basics.{any, all}
-use Rattle.definition.specs.Refusal.{lowest}
+use Rattle.definition.specs.Refusal.{firstMet}
 use Rattle.definition.specs.Store.{Store}
 use Rattle.definition.specs.Contents.{frameBytes}
 use Rattle.definition.specs.Tracker.{canBeFreed}
@@ -87,19 +87,19 @@ module _ (b : Board) (s : Store) where
       ∙ held-like b s (Pcopy dst doff src len) h _ refl
 
   round-alike : Sane s → all (canBeFreed b s) (s .queue) ≡ true → allOnce (s .queue) ≡ true → Rust.step b s Round ≡ some (step b s Round)
-  unfolding Rust.step step perform sheet lowest any
+  unfolding Rust.step step perform sheet firstMet any
   round-alike S h k = round-like b s (record { books = sane-books S; freeable = h; once = k })
 
   stats-alike : ltb 0 (s .counters .total) ≡ true → Rust.step b s Stats ≡ some (step b s Stats)
-  unfolding Rust.step step sheet lowest any
+  unfolding Rust.step step sheet firstMet any
   stats-alike h = ap (λ (t : Bool). Rust.unlessNone t (perform b s Stats)) h
 
   lend-alike : (n : ℕ) → Rust.step b s (Lend n) ≡ some (step b s (Lend n))
-  unfolding Rust.step step sheet lowest any
+  unfolding Rust.step step sheet firstMet any
   lend-alike n = refl
 
   low-alike : Rust.step b s Low ≡ some (step b s Low)
-  unfolding Rust.step step sheet lowest any
+  unfolding Rust.step step sheet firstMet any
   low-alike = refl
 
 pub likeness : (b : Board) → Fit b → (s : Store) → Sane s → (c : Call) → commonGround b s c ≡ true → Rust.step b s c ≡ some (step b s c)

@@ -13,7 +13,7 @@ use Rattle.definition.proofs.Passing.{Passed, passed}
 use Rattle.definition.proofs.Tests.{any-head}
 use Rattle.definition.specs.Board.{Board}
 use Rattle.definition.specs.Basics.{any, isSome}
-use Rattle.definition.specs.Refusal.{lowest, orLater, _when_}
+use Rattle.definition.specs.Refusal.{firstMet, orLater, _when_}
 use Rattle.definition.specs.declared.Refusal.{Refusal}
 use Rattle.definition.specs.declared.Refusal.the-variants.{Outside, PastTheEnd}
 use Rattle.definition.specs.Allocator.{AllocationRegion, first, contains, end, isManaged}
@@ -31,8 +31,8 @@ none-met (some r) e = absurd (false≢true e)
 -- ---- calls that are not refused
 
 module _ (b : Board) (s : Store) (c : Call) (h : unrefused b s c ≡ true) where
-  passes : lowest (sheet b s (names c)) ≡ none
-  passes = none-met (lowest (sheet b s (names c))) h
+  passes : firstMet (sheet b s (names c)) ≡ none
+  passes = none-met (firstMet (sheet b s (names c))) h
 
   held : (o : Outcome) → onHeld b s c o ≡ some o
   held o = ap (λ (x : Option Refusal). elim x as (λ y. Option Outcome) [ some r ↦ none | none ↦ some o ]) passes
@@ -82,7 +82,7 @@ module _ (b : Board) (positive : 0 < b .page) (s : Store) (a : ℕ) where
           go false e = ap (λ (v : Bool). v && ltb (b .page * end b t) (a + (0 + 0))) (and-false (leb (first b t) (a / b .page)))
 
   pub find-like : Rust.step b s (Find a) ≡ some (step b s (Find a))
-  unfolding Rust.step step sheet lowest any
+  unfolding Rust.step step sheet firstMet any
   find-like =
       ap {B = Option Outcome} some
       (go (isManaged b (s .allocator .regions) (a / b .page))

@@ -1,11 +1,26 @@
-// A line of a script, read: which op it names, and its numbers (01, "The script program"). `read_line` promises that definition's `readLine` asks the same.
+// A line of a script, read: which op it names, and its numbers (01, "The script program"). `read_line` promises that definition's
+// `readLine` asks the same.
 ghost use mathlib.Core.Path.{_≡_};
 ghost use mathlib.Core.Bool.{cond};
 ghost use Prim.Native.Nat.{_+_, _<_, _≤_};
 ghost use lib.ListN.{length, drop};
 ghost use Rattle.definition.specs.Script.{lines, fields, readNumber, sameBytes};
 ghost use Rattle.lines.specs.Reading.{Reads, NextLine};
-ghost use Rattle.lines.specs.Steps.{gap, valueOf, noNumbers, unread, pushed, gather, named, unnamed, laterOps, allOps, pick, badLine, lineFrom};
+ghost use Rattle.lines.specs.Steps.{
+  gap,
+  valueOf,
+  noNumbers,
+  unread,
+  pushed,
+  gather,
+  named,
+  unnamed,
+  laterOps,
+  allOps,
+  pick,
+  badLine,
+  lineFrom,
+};
 
 // The ops that are calls of a store and answer by numbers.
 pub enum Ask {

@@ -1,6 +1,7 @@
-// Lists of pages, linked both ways in the pages' records, after the LinkedList that frame.rs uses. No other crate sees links.
-// Contracts speak of `pagesOf`, the pages that walking a list from its front finds. Every `requires` rests on `Sound` of specs/Linked.antt: the walk
-// finds distinct pages that have a record and are linked both ways, as many as the count says. The audit establishes it, and each function keeps it.
+// Lists of pages, linked both ways in the pages' records, after the LinkedList that frame.rs uses. No other crate sees links. Contracts
+// speak of `pagesOf`, the pages that walking a list from its front finds. Every `requires` rests on `Sound` of specs/Linked.antt: the walk
+// finds distinct pages that have a record and are linked both ways, as many as the count says. The audit establishes it, and each function
+// keeps it.
 use definition::Links;
 ghost use mathlib.Core.Path.{_≡_};
 ghost use mathlib.Core.Bool.{cond};
@@ -43,7 +44,8 @@ pub fn push_back(records: &mut [u8], list: Links, page: usize) -> Links
     requires { ⌜ page < pagesIn (now records) ⌝ }
     requires { ⌜ Out page (pagesOf (recordAt (now records)) list) ⌝ }
     requires { ⌜ (page + 1 < 2 ^ 32) × (list .count + 1 < 2 ^ 32) ⌝ }
-    ensures { λ r. ⌜ Pushed (recordAt (now (records .entry))) list (page ∷ []) (recordAt (now (records .exit))) (pagesIn (now (records .exit))) r ⌝ }
+    ensures { λ r. ⌜ Pushed (recordAt (now (records .entry))) list (page ∷ []) (recordAt (now (records .exit)))
+        (pagesIn (now (records .exit))) r ⌝ }
 {
     let code = (page + 1) as u32;
     let back = list.back;
@@ -60,7 +62,8 @@ pub fn push_back(records: &mut [u8], list: Links, page: usize) -> Links
 pub fn remove(records: &mut [u8], list: Links, page: usize) -> Links
     requires { ⌜ Sound (recordAt (now records)) (pagesIn (now records)) list ⌝ }
     requires { ⌜ In page (pagesOf (recordAt (now records)) list) ⌝ }
-    ensures { λ r. ⌜ Removed (recordAt (now (records .entry))) list page (recordAt (now (records .exit))) (pagesIn (now (records .exit))) r ⌝ }
+    ensures { λ r. ⌜ Removed (recordAt (now (records .entry))) list page (recordAt (now (records .exit))) (pagesIn (now (records .exit)))
+        r ⌝ }
 {
     let e = record::earlier(records, page);
     let z = record::later(records, page);

@@ -1,5 +1,5 @@
-// The boot over a lent list of region structs (frame.rs's init): any length, of which no more than eight are read. A thin function reads each struct out of the
-// slice and hands it by value to covered code; the whole boot promises what `boot` does, over the list of entries.
+// The boot over a lent list of region structs (frame.rs's init): any length, of which no more than eight are read. A thin function reads
+// each struct out of the slice and hands it by value to covered code; the whole boot promises what `boot` does, over the list of entries.
 use address::PhysAddr;
 use definition::Board;
 use definition::Counters;
@@ -10,6 +10,7 @@ ghost use mathlib.Core.Path.{_≡_};
 ghost use Prim.Native.Nat.{_≤_, _<_};
 ghost use lib.ListN.{length};
 ghost use Rattle.definition.specs.Board.{Fit};
+ghost use Rattle.words.specs.Words.{Long};
 ghost use Rattle.exam.specs.Promise.{stateWith, worldOf};
 ghost use Rattle.boot.specs.Booting.{Boots, BootsOver};
 ghost use Rattle.map.specs.Lending.{nothing as «nothing_def», entered as «entered_def», gathered, BootsBy};
@@ -74,8 +75,11 @@ fn boot_gathered(
     memory: &[u8],
     queue: &[u64],
 ) -> Outcome
-    requires { ⌜ Fit board × (92 ≤ length (now words)) ⌝ }
-    ensures { λ r. ⌜ BootsBy board g (worldOf (stateWith counters (now (words .entry))) (now (records .entry)) (now (memory .entry)) (now (queue .entry))) (worldOf (stateWith (r .counters) (now (words .exit))) (now (records .exit)) (now (memory .entry)) (now (queue .entry))) (r .answer) × BootsOver (now (words .entry)) (now (words .exit)) (r .answer) ⌝ }
+    requires { ⌜ Fit board × Long (now words) ⌝ }
+    ensures { λ r. ⌜ BootsBy board g
+        (worldOf (stateWith counters (now (words .entry))) (now (records .entry)) (now (memory .entry)) (now (queue .entry)))
+        (worldOf (stateWith (r .counters) (now (words .exit))) (now (records .exit)) (now (memory .entry)) (now (queue .entry))) (r .answer)
+        × BootsOver (now (words .entry)) (now (words .exit)) (r .answer) ⌝ }
 {
     let map = g.map;
     boot::boot(board, counters, words, map, g.count, records, memory, queue)
@@ -91,8 +95,11 @@ pub fn boot_map(
     memory: &[u8],
     queue: &[u64],
 ) -> Outcome
-    requires { ⌜ Fit board × (92 ≤ length (now words)) ⌝ }
-    ensures { λ r. ⌜ Boots board (now (map .entry)) (worldOf (stateWith counters (now (words .entry))) (now (records .entry)) (now (memory .entry)) (now (queue .entry))) (worldOf (stateWith (r .counters) (now (words .exit))) (now (records .exit)) (now (memory .entry)) (now (queue .entry))) (r .answer) × BootsOver (now (words .entry)) (now (words .exit)) (r .answer) ⌝ }
+    requires { ⌜ Fit board × Long (now words) ⌝ }
+    ensures { λ r. ⌜ Boots board (now (map .entry))
+        (worldOf (stateWith counters (now (words .entry))) (now (records .entry)) (now (memory .entry)) (now (queue .entry)))
+        (worldOf (stateWith (r .counters) (now (words .exit))) (now (records .exit)) (now (memory .entry)) (now (queue .entry))) (r .answer)
+        × BootsOver (now (words .entry)) (now (words .exit)) (r .answer) ⌝ }
 {
     boot_gathered(board, gather(map), counters, words, records, memory, queue)
 }

@@ -30,7 +30,8 @@ pub fn read_all(buf: &mut [u8]) -> Input
     Input::TooLong
 }
 
-// What the program prints for a script, at the front of `answer`. 0 where the answer slice is under 512 bytes for each line plus 512, and only there.
+// What the program prints for a script, at the front of `answer`. 0 where the answer slice is under 512 bytes for each line plus 512, and
+// only there.
 pub fn run_once(script: &[u8], answer: &mut [u8]) -> usize
     ensures { λ r. ⌜ RanOnce (now (script .entry)) (now (answer .entry)) (now (answer .exit)) r ⌝ }
 {
@@ -40,8 +41,8 @@ pub fn run_once(script: &[u8], answer: &mut [u8]) -> usize
     script::jilakkor_run(script, &mut records, &mut memory, &mut queue, answer)
 }
 
-// Room for the answers to 8,191 lines: 512 bytes for each, plus 512. It is a function of its own so that a proof takes the length from its type: one that sees
-// the zeros themselves counts them.
+// Room for the answers to 8,191 lines: 512 bytes for each, plus 512. It is a function of its own so that a proof takes the length from its
+// type: one that sees the zeros themselves counts them.
 pub fn answer_room() -> [u8; 4194304] {
     [0; 4194304]
 }

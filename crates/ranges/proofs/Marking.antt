@@ -70,24 +70,24 @@ module _ {board : Board} {w : World} {s : Store} (W : Whole board w s) where
         pub marked-whole : Whole board (relent w records memory) left
         marked-whole =
             let S = W .stands in
-            left-whole W left (relent w records memory) turned (M .as-long) (M .after) R (S .counters) (S .pass) (S .queue) (S .queued) (S .room)
+            left-whole W left (relent w records memory) turned (M .as-long) (M .after) R (S .counters) (S .pass) (S .queue) (S .queued) refl refl
 
         pub marked-left : encode board left w ≡ relent w records memory
         marked-left =
             let S = W .stands in
-            left-written W left (relent w records memory) turned (M .as-long) (M .after) R (S .counters) (S .pass) (S .queue) (S .queued) (S .room) refl
+            left-written W left (relent w records memory) turned (M .as-long) (M .after) R (S .counters) (S .pass) (S .queue) (S .queued) refl refl refl
 
   -- where bytes are rewritten and every mark stays, as in a copy of zeros into part of a frame
   module _ (m : Memory) (memory : List ℕ) (R : Rewritten board (s .allocator .regions) (w .memory) m memory) where
     pub written-whole : Whole board (relent w (w .records) memory) (withMemory s m)
     written-whole =
         let S = W .stands in
-        left-whole W (withMemory s m) (relent w (w .records) memory) (unturned W) refl (W .bytes) R (S .counters) (S .pass) (S .queue) (S .queued) (S .room)
+        left-whole W (withMemory s m) (relent w (w .records) memory) (unturned W) refl (W .bytes) R (S .counters) (S .pass) (S .queue) (S .queued) refl refl
 
     pub written-left : encode board (withMemory s m) w ≡ relent w (w .records) memory
     written-left =
         let S = W .stands in
-        left-written W (withMemory s m) (relent w (w .records) memory) (unturned W) refl (W .bytes) R (S .counters) (S .pass) (S .queue) (S .queued) (S .room)
+        left-written W (withMemory s m) (relent w (w .records) memory) (unturned W) refl (W .bytes) R (S .counters) (S .pass) (S .queue) (S .queued) refl refl
         refl
 
 -- ---- a call on one held frame

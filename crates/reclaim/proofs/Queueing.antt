@@ -11,14 +11,14 @@ use lib.ListN.{length, length-set, set, take}
 use lib.Seq.{drop-set-lt, length-take-le, take-suc-set}
 use Rattle.definition.specs.declared.Refusal.the-variants.{Outside, NoFrameStart, NotHeld, PastTheEnd}
 use Rattle.definition.specs.Board.{Board}
-use Rattle.definition.specs.Refusal.{_when_, lowest}
+use Rattle.definition.specs.Refusal.{_when_, firstMet, placeIn, rankOf}
 use Rattle.definition.specs.Store.{Store, withQueue}
 use Rattle.definition.specs.Tracker.{startsFrame, isHeld}
 use Rattle.definition.specs.Contents.{frameBytes}
 use Rattle.definition.specs.Calls.{Queue, Range, leavesFrame, outside, perform, step}
 use Rattle.definition.specs.World.{World, recordAt}
 use Rattle.record.specs.Records.{pagesIn}
-use Rattle.world.specs.Refusals.{frameRefusal, lower, numberIf, rangeOf, refusalOf}
+use Rattle.world.specs.Refusals.{earlier, frameRefusal, numberIf, rangeOf, refusalOf}
 use Rattle.world.proofs.Refusing.{queue-refused}
 use Rattle.exam.specs.declared.Exam.{Exam}
 use Rattle.exam.specs.Making.{Made, Whole}
@@ -27,22 +27,23 @@ use Rattle.exam.proofs.Making.{looked-bytes, looked-refusal, looked-refused, ma
 use Rattle.exam.proofs.Promises.{doneBy, refusedBy}
 
 module _ (board : Board) where
-  -- the refusals of a frame are below a full queue's
-  frame-below : (s : Store) (r : Range) → frameRefusal board s r < 16
-  unfolding lowest
-  frame-below s r = go (outside board s r) (startsFrame board s (r .address)) (isHeld board s (r .address)) (leavesFrame board s r)
+  -- the refusals of a frame are tried before a full queue's
+  frame-before : (s : Store) (r : Range) → (frameRefusal board s r ≡ 0 → ⊥) → rankOf (frameRefusal board s r) < rankOf 16
+  unfolding firstMet placeIn
+  frame-before s r = go (outside board s r) (startsFrame board s (r .address)) (isHeld board s (r .address)) (leavesFrame board s r)
     where
       go : (a b c d : Bool)
-          → numberIf (lowest ((Outside when a) ∷ (NoFrameStart when not b) ∷ (NotHeld when not c) ∷ (PastTheEnd when d) ∷ [])) < 16
-      go true b c d = omega arith
-      go false false c d = omega arith
-      go false true false d = omega arith
-      go false true true true = omega arith
-      go false true true false = omega arith
+          → let n = numberIf (firstMet ((Outside when a) ∷ (NoFrameStart when not b) ∷ (NotHeld when not c) ∷ (PastTheEnd when d) ∷ [])) in
+          (n ≡ 0 → ⊥) → rankOf n < rankOf 16
+      go true b c d h = omega arith
+      go false false c d h = omega arith
+      go false true false d h = omega arith
+      go false true true true h = omega arith
+      go false true true false h = absurd (h refl)
 
-lower-first : (n : ℕ) (full : Bool) → (n ≡ 0 → ⊥) → n < 16 → lower n (cond full 16 0) ≡ n
-lower-first n true d h = rw (ne-eqb n 0 d, lt-ltb n 16 h) refl
-lower-first n false d h = rw (ne-eqb n 0 d) refl
+earlier-first : (n : ℕ) (full : Bool) → (n ≡ 0 → ⊥) → rankOf n < rankOf 16 → earlier n (cond full 16 0) ≡ n
+earlier-first n true d h = rw (ne-eqb n 0 d, lt-ltb (rankOf n) (rankOf 16) h) refl
+earlier-first n false d h = rw (ne-eqb n 0 d) refl
 
 -- the world with the address in the first free place
 abbrev pub queuedIn : World → ℕ → World
@@ -66,10 +67,10 @@ module _ {board : Board} {w : World} {s : Store} (H : Whole board w s) {a : ℕ}
     -- the frame's refusal
     pub queue-refuses : (r .number ≡ 0 → ⊥) → Made board (step board s (Queue a)) w w (refusedBy (r .number))
     queue-refuses d =
+        let one : frameRefusal board s (rangeOf a 0 0) ≡ 0 → ⊥ = λ z. d (sym (looked-refusal H L) ∙ z) in
         looked-refused H L (Queue a)
         (queue-refused board s a
-        ∙ lower-first (frameRefusal board s (rangeOf a 0 0)) (leb (s .room) (length (s .queue))) (λ z. d (sym (looked-refusal H L) ∙ z))
-        (frame-below board s (rangeOf a 0 0)))
+        ∙ earlier-first (frameRefusal board s (rangeOf a 0 0)) (leb (s .kept .room) (length (s .queue))) one (frame-before board s (rangeOf a 0 0) one))
         d
 
     module _ (z : r .number ≡ 0) where
@@ -93,7 +94,8 @@ module _ {board : Board} {w : World} {s : Store} (H : Whole board w s) {a : ℕ}
           (S .pass)
           (ap (λ (l : List ℕ). l ++ (a ∷ [])) (S .queue) ∙ sym e)
           (omega (arith, length-set (w .queue) q a))
-          (S .room ∙ sym (length-set (w .queue) q a))
+          refl
+          (length-set (w .queue) q a)
           (Queue a)
           a
           (frameBytes board s (a / board .page))

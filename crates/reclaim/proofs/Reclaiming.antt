@@ -16,7 +16,7 @@ use Rattle.definition.specs.declared.Counters.{Counters}
 use Rattle.definition.specs.declared.Refusal.the-variants.{Outside, NoFrameStart, NotHeld, PastTheEnd}
 use Rattle.definition.specs.Basics.{Popped, orThis, popLast, popBack}
 use Rattle.definition.specs.Board.{Board}
-use Rattle.definition.specs.Refusal.{_when_, lowest}
+use Rattle.definition.specs.Refusal.{_when_, firstMet}
 use Rattle.definition.specs.Frame.{size}
 use Rattle.definition.specs.Allocator.{PhysicalFrameAllocator, isManaged}
 use Rattle.definition.specs.Contents.{frameBytes}
@@ -70,17 +70,17 @@ pop-none places q e = ap (λ (k : ℕ). popBack (take k places)) e
 -- ---- an address can be freed where its frame meets no refusal
 
 abbrev of-tests : (m b h l : Bool) → ℕ
-of-tests m b h l = numberIf (lowest ((Outside when not m) ∷ (NoFrameStart when not b) ∷ (NotHeld when not h) ∷ (PastTheEnd when l) ∷ []))
+of-tests m b h l = numberIf (firstMet ((Outside when not m) ∷ (NoFrameStart when not b) ∷ (NotHeld when not h) ∷ (PastTheEnd when l) ∷ []))
 
 all-met : (m b h l : Bool) → of-tests m b h l ≡ 0 → (m && (b && h)) ≡ true
-unfolding lowest
+unfolding firstMet
 all-met false b h l e = absurd (omega arith)
 all-met true false h l e = absurd (omega arith)
 all-met true true false l e = absurd (omega arith)
 all-met true true true l e = refl
 
 one-fails : (m b h l : Bool) → l ≡ false → (of-tests m b h l ≡ 0 → ⊥) → (m && (b && h)) ≡ false
-unfolding lowest
+unfolding firstMet
 one-fails false b h l f d = refl
 one-fails true false h l f d = refl
 one-fails true true false l f d = refl
@@ -122,7 +122,7 @@ module _ (board : Board) where
     pub is : IsOf board f n next places present
     pub turned : Turned board f₀ (st .rows) f n (next .rows) (present .allocator)
     pub memory : present .memory ≡ s .memory
-    pub room : present .room ≡ s .room
+    pub kept : present .kept ≡ s .kept
     pub same-pass : present .pass ≡ s .pass
     pub result : reclaimUpTo board limit s ≡ more freed (reclaimUpTo board (limit - i) present)
 
@@ -136,7 +136,7 @@ module _ {board : Board} where
         is = I;
         turned = record { table = I .table; spans = refl; outside = λ q h. refl };
         memory = refl;
-        room = refl;
+        kept = refl;
         same-pass = refl;
         result = ap (λ (k : ℕ). record { store = x .store; freed = k }) (omega arith) ∙ ap (λ (k : ℕ). more 0 (reclaimUpTo board k s)) z;
       }
@@ -208,7 +208,7 @@ module _ {board : Board} where
                   is = record { table = W .is .table; counters = W .is .counters; queue = refl; queued = omega (arith, W .is .queued) };
                   turned = W .turned;
                   memory = W .memory;
-                  room = W .room;
+                  kept = W .kept;
                   same-pass = W .same-pass;
                   result = turn false (can-not-free board u a (λ z. d (sym number-is ∙ z)));
                 }
@@ -236,7 +236,7 @@ module _ {board : Board} where
                         };
                     turned = turned-then (W .turned) T;
                     memory = W .memory;
-                    room = W .room;
+                    kept = W .kept;
                     same-pass = W .same-pass;
                     result =
                         turn true (can-free board u a (number-is ∙ z))
@@ -302,7 +302,7 @@ module _ {board : Board} where
             freed = refl;
             few = omega (arith, G .few, G .turns);
             memory = W .memory;
-            room = W .room;
+            kept = W .kept;
             same-pass = W .same-pass;
           })
 

@@ -65,7 +65,7 @@ module _ (board : Board) where
         memory = λ p. 0;
         counters = st .counters;
         queue = take (st .queued) places;
-        room = length places;
+        kept = record { room = length places };
         pass = st .pass;
       }
 
@@ -96,11 +96,11 @@ module _ {board : Board} (st : State) (records memory queue : List ℕ) {s : Sto
     module _
         (s1 : Store) (st1 : State)
         (turned : Turned board (recordAt records) (st .rows) (recordAt records2) (pagesIn records2) (st1 .rows) (s1 .allocator))
-        (counters-same : s1 .counters ≡ st1 .counters) (memory-same : s1 .memory ≡ s .memory) (room : s1 .room ≡ s .room)
+        (counters-same : s1 .counters ≡ st1 .counters) (memory-same : s1 .memory ≡ s .memory) (kept : s1 .kept ≡ s .kept)
         (queue-is : s1 .queue ≡ take (st1 .queued) queue) (fewer : st1 .queued ≤ st .queued)
       where
         left : (o : Reported) → reclaimRound board s ≡ o → o .store .allocator ≡ s1 .allocator → o .store .memory ≡ s1 .memory
-            → o .store .room ≡ s1 .room → o .store .queue ≡ s1 .queue → (st2 : State) → st2 .rows ≡ st1 .rows → st2 .queued ≡ st1 .queued
+            → o .store .kept ≡ s1 .kept → o .store .queue ≡ s1 .queue → (st2 : State) → st2 .rows ≡ st1 .rows → st2 .queued ≡ st1 .queued
             → o .store .counters ≡ st2 .counters → o .store .pass ≡ st2 .pass
             → Made board (step board s Round) w (worldOf st2 records2 memory queue) (doneBy (o .pass .rounds) (o .pass .freed))
         unfolding perform
@@ -111,7 +111,8 @@ module _ {board : Board} (st : State) (records memory queue : List ℕ) {s : Sto
             pass
             (q ∙ queue-is ∙ ap (λ (k : ℕ). take k queue) (sym queued))
             (omega (arith, H .stands .queued))
-            (r ∙ room ∙ H .stands .room)
+            (r ∙ kept)
+            refl
             Round
             (o .pass .rounds)
             (o .pass .freed)
@@ -159,7 +160,7 @@ module _ {board : Board} (st : State) (records memory queue : List ℕ) {s : Sto
             : board .«max_rounds» < st .pass .rounds → (r : Outcome) → EndsPass (R .state) (worked (st .pass) (R .freed)) r
             → Made board (step board s Round) w (worldOf (r .state) records2 memory queue) (r .answer)
         round-ends h r E =
-            over (x .store) (R .state) (X .turned) (X .counters) (X .memory) (X .room) (X .queue) (X .queued)
+            over (x .store) (R .state) (X .turned) (X .counters) (X .memory) (X .kept) (X .queue) (X .queued)
             (worked (st .pass) (R .freed))
             (after ∙ past-limit board (s .pass) x (omega (arith, rounds-is)) ∙ ap (endPass (x .store)) worked-is)
             r
@@ -170,7 +171,7 @@ module _ {board : Board} (st : State) (records memory queue : List ℕ) {s : Sto
             → Made board (step board s Round) w (worldOf (withPassOf (R .state) (worked (st .pass) (R .freed))) records2 memory queue)
             (doneBy (st .pass .rounds + 1) (st .pass .freed + R .freed))
         round-goes-on h =
-            goes-on (x .store) (R .state) (X .turned) (X .counters) (X .memory) (X .room) (X .queue) (X .queued)
+            goes-on (x .store) (R .state) (X .turned) (X .counters) (X .memory) (X .kept) (X .queue) (X .queued)
             (worked (st .pass) (R .freed))
             (after ∙ within-limit board (s .pass) x (omega (arith, rounds-is)) ∙ ap (goOn (x .store)) worked-is)
 

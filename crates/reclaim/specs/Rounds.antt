@@ -44,7 +44,7 @@ module _ (board : Board) where
     pub freed : r .freed ≡ x .freed
     pub few : r .freed ≤ 1000
     pub memory : x .store .memory ≡ s .memory
-    pub room : x .store .room ≡ s .room
+    pub kept : x .store .kept ≡ s .kept
     pub same-pass : x .store .pass ≡ s .pass
 
   abbrev pub Reclaims : (ℕ → Record) → State → List ℕ → ℕ → (ℕ → Record) → ℕ → Reclaimed → Type 0

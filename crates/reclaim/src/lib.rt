@@ -1,5 +1,5 @@
-// The reclaim queue and its rounds, after tracker.rs's reclaim_main. Each call is lent what it reads and writes and promises definition's `step`
-// (exam/specs/Making.antt).
+// The reclaim queue and its rounds, after tracker.rs's reclaim_main. Each call is lent what it reads and writes and promises definition's
+// `step` (exam/specs/Making.antt).
 use address::PhysAddr;
 use definition::Counters;
 use definition::Pass;
@@ -10,7 +10,7 @@ ghost use lib.ListN.{length};
 ghost use Rattle.definition.specs.Calls.{Queue, Round};
 ghost use Rattle.definition.specs.World.{recordAt};
 ghost use Rattle.record.specs.Records.{pagesIn};
-ghost use Rattle.words.specs.Words.{boardIn, keptWords, queuedIn, Beside};
+ghost use Rattle.words.specs.Words.{boardIn, Long, queuedIn, Beside};
 ghost use Rattle.exam.specs.Promise.{stateWith};
 ghost use Rattle.exam.specs.Making.{TableIn, Few, PassIn, Queues, Rounds};
 ghost use Rattle.reclaim.specs.Rounds.{Reclaims, EndsPass};
@@ -32,7 +32,7 @@ pub fn queue(words: &mut [u64], records: &[u8], queue: &mut [u64], pa: PhysAddr)
     }
     let last = words::queued_in(words);
     if queue.len() <= last {
-        return exam::refused(16);
+        return exam::refused(definition::QUEUE_FULL);
     }
     let board = words::board_in(words);
     queue[last] = pa.raw();
@@ -87,7 +87,8 @@ fn reclaim_up_to(
     }
 }
 
-// reclaim_main, tracker.rs 419 to 457: one turn of its loop; a call that finds the store not low, or that goes past the round limit, ends the pass.
+// reclaim_main, tracker.rs 419 to 457: one turn of its loop; a call that finds the store not low, or that goes past the round limit, ends
+// the pass.
 pub fn round(counters: Counters, words: &mut [u64], records: &mut [u8], queue: &[u64]) -> Outcome
     requires { ⌜ TableIn (now words) (now records) ⌝ }
     requires { ⌜ Few counters ⌝ }
@@ -120,7 +121,7 @@ pub fn round(counters: Counters, words: &mut [u64], records: &mut [u8], queue: &
 
 // tracker.rs 457: what the pass freed is counted, and the next pass begins at 0.
 fn end_pass(counters: Counters, words: &mut [u64], pass: Pass) -> Outcome
-    requires { ⌜ keptWords ≤ length (now words) ⌝ }
+    requires { ⌜ Long (now words) ⌝ }
     ensures { λ r. ⌜ EndsPass (stateWith counters (now (words .entry))) pass
         (record { state = stateWith (r .counters) (now (words .exit)); answer = r .answer }) ⌝ }
     ensures { λ _. ⌜ Beside (now (words .entry)) (now (words .exit)) ⌝ }

@@ -1,7 +1,7 @@
-// The records of the managed pages in the lent bytes: 16 bytes a page, four 32-bit little-endian numbers (01, "What changes shape").
-// No other crate sees bytes of records, and none takes the marks or the number of the level apart. Callers go by the `records` clause of a
-// contract, which speaks of the records as a function of the page; the `bytes` clause fixes every byte of the loan, those past the last whole
-// record too.
+// The records of the managed pages in the lent bytes: 16 bytes a page, four 32-bit little-endian numbers (01, "What changes shape"). No
+// other crate sees bytes of records, and none takes the marks or the number of the level apart. Callers go by the `records` clause of a
+// contract, which speaks of the records as a function of the page; the `bytes` clause fixes every byte of the loan, those past the last
+// whole record too.
 use definition::Record;
 ghost use mathlib.Core.Bool.{true, false};
 ghost use mathlib.Core.Path.{_≡_};
@@ -179,8 +179,8 @@ pub fn clear(records: &mut [u8], first: usize, count: usize)
     }
 }
 
-// Whether the records of `count` pages, from `first` on, are four zeros each: whether the largest of their bytes is 0. No early exit, and the largest rather than a
-// flag: LLVM then makes it one vector instruction for each 16 bytes.
+// Whether the records of `count` pages, from `first` on, are four zeros each: whether the largest of their bytes is 0. No early exit, and
+// the largest rather than a flag: LLVM then makes it one vector instruction for each 16 bytes.
 pub fn is_clear(records: &[u8], first: usize, count: usize) -> bool
     requires { ⌜ first + count ≤ pagesIn (now records) ⌝ }
     ensures { λ r. ⌜ r ≡ all (λ q. isBlank (recordAt (now (records .entry)) q)) (range first count) ⌝ }

@@ -1,9 +1,10 @@
-// One region's allocator, after frame.rs's AllocationRegion: its frames stand in the lent records, its six lists of free frames in its row, the row `index` of the
-// lent words. `first` is the page number of the region's first record. Where a function has a `requires`, that is what the audit establishes of every region of a store:
-// `SoundRow` (the records and the row stand for frames and lists) and `WholeRow` (the frames tile the region, each free one is listed).
-// A region is named by its board, `first` and its row: the board says how many of its pages are tables. Where a body reads no number of
-// the board, the board only says of which region the contract speaks, and nothing of it is left in what runs. `do_allocate` and what it
-// calls are given none: it calls itself, and would copy the board each time. They ask for some board, and promise the same of every one.
+// One region's allocator, after frame.rs's AllocationRegion: its frames stand in the lent records, its six lists of free frames in its row,
+// the row `index` of the lent words. `first` is the page number of the region's first record. Where a function has a `requires`, that is
+// what the audit establishes of every region of a store: `SoundRow` (the records and the row stand for frames and lists) and `WholeRow`
+// (the frames tile the region, each free one is listed). A region is named by its board, `first` and its row: the board says how many of
+// its pages are tables. Where a body reads no number of the board, the board only says of which region the contract speaks, and nothing of
+// it is left in what runs. `do_allocate` and what it calls are given none: it calls itself, and would copy the board each time. They ask
+// for some board, and promise the same of every one.
 use address::PhysAddr;
 use definition::Board;
 use definition::Links;
@@ -87,7 +88,8 @@ fn nothing() -> Got
 fn pop(records: &mut [u8], first: usize, words: &mut [u64], index: usize, k: usize) -> Got
     requires { ⌜ SoundSome (now records) first (now words) index ⌝ }
     requires { ⌜ k < 6 ⌝ }
-    ensures { λ r. ⌜ FindsBy (now (records .entry)) first (now (words .entry)) index (now (records .exit)) (now (words .exit)) r (λ s. popFrom everywhere s k) ⌝ }
+    ensures { λ r. ⌜ FindsBy (now (records .entry)) first (now (words .entry)) index (now (records .exit)) (now (words .exit)) r
+        (λ s. popFrom everywhere s k) ⌝ }
 {
     let l = words::list_at(words, index, k);
     match list::pop_back(records, l) {
@@ -119,7 +121,8 @@ fn level_allocate(
 ) -> Got
     requires { ⌜ SoundSome (now records) first (now words) index ⌝ }
     requires { ⌜ level < 3 ⌝ }
-    ensures { λ r. ⌜ FindsBy (now (records .entry)) first (now (words .entry)) index (now (records .exit)) (now (words .exit)) r (λ s. levelAllocate everywhere s level «try_zero» «only_zero») ⌝ }
+    ensures { λ r. ⌜ FindsBy (now (records .entry)) first (now (words .entry)) index (now (records .exit)) (now (words .exit)) r
+        (λ s. levelAllocate everywhere s level «try_zero» «only_zero») ⌝ }
 {
     if only_zero {
         return pop(records, first, words, index, level * 2 + 1);
@@ -134,7 +137,8 @@ fn level_allocate(
     dirty
 }
 
-// A free frame's record at the page, and the page on the back of a list. It takes the one list, and not the row, so that 512 in turn copy little.
+// A free frame's record at the page, and the page on the back of a list. It takes the one list, and not the row, so that 512 in turn copy
+// little.
 fn admit(
     records: &mut [u8],
     list: Links,
@@ -147,7 +151,8 @@ fn admit(
     requires { ⌜ (level < 3) × (page < pagesIn (now records)) ⌝ }
     requires { ⌜ Out page (pagesOf (recordAt (now records)) list) ⌝ }
     requires { ⌜ (page + 1 < 2 ^ 32) × (list .count + 1 < 2 ^ 32) ⌝ }
-    ensures { λ r. ⌜ Pushed (upd (recordAt (now (records .entry))) page (freeRecord level zeroed kernel)) list (page ∷ []) (recordAt (now (records .exit))) (pagesIn (now (records .exit))) r ⌝ }
+    ensures { λ r. ⌜ Pushed (upd (recordAt (now (records .entry))) page (freeRecord level zeroed kernel)) list (page ∷ [])
+        (recordAt (now (records .exit))) (pagesIn (now (records .exit))) r ⌝ }
 {
     let marks = record::free_marks(zeroed, kernel);
     let word = record::level_word(level);
@@ -178,7 +183,8 @@ fn push(
     requires { ⌜ SoundRow board (recordAt (now records)) (pagesIn (now records)) first row ⌝ }
     requires { ⌜ (level < 3) × Inside board first (row .pages) page ⌝ }
     requires { ⌜ ((k : ℕ) → Out page (stateOf (recordAt (now records)) row .free k)) ⌝ }
-    ensures { λ r. ⌜ Becomes board (recordAt (now (records .entry))) first row (recordAt (now (records .exit))) (pagesIn (now (records .exit))) r (listUp (stateOf (recordAt (now (records .entry))) row) page level zeroed kernel) ⌝ }
+    ensures { λ r. ⌜ Becomes board (recordAt (now (records .entry))) first row (recordAt (now (records .exit)))
+        (pagesIn (now (records .exit))) r (listUp (stateOf (recordAt (now (records .entry))) row) page level zeroed kernel) ⌝ }
 {
     let k = slot(level, zeroed);
     let l = row.lists[k];
@@ -198,7 +204,8 @@ fn split(
     level: usize,
 )
     requires { ⌜ SplitsSome (now records) first (now words) index page level ⌝ }
-    ensures { λ _. ⌜ SplitsBy (now (records .entry)) first (now (words .entry)) index (now (records .exit)) (now (words .exit)) page level («split_def» (levelsAt (now (records .entry)) (now (words .entry)) index) page level) ⌝ }
+    ensures { λ _. ⌜ SplitsBy (now (records .entry)) first (now (words .entry)) index (now (records .exit)) (now (words .exit)) page level
+        («split_def» (levelsAt (now (records .entry)) (now (words .entry)) index) page level) ⌝ }
 {
     let zeroed = record::is_zeroed(record::marks(records, page));
     let step = level::pages_at(level);
@@ -224,7 +231,8 @@ pub fn do_allocate(
     only_zero: bool,
 ) -> Got
     requires { ⌜ WholeSome (now records) first (now words) index ⌝ }
-    ensures { λ r. ⌜ SeeksBy (now (records .entry)) first (now (words .entry)) index (now (records .exit)) (now (words .exit)) r (λ s. doAllocate everywhere (3 - level) level s «try_zero» «only_zero») ⌝ }
+    ensures { λ r. ⌜ SeeksBy (now (records .entry)) first (now (words .entry)) index (now (records .exit)) (now (words .exit)) r
+        (λ s. doAllocate everywhere (3 - level) level s «try_zero» «only_zero») ⌝ }
 {
     if 3 <= level {
         return nothing();
@@ -254,7 +262,8 @@ pub fn allocate(
 ) -> Got
     requires { ⌜ SoundAt board (now records) first (now words) index ⌝ }
     requires { ⌜ (WholeAt board (now records) first (now words) index) × (level < 3) ⌝ }
-    ensures { λ r. ⌜ FindsAt board (now (records .entry)) first (now (words .entry)) index (now (records .exit)) (now (words .exit)) r («allocate_def» everywhere level (levelsAt (now (records .entry)) (now (words .entry)) index) «try_zero» «only_zero») ⌝ }
+    ensures { λ r. ⌜ FindsAt board (now (records .entry)) first (now (words .entry)) index (now (records .exit)) (now (words .exit)) r
+        («allocate_def» everywhere level (levelsAt (now (records .entry)) (now (words .entry)) index) «try_zero» «only_zero») ⌝ }
     ensures { λ _. ⌜ WholeAt board (now (records .exit)) first (now (words .exit)) index ⌝ }
 {
     let got = do_allocate(records, first, words, index, level, try_zero, only_zero);
@@ -268,7 +277,8 @@ pub fn allocate(
     got
 }
 
-// AllocationRegion::free and AllocationRegionLevel::free, frame.rs 166 and 97: clears ALLOCATED only, and puts the frame on the back of its list.
+// AllocationRegion::free and AllocationRegionLevel::free, frame.rs 166 and 97: clears ALLOCATED only, and puts the frame on the back of its
+// list.
 pub fn free(
     board: Board,
     records: &mut [u8],
@@ -280,7 +290,8 @@ pub fn free(
     requires { ⌜ SoundAt board (now records) first (now words) index ⌝ }
     requires { ⌜ WholeAt board (now records) first (now words) index ⌝ }
     requires { ⌜ Held board (levelsAt (now records) (now words) index) first (rowOf (rowsIn (now words)) index .pages) page ⌝ }
-    ensures { λ _. ⌜ LeavesAt board (now (records .entry)) first (now (words .entry)) index (now (records .exit)) (now (words .exit)) («free_def» (levelsAt (now (records .entry)) (now (words .entry)) index) page) ⌝ }
+    ensures { λ _. ⌜ LeavesAt board (now (records .entry)) first (now (words .entry)) index (now (records .exit)) (now (words .exit))
+        («free_def» (levelsAt (now (records .entry)) (now (words .entry)) index) page) ⌝ }
     ensures { λ _. ⌜ WholeAt board (now (records .exit)) first (now (words .exit)) index ⌝ }
 {
     let r = record::load(records, page);
@@ -306,7 +317,8 @@ pub fn set_marks(
     requires { ⌜ SoundRow board (recordAt (now records)) (pagesIn (now records)) first row ⌝ }
     requires { ⌜ WholeRow board (recordAt (now records)) first row ⌝ }
     requires { ⌜ Held board (stateOf (recordAt (now records)) row) first (row .pages) page ⌝ }
-    ensures { λ _. ⌜ Becomes board (recordAt (now (records .entry))) first row (recordAt (now (records .exit))) (pagesIn (now (records .exit))) row (markedLevels (stateOf (recordAt (now (records .entry))) row) page zeroed kernel) ⌝ }
+    ensures { λ _. ⌜ Becomes board (recordAt (now (records .entry))) first row (recordAt (now (records .exit)))
+        (pagesIn (now (records .exit))) row (markedLevels (stateOf (recordAt (now (records .entry))) row) page zeroed kernel) ⌝ }
     ensures { λ _. ⌜ WholeRow board (recordAt (now (records .exit))) first row ⌝ }
 {
     let held = record::held_marks(zeroed, kernel);
@@ -318,7 +330,8 @@ pub fn split_and_keep(board: Board, records: &mut [u8], first: usize, row: Row, 
     requires { ⌜ SoundRow board (recordAt (now records)) (pagesIn (now records)) first row ⌝ }
     requires { ⌜ WholeRow board (recordAt (now records)) first row ⌝ }
     requires { ⌜ Held board (stateOf (recordAt (now records)) row) first (row .pages) page ⌝ }
-    ensures { λ _. ⌜ Becomes board (recordAt (now (records .entry))) first row (recordAt (now (records .exit))) (pagesIn (now (records .exit))) row (keptLevels (stateOf (recordAt (now (records .entry))) row) page) ⌝ }
+    ensures { λ _. ⌜ Becomes board (recordAt (now (records .entry))) first row (recordAt (now (records .exit)))
+        (pagesIn (now (records .exit))) row (keptLevels (stateOf (recordAt (now (records .entry))) row) page) ⌝ }
     ensures { λ _. ⌜ WholeRow board (recordAt (now (records .exit))) first row ⌝ }
 {
     let r = record::load(records, page);
@@ -355,7 +368,8 @@ fn organize(
     requires { ⌜ SoundRow board (recordAt (now records)) (pagesIn (now records)) first row ⌝ }
     requires { ⌜ (count ≡ managed board (row .pages)) × (from ≡ fromOf board row) × (from + count < 2 ^ 64) ⌝ }
     requires { ⌜ Blank board (stateOf (recordAt (now records)) row) first (row .pages) ⌝ }
-    ensures { λ r. ⌜ Becomes board (recordAt (now (records .entry))) first row (recordAt (now (records .exit))) (pagesIn (now (records .exit))) r («organize_def» count (stateOf (recordAt (now (records .entry))) row) first from count) ⌝ }
+    ensures { λ r. ⌜ Becomes board (recordAt (now (records .entry))) first row (recordAt (now (records .exit)))
+        (pagesIn (now (records .exit))) r («organize_def» count (stateOf (recordAt (now (records .entry))) row) first from count) ⌝ }
     ensures { λ r. ⌜ WholeRow board (recordAt (now (records .exit))) first r ⌝ }
 {
     let mut r = row;
@@ -401,7 +415,8 @@ pub fn new(board: Board, records: &mut [u8], first: usize, start: PhysAddr, page
     requires { ⌜ Fit board ⌝ }
     requires { ⌜ (pages ≤ 2 ^ 32) × (tablePages board pages ≤ pages) ⌝ }
     requires { ⌜ (first + managed board pages < 2 ^ 32) × (first + managed board pages ≤ pagesIn (now records)) ⌝ }
-    ensures { λ r. ⌜ Becomes board (recordAt (now (records .entry))) first (emptyRow start pages) (recordAt (now (records .exit))) (pagesIn (now (records .exit))) r (newState board (recordAt (now (records .entry))) first start pages) ⌝ }
+    ensures { λ r. ⌜ Becomes board (recordAt (now (records .entry))) first (emptyRow start pages) (recordAt (now (records .exit)))
+        (pagesIn (now (records .exit))) r (newState board (recordAt (now (records .entry))) first start pages) ⌝ }
     ensures { λ r. ⌜ WholeRow board (recordAt (now (records .exit))) first r ⌝ }
 {
     let page = board.page;

@@ -17,30 +17,29 @@ use Rattle.definition.specs.declared.Refusal.{Refusal}
 use Rattle.definition.specs.Board.{Board, Fit, standard}
 use Rattle.definition.specs.Boot.{bootSheet}
 use Rattle.definition.specs.Calls.{Answer as AnswerOf, Call, Refused, Done, Text, Bytes}
-use Rattle.definition.specs.Refusal.{lowest, numberOf}
+use Rattle.definition.specs.Refusal.{firstMet, numberOf}
 use Rattle.definition.specs.Torn.{Left, bootCall, call, sound}
 use Rattle.definition.specs.World.{World, noRow, usedRows}
 use Rattle.definition.proofs.Tests.{and-left, and-right, and-true}
 use Rattle.record.specs.Records.{withBytes}
 use Rattle.record.proofs.Bytes.{with-length}
 use Rattle.definition.proofs.Boards.{standard-fit}
+use Rattle.world.proofs.RoundTrip.{sound-sane}
 use Rattle.world.specs.Refusals.{numberIf}
 use Rattle.world.proofs.Calling.{none-met}
-use Rattle.world.proofs.Leaving.{sound-sane}
 use Rattle.allocator.proofs.Turning.{used-most}
 use Rattle.audit.proofs.Sheets.{sound-is}
 use Rattle.exam.specs.declared.Answer.{Answer}
 use Rattle.exam.specs.Promise.{told}
 use Rattle.theorems.specs.Demands.{Accepted, worldAfter}
 use Rattle.theorems.proofs.Bookkeeping.{demand-3}
-use Rattle.words.specs.Words.{Narrow, boardIn, counterWords, highHalf, isKept, keptOf, passIn, queuedIn, rowsIn, usedIn}
+use Rattle.words.specs.Words.{Long, Narrow, boardIn, stateWords, countersAt, counterWords, highHalf, isKept, keptOf, passIn, queuedIn, rowsIn, usedIn}
 use Rattle.words.proofs.Words.{
   counters-written,
   first-in,
   first-kept,
   is-kept-kept,
   kept-written,
-  length-counters,
   length-in,
   length-kept,
   pass-in,
@@ -71,7 +70,7 @@ use Rattle.service.specs.Serving.{
   worldIn,
   written,
 }
-use Rattle.service.proofs.Serving.{lent-kept, lent-long, lent-room, lent-words}
+use Rattle.service.proofs.Serving.{lent-room, lent-words}
 use Rattle.runs.specs.Runs.{bootIn, Carries}
 use Rattle.runs.proofs.Narrow.{sound-narrow}
 
@@ -87,7 +86,7 @@ record Keeps (w : World) (many used : ℕ) (ks : List ℕ) : Type 0 where
   pass : passIn ks ≡ w .pass
 
 -- a sound world has no rows behind those in use, which are as many as the words have
-module _ (board : Board) (w : World) (s : sound board w ≡ true) {used : ℕ} (m : length (usedRows (w .rows)) ≡ used) (ws : List ℕ) (enough : 92 ≤ length ws) where
+module _ (board : Board) (w : World) (s : sound board w ≡ true) {used : ℕ} (m : length (usedRows (w .rows)) ≡ used) (ws : List ℕ) (enough : Long ws) where
   narrow : Narrow (w .rows)
   narrow = sound-narrow board w s
 
@@ -142,22 +141,20 @@ pub record Bears (l : Lent) (w : World) (used : ℕ) : Type 0 where
   pub carries : Carries l w
   pub first : usedIn (l .words) ≡ used
 
-carried : (over : World → List ℕ → List ℕ) (l : Lent) (x : Left) {used : ℕ} → 101 ≤ length (l .words) → 2 ≤ length (l .answer)
+carried : (over : World → List ℕ → List ℕ) (l : Lent) (x : Left) {used : ℕ} → Long (l .words) → 2 ≤ length (l .answer)
     → Keeps (x .world) (length (l .words)) used (over (x .world) (l .words))
-    → Bears (written (λ w ws. withBytes (over w ws) 92 (counterWords (w .counters))) l x .lent) (x .world) used
+    → Bears (written (λ w ws. withBytes (over w ws) countersAt (counterWords (w .counters))) l x .lent) (x .world) used
 carried over l x long room K =
     let c = x .world .counters in
     let ks = over (x .world) (l .words) in
     let y = told (x .answer) in
-    let h : 101 ≤ length ks = omega (arith, K .long) in
-    let same = with-length ks 92 (counterWords c) (omega (arith, h, length-counters c)) ∙ K .long in
+    let h : Long ks = omega (arith, K .long) in
     record {
       carries =
           record {
             world = same-world (rows-kept ks c h ∙ K .rows) (counters-written ks c h) (queued-kept ks c h ∙ K .queued) (pass-kept ks c h ∙ K .pass);
             lent =
-                and-true (le-leb 101 (length (withBytes ks 92 (counterWords c))) (omega (arith, same)))
-                (and-true (is-kept-kept ks c h ∙ K .kept) (le-leb 2 (length (tells y (l .answer))) (omega (arith, tells-long y (l .answer) room))));
+                and-true (is-kept-kept ks c h ∙ K .kept) (le-leb 2 (length (tells y (l .answer))) (omega (arith, tells-long y (l .answer) room)));
           };
       first = ap highHalf (first-kept ks c h) ∙ K .first;
     }
@@ -171,10 +168,9 @@ module _ {board : Board} (c : Call) (l : Lent) (of : boardIn (l .words) ≡ boar
   unfolding served
   served-world s m u =
       let x = call board (worldIn l) c in
-      let k = lent-kept l e in
       rw (e, of)
-      (carried keptOver l x (lent-long l e) (lent-room l k)
-      (call-keeps board (x .world) s m (l .words) (lent-words l k) (and-left (isKept (l .words)) (hasRoom l) k) u))
+      (carried keptOver l x (lent-words l e) (lent-room l e)
+      (call-keeps board (x .world) s m (l .words) (lent-words l e) (and-left (isKept (l .words)) (hasRoom l) e) u))
 
   -- the number that it returns
   pub served-number : served c l .number ≡ told (call board (worldIn l) c .answer) .number
@@ -199,10 +195,10 @@ pub booted-world : (ms : List MemoryRegion) (l : Lent) {used : ℕ} → isRoomy 
 unfolding booted
 booted-world ms l e ok m =
     let x = bootIn ms l in
-    let long = leb-true 101 (length (l .words)) (and-left _ _ e) in
-    let room = leb-true 2 (length (l .answer)) (and-right (leb 101 (length (l .words))) (hasRoom l) e) in
+    let long = leb-true stateWords (length (l .words)) (and-left _ _ e) in
+    let room = leb-true 2 (length (l .answer)) (and-right (leb stateWords (length (l .words))) (hasRoom l) e) in
     rw (e, eq-eqb (told (x .answer) .number) 0 (told-accepted (x .answer) ok))
-    (carried bootOver l x long room (boot-keeps standard (x .world) (boot-sound standard-fit ms (worldIn l) ok) m (l .words) (omega (arith, long))))
+    (carried bootOver l x long room (boot-keeps standard (x .world) (boot-sound standard-fit ms (worldIn l) ok) m (l .words) long))
 
 -- the two premises, by the number that the boot returns
 never-short : (n : ℕ) → shortNumber n ≡ 0 → ⊥
@@ -227,9 +223,9 @@ boot-returned ms l z = go (isRoomy l) refl z
     x = bootIn ms l
 
     go : (t : Bool) → isRoomy l ≡ t
-        → cond t (bootWritten l x) (refusedAs l (shortNumber (numberIf (lowest (bootSheet standard ms (length (l .records)) (length (l .memory))))))) .number ≡ 0
+        → cond t (bootWritten l x) (refusedAs l (shortNumber (numberIf (firstMet (bootSheet standard ms (length (l .records)) (length (l .memory))))))) .number ≡ 0
         → (isRoomy l ≡ true) × Accepted (x .answer)
-    go false e z = absurd (never-short (numberIf (lowest (bootSheet standard ms (length (l .records)) (length (l .memory))))) z)
+    go false e z = absurd (never-short (numberIf (firstMet (bootSheet standard ms (length (l .records)) (length (l .memory))))) z)
     go true e z =
         let y : told (x .answer) .number ≡ 0 = sym (boot-number l x (eqb (told (x .answer) .number) 0)) ∙ z in
         (e, λ r h. never-refused r (rw h at y))

@@ -15,7 +15,7 @@ use Rattle.definition.specs.Board.{Board, Fit, standard}
 use Rattle.definition.specs.Boot.{bootSheet, keptRegions}
 use Rattle.definition.specs.Calls.{Answer as AnswerOf, Call, Refused, Done, Text, Bytes, answerNumber}
 use Rattle.definition.specs.Torn.{call}
-use Rattle.definition.specs.Refusal.{lowest}
+use Rattle.definition.specs.Refusal.{firstMet}
 use Rattle.definition.specs.Rust.{groundMap}
 use Rattle.definition.specs.Store.{Store}
 use Rattle.definition.specs.World.{World, bareRegion, decode, decodeRows, recordAt, usedRows}
@@ -142,7 +142,7 @@ module _ (ms : List MemoryRegion) (l : Lent) (e : isRoomy l ≡ true) where
   pub words-demand-2 : groundMap standard ms (length (l .records)) (length (l .memory)) ≡ true → (calls : List Call)
       → groundAll standard (heldBooted ms l) calls ≡ true → Demand2Words ms l calls
   words-demand-2 g calls ground =
-      let passed : not (isSome (lowest (bootSheet standard ms (length (l .records)) (length (l .memory))))) ≡ true = and-left _ _ g in
+      let passed : not (isSome (firstMet (bootSheet standard ms (length (l .records)) (length (l .memory))))) ≡ true = and-left _ _ g in
       let ok : Accepted (bootIn ms l .answer) = λ r h. false≢true (rw (boot-answered ms (worldIn l) .refusedAsSheet r .0 h) at passed) in
       let w = begins ok .carries .world in
       let D = demand-2 standard-fit ms (worldIn l) g calls (rw w at ground) in

@@ -1,6 +1,6 @@
-// The torn sheet of one region's records, tested on bytes of which nothing is known (01, "Torn unless all hold"). Each function ends and reads nothing
-// outside the loan on every input, and says exactly whether its clause of the sheet holds. `from` is the page frame number of the region's
-// first managed page, `base` that page's number in the records, `past` the number behind its last.
+// The torn sheet of one region's records, tested on bytes of which nothing is known (01, "Torn unless all hold"). Each function ends and
+// reads nothing outside the loan on every input, and says exactly whether its clause of the sheet holds. `from` is the page frame number of
+// the region's first managed page, `base` that page's number in the records, `past` the number behind its last.
 use definition::Links;
 use definition::Row;
 ghost use mathlib.Core.Bool.{true, false, _&&_};
@@ -28,8 +28,9 @@ ghost use Rattle.scan.specs.Sheet.{
 
 // ---- the heads
 
-// "ADMITTED, aligned heads of level 0 to 2 with no mark bits but those named, .. zeros inside": the pages of such a head, 0 where there is none. A frame of
-// one page is aligned and has nothing inside, and is told apart by a branch of its own, so that the step to the next head waits for no load.
+// "ADMITTED, aligned heads of level 0 to 2 with no mark bits but those named, .. zeros inside": the pages of such a head, 0 where there is
+// none. A frame of one page is aligned and has nothing inside, and is told apart by a branch of its own, so that the step to the next head
+// waits for no load.
 fn head_pages(records: &[u8], from: usize, base: usize, past: usize, h: usize) -> usize
     requires { ⌜ (base ≤ h) × (h < past) × (past ≤ pagesIn (now records)) × (from + (past - base) < 2 ^ 64) ⌝ }
     ensures { λ r. ⌜ r ≡ headPages (recordAt (now (records .entry))) from base past h ⌝ }
@@ -79,7 +80,8 @@ fn four_free(records: &[u8], h: usize) -> bool
     record::is_free_page(records, h + 3)
 }
 
-// A page up to which there are only such frames. They come in long runs: four are looked at in a step, and where less than four are left it stops.
+// A page up to which there are only such frames. They come in long runs: four are looked at in a step, and where less than four are left it
+// stops.
 fn past_free(records: &[u8], first: usize, past: usize) -> usize
     requires { ⌜ (first ≤ past) × (past ≤ pagesIn (now records)) ⌝ }
     ensures { λ r. ⌜ (first ≤ r) × (r ≤ past) × Free (recordAt (now (records .entry))) first r ⌝ }
@@ -123,8 +125,8 @@ fn torn_scan() -> Scanned
     }
 }
 
-// "stepping by frame size from each region's first managed page": the heads, tested, and the pages of those that are held. At the first that is bad it
-// stops.
+// "stepping by frame size from each region's first managed page": the heads, tested, and the pages of those that are held. At the first
+// that is bad it stops.
 fn scan(records: &[u8], from: usize, base: usize, past: usize) -> Scanned
     requires { ⌜ (base ≤ past) × (past ≤ pagesIn (now records)) × (from + (past - base) < 2 ^ 64) ⌝ }
     ensures { λ r. ⌜ Tallied (recordAt (now (records .entry))) from base past r ⌝ }
@@ -171,8 +173,8 @@ fn list_kind(k: usize) -> u64
     record::free_kind(k / 2, k % 2 == 1)
 }
 
-// Whether the number `at` names an unheld frame of the region, whose marks and level are `kind`, with KERNEL or without. A number up to `base` wraps to one past the
-// region's last, so that one comparison tells both ends.
+// Whether the number `at` names an unheld frame of the region, whose marks and level are `kind`, with KERNEL or without. A number up to
+// `base` wraps to one past the region's last, so that one comparison tells both ends.
 fn is_on(records: &[u8], base: usize, past: usize, kind: u64, at: u32) -> bool
     requires { ⌜ (base ≤ past) × (past ≤ pagesIn (now records)) × (kind < 2 ^ 63) ⌝ }
     ensures { λ r. ⌜ r ≡ onKind (recordAt (now (records .entry))) base past kind at ⌝ }
@@ -187,7 +189,8 @@ fn is_on(records: &[u8], base: usize, past: usize, kind: u64, at: u32) -> bool
 // Whether it names such a frame, whose earlier neighbour is `prev`.
 fn is_node(records: &[u8], base: usize, past: usize, kind: u64, prev: u32, at: u32) -> bool
     requires { ⌜ (base ≤ past) × (past ≤ pagesIn (now records)) × (kind < 2 ^ 63) ⌝ }
-    ensures { λ r. ⌜ r ≡ (onKind (recordAt (now (records .entry))) base past kind at && eqb (recordAt (now (records .entry)) (at - 1) .earlier) prev) ⌝ }
+    ensures { λ r. ⌜ r
+        ≡ (onKind (recordAt (now (records .entry))) base past kind at && eqb (recordAt (now (records .entry)) (at - 1) .earlier) prev) ⌝ }
 {
     if is_on(records, base, past, kind, at) {
         return record::earlier(records, at as usize - 1) == prev;
@@ -198,7 +201,8 @@ fn is_node(records: &[u8], base: usize, past: usize, kind: u64, prev: u32, at: u
 // Whether it names such a frame, whose later neighbour is `next`.
 fn is_back_node(records: &[u8], base: usize, past: usize, kind: u64, at: u32, next: u32) -> bool
     requires { ⌜ (base ≤ past) × (past ≤ pagesIn (now records)) × (kind < 2 ^ 63) ⌝ }
-    ensures { λ r. ⌜ r ≡ (onKind (recordAt (now (records .entry))) base past kind at && eqb (recordAt (now (records .entry)) (at - 1) .later) next) ⌝ }
+    ensures { λ r. ⌜ r
+        ≡ (onKind (recordAt (now (records .entry))) base past kind at && eqb (recordAt (now (records .entry)) (at - 1) .later) next) ⌝ }
 {
     if is_on(records, base, past, kind, at) {
         return record::later(records, at as usize - 1) == next;
@@ -206,9 +210,9 @@ fn is_back_node(records: &[u8], base: usize, past: usize, kind: u64, at: u32, ne
     false
 }
 
-// "each list walks front to back in its count, both ways, over unheld frames of its region, level and mark". From both ends at once: where the nodes are
-// scattered, each step waits for memory, and the two chains of steps wait side by side. It comes after the scan: as no page then has a mark bit but those
-// named, marks and level are compared as one number.
+// "each list walks front to back in its count, both ways, over unheld frames of its region, level and mark". From both ends at once: where
+// the nodes are scattered, each step waits for memory, and the two chains of steps wait side by side. It comes after the scan: as no page
+// then has a mark bit but those named, marks and level are compared as one number.
 fn walk(
     records: &[u8],
     base: usize,
@@ -279,7 +283,9 @@ fn level_walks(
     requires { ⌜ (base ≤ past) × (past ≤ pagesIn (now records)) ⌝ }
     requires { ⌜ Marked (recordAt (now records)) base past ⌝ }
     requires { ⌜ InUse (now words) i × (level < 3) ⌝ }
-    ensures { λ r. ⌜ r ≡ (listAt (recordAt (now (records .entry))) base past (rowOf (rowsIn (now (words .entry))) i .lists) (2 * level) && listAt (recordAt (now (records .entry))) base past (rowOf (rowsIn (now (words .entry))) i .lists) (2 * level + 1)) ⌝ }
+    ensures { λ r. ⌜ r
+        ≡ (listAt (recordAt (now (records .entry))) base past (rowOf (rowsIn (now (words .entry))) i .lists) (2 * level)
+        && listAt (recordAt (now (records .entry))) base past (rowOf (rowsIn (now (words .entry))) i .lists) (2 * level + 1)) ⌝ }
 {
     if words::is_bare(words, i, level) {
         return true;
@@ -318,7 +324,8 @@ fn all_walk(records: &[u8], base: usize, past: usize, words: &[u64], i: usize) -
     requires { ⌜ (base ≤ past) × (past ≤ pagesIn (now records)) ⌝ }
     requires { ⌜ Marked (recordAt (now records)) base past ⌝ }
     requires { ⌜ InUse (now words) i ⌝ }
-    ensures { λ r. ⌜ r ≡ all (listAt (recordAt (now (records .entry))) base past (rowOf (rowsIn (now (words .entry))) i .lists)) (range 0 6) ⌝ }
+    ensures { λ r. ⌜ r ≡ all (listAt (recordAt (now (records .entry))) base past (rowOf (rowsIn (now (words .entry))) i .lists))
+        (range 0 6) ⌝ }
 {
     let mut level: usize = 0;
     while level < 3 {
@@ -353,8 +360,9 @@ pub struct Whole {
     pub kernel: usize,
 }
 
-// Whether the heads and lists of the region of the row i are as the sheet says, and if so the pages that it holds without KERNEL and with it. The nodes of lists that walk
-// are unheld heads, each once: that they have as many pages as nobody holds says that "every unheld head is on a list".
+// Whether the heads and lists of the region of the row i are as the sheet says, and if so the pages that it holds without KERNEL and with
+// it. The nodes of lists that walk are unheld heads, each once: that they have as many pages as nobody holds says that "every unheld head
+// is on a list".
 pub fn region_whole(
     records: &[u8],
     from: usize,

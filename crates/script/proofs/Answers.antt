@@ -1,31 +1,32 @@
 -- What a call can answer. The calls of a script but the statistics are refused or done, never answered by a text or by bytes, so three numbers say all of it
--- (`call-line`); the statistics are refused or answered by a text; a boot is accepted exactly where its number is 0.
+-- (`call-line`); the statistics of a sound world are answered by their text; a boot is accepted exactly where its number is 0.
 use Rattle.definition.specs.Basics.{everywhere}
-use Prim.Native.Nat.{ℕ, _≤_}
+use Prim.Native.Nat.{ℕ, _<_}
 use mathlib.Core.Bool.{Bool, true, false, false≢true, cond}
 use mathlib.Core.List.{List}
 use mathlib.Core.Option.{Option, none, some}
 use mathlib.Core.Path.{_≡_, refl, sym, ap, _∙_}
-use native.Mathlib.Omega.{arith}
 use lib.Dec.{eqb}
-use lib.ListN.{length, take, length-take}
+use lib.ListN.{getD, length}
 use Rattle.definition.specs.declared.MemoryRegion.{MemoryRegion}
 use Rattle.definition.specs.declared.Refusal.{Refusal}
 use Rattle.definition.specs.declared.Refusal.the-variants as R
 use Rattle.definition.specs.Board.{Board}
 use Rattle.definition.specs.Boot.{bootSheet}
-use Rattle.definition.specs.Calls.{mine, Call, Answer, Refused, Done, Text, Bytes, Stats, Outcome, hands, findLevel, names, perform, sheet, step, unlessRefused}
-use Rattle.definition.specs.Refusal.{lowest, numberOf}
+use Rattle.definition.specs.Calls.{mine, Call, Answer, Refused, Done, Text, Bytes, Stats, Outcome}
+use Rattle.definition.specs.Calls.{hands, findLevel, names, perform, sheet, step, tells, unlessRefused}
+use Rattle.definition.specs.Refusal.{firstMet, numberOf}
 use Rattle.definition.specs.Script.{answerLine, isAccepted, layoutOf, lineOf}
 use Rattle.definition.specs.Store.{Store}
 use Rattle.definition.specs.Torn.{bootCall, booted, call, sound, written, untouched, unlessRefused as unlessRefusedOn}
-use Rattle.definition.specs.Tracker.{Granted, tryAllocFrame, tryAllocSplitFrames}
+use Rattle.definition.specs.Tracker.{Granted, trackerStats, tryAllocFrame, tryAllocSplitFrames}
 use Rattle.definition.specs.World.{World, decode}
 use Rattle.exam.specs.declared.Answer.{Answer as Told}
 use Rattle.exam.specs.Promise.{told}
-use Rattle.counts.specs.declared.Report.{Report}
-use Rattle.counts.specs.Counting.{textOf}
-use Rattle.door.specs.Tested.{Reports}
+use Rattle.audit.proofs.Sheets.{sound-is}
+use Rattle.world.proofs.Calling.{done-call, none-met}
+use Rattle.world.proofs.Refusing.{nothing-refused}
+use Rattle.world.proofs.RoundTrip.{decode-stands, round-trip}
 use Rattle.lines.specs.declared.Ask.{Ask}
 use Rattle.lines.specs.declared.Ask.the-variants as A
 use Rattle.lines.specs.Reading.{callOf}
@@ -67,8 +68,8 @@ module _ (board : Board) where
   unfolding call step
   called P f c h w =
       let s = decode board w in
-      torn-or P f w (unlessRefused s (lowest (sheet board s (names c))) (perform board s c)) (sound board w)
-      (refused-or P f s (perform board s c) (lowest (sheet board s (names c))) (h s))
+      torn-or P f w (unlessRefused s (firstMet (sheet board s (names c))) (perform board s c)) (sound board w)
+      (refused-or P f s (perform board s c) (firstMet (sheet board s (names c))) (h s))
 
   handed : (l : ℕ) (g : Granted) → byNumbers (hands board l g .answer) ≡ true
   handed l g = go (g .store) (g .page)
@@ -107,7 +108,7 @@ module _ (board : Board) where
 module _ (board : Board) where
   boot-numbers : (ms : List MemoryRegion) (w : World) → byNumbers (bootCall board ms w .answer) ≡ true
   unfolding bootCall
-  boot-numbers ms w = go (lowest (bootSheet board ms (length (w .records)) (length (w .memory))))
+  boot-numbers ms w = go (firstMet (bootSheet board ms (length (w .records)) (length (w .memory))))
     where
       go : (r : Option Refusal) → byNumbers (unlessRefusedOn w r (booted board ms w) .answer) ≡ true
       go none = refl
@@ -149,42 +150,14 @@ accepted a e = accepts a ∙ ap (λ (y : Told). eqb (y .number) 0) e
 
 -- ---- the statistics
 
--- refused, or a text
-abbrev byText : Answer → Bool
-byText (Refused r) = true
-byText (Done a n) = false
-byText (Text t) = true
-byText (Bytes t) = false
-
 module _ (board : Board) where
-  stats-told : (w : World) → byText (call board w Stats .answer) ≡ true
-  unfolding perform mine
-  stats-told w = called board byText (λ r. refl) Stats (λ s. refl) w
-
--- what a report has of an answer: the line of a refusal, or the text, and no more text than its array holds
-pub record Tells (name : List ℕ) (a : Answer) (r : Report) : Type 0 where
-  pub refused : (r .number ≡ 0 → ⊥) → lineOf name (r .number) 0 0 ≡ answerLine name a
-  pub text : r .number ≡ 0 → take (r .len) (r .text) ≡ answerLine name a
-  pub short : r .len ≤ length (r .text)
-
-tells : (name : List ℕ) (r : Report) (a : Answer) → byText a ≡ true → told a ≡ record { number = r .number; address = 0; bytes = r .len }
-    → take (r .len) (r .text) ≡ textOf a → Tells name a r
-tells name r (Refused q) b e t =
-    let n : numberOf q ≡ r .number = ap (λ (y : Told). y .number) e in
-    let l : 0 ≡ r .len = ap (λ (y : Told). y .bytes) e in
-    record {
-      refused = λ h. ap (λ (k : ℕ). lineOf name k 0 0) (sym n);
-      text = λ z. absurd (false≢true (sym (never-zero q) ∙ ap (λ (k : ℕ). eqb k 0) (n ∙ z)));
-      short = omega arith;
-    }
-tells name r (Done a n) b e t = absurd (false≢true b)
-tells name r (Text x) b e t =
-    let n : 0 ≡ r .number = ap (λ (y : Told). y .number) e in
-    let l : length x ≡ r .len = ap (λ (y : Told). y .bytes) e in
-    let k : length (take (r .len) (r .text)) ≡ length x = ap length t in
-    record { refused = λ h. absurd (h (sym n)); text = λ z. t; short = omega (arith, simp length-take at k) }
-tells name r (Bytes x) b e t = absurd (false≢true b)
-
-module _ (board : Board) where
-  pub stats-tells : (name : List ℕ) (w : World) (r : Report) → Reports board w r → Tells name (call board w Stats .answer) r
-  stats-tells name w r R = tells name r (call board w Stats .answer) (stats-told board w) (R .answer) (R .text)
+  -- on a sound world they are told, and change nothing
+  pub stats-call
+      : (w : World) → sound board w ≡ true → ((i : ℕ) → getD (w .records) i 0 < 256)
+      → call board w Stats ≡ record { world = w; answer = Text (trackerStats (w .counters)) }
+  unfolding perform
+  stats-call w t small =
+      let S = sound-is board w t in
+      done-call board w Stats t (tells (decode board w) (Text (trackerStats (w .counters)))) w
+      (none-met _ (nothing-refused board (decode board w)))
+      (rw (decode-stands w S .counters) refl) (round-trip w S small)

@@ -1,5 +1,6 @@
--- The loop over a script: what is written so far, with the text that the lines left will print, is the whole output, and what is kept stands for the run up to
--- here (`Going`). It holds behind the header, each line carries it on, and behind the last line it says what the script leaves.
+-- The loop over a script: what is written so far, with the text that the lines left will print, is the whole output, and what is
+-- kept stands for the run up to here, whose world is sound from an accepted boot on (`Going`). It holds behind the header, each line
+-- carries it on, and behind the last line it says what the script leaves.
 use Prim.Native.Nat.{ℕ, suc, _+_, _-_, _*_, _≤_, _<_}
 use mathlib.Core.List.{List, [], _++_, append-assoc, append-nil}
 use mathlib.Core.Path.{_≡_, refl, sym, ap, _∙_}
@@ -11,6 +12,7 @@ use Rattle.definition.specs.Board.{Board}
 use Rattle.definition.specs.Script.{RunningOn, TurnOn, header, lineOn, lines, linesOn, partsBy, readLine, room, runOn, startedOn, worldAfter}
 use Rattle.definition.specs.Text.{bytesOf}
 use Rattle.definition.specs.World.{World}
+use Rattle.words.specs.Words.{stateWords}
 use Rattle.exam.specs.Promise.{stateWith}
 use Rattle.lines.specs.Reading.{NextLine}
 use Rattle.text.specs.Writing.{Wrote}
@@ -32,6 +34,7 @@ use Rattle.script.specs.Running.{
   unbooted,
   worldBy,
 }
+use Rattle.script.proofs.Reaching.{ReachedIn, line-reached, started-reached}
 use Rattle.script.proofs.Writing.{wrote-drop, wrote-long, wrote-take}
 
 -- ---- lines
@@ -63,7 +66,7 @@ module _ (board : Board) where
   pub record Going
       (script : List ℕ) (l₀ : Loans) (out₀ : List ℕ) (w₀ : ℕ) (ws : List ℕ) (l : Loans) (out : List ℕ) (w : ℕ) (r : Running) (at : ℕ)
       : Type 0 where
-    pub words : length ws ≡ 92
+    pub words : length ws ≡ stateWords
     pub loans : Same l₀ l
     pub within : at ≤ length script
     pub few : r .count ≤ at
@@ -72,14 +75,15 @@ module _ (board : Board) where
     pub space : w + 512 * length (lines (drop at script)) ≤ length out
     pub run : RunningOn
     pub stands : Stands (runningWith r ws) l run
+    pub reached : ReachedIn board run
     pub text : take w out ++ onwards board run script at .text ≡ header ++ runOn board (worldBy unbooted l₀) script .text
     pub ends : onwards board run script at .running ≡ runOn board (worldBy unbooted l₀) script .running
     pub rest : (n : ℕ) → w ≤ n → n ≤ length out → drop n out ≡ drop n out₀
 
 module _ {board : Board} where
   -- behind the header
-  pub going : {script ws : List ℕ} {l : Loans} {out out₀ : List ℕ} {w : ℕ} {r : Running} → ws ≡ replicate 92 0 → Wrote out 0 header out₀ w
-      → room script ≤ length out → Fresh (runningWith r (replicate 92 0))
+  pub going : {script ws : List ℕ} {l : Loans} {out out₀ : List ℕ} {w : ℕ} {r : Running} → ws ≡ replicate stateWords 0 → Wrote out 0 header out₀ w
+      → room script ≤ length out → Fresh (runningWith r (replicate stateWords 0))
       → Going board script l out₀ w ws l out₀ w r 0
   unfolding bytesOf
   going {script} {ws} {l} {out} {out₀} {w} {r} z f h F =
@@ -100,11 +104,13 @@ module _ {board : Board} where
           long = sym (F .count);
           front = rw (F .count) refl;
         };
+        reached = started-reached (worldBy unbooted l);
         text = ap (λ (t : List ℕ). t ++ runOn board (worldBy unbooted l) script .text) (wrote-take f (omega arith));
         ends = refl;
         rest = λ k u v. refl;
       }
 
+module _ {board : Board} (fit : Fit board) where
   -- over one line
   pub going-on : {script ws vs : List ℕ} {l₀ l l′ : Loans} {out₀ out out′ : List ℕ} {w₀ w at end next : ℕ} {r : Running} (t : Turn)
       → Going board script l₀ out₀ w₀ ws l out w r at → NextLine script at end next
@@ -134,6 +140,7 @@ module _ {board : Board} where
         space = omega (arith, g .space, b .0);
         run = o .running;
         stands = T .stands;
+        reached = line-reached fit x (g .reached) (readLine (take (end - at) (drop at script)));
         text =
             ap (λ (u : List ℕ). u ++ onwards board (o .running) script next .text) (wrote-take (T .wrote) inside)
             ∙ append-assoc (take w out) (o .text) (onwards board (o .running) script next .text)
@@ -143,7 +150,6 @@ module _ {board : Board} where
         rest = λ i u v. wrote-drop (T .wrote) inside i u (omega arith) ∙ g .rest i (omega (arith, T .wrote .after)) (omega arith);
       }
 
-module _ {board : Board} (fit : Fit board) where
   -- behind the last line, over a slice that the header was written to first
   pub gone : {script ws : List ℕ} {l₀ l : Loans} {first out₀ out : List ℕ} {w₀ w at : ℕ} {r : Running} → Wrote first 0 header out₀ w₀
       → room script ≤ length first → length script ≤ at → Going board script l₀ out₀ w₀ ws l out w r at → RanAll board script l₀ first l out w

@@ -1,4 +1,5 @@
 pub mod Answers
 pub mod Writing
+pub mod Reaching
 pub mod Turning
 pub mod Going

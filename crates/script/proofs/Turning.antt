@@ -12,13 +12,15 @@ use lib.ListN.{length, take, set, length-append}
 use lib.Seq.{take-all, take-append-le, take-suc-set}
 use Rattle.definition.specs.declared.MemoryRegion.{MemoryRegion}
 use Rattle.definition.specs.Board.{Board}
-use Rattle.definition.specs.Calls.{Call, Stats}
+use Rattle.definition.specs.Calls.{Call, Stats, Text}
 use Rattle.definition.specs.Script.{AddRegion, BootNow, Ask, Asked, Command, RunningOn, answerLine, badLine, commandOn, lineOf, lineOn}
-use Rattle.definition.specs.Torn.{bootCall, call}
+use Rattle.definition.specs.Text.{bytesOf}
+use Rattle.definition.specs.Torn.{Left, bootCall, call}
+use Rattle.definition.specs.Tracker.{trackerStats}
 use Rattle.definition.specs.World.{World}
 use Rattle.boot.specs.Booting.{Boots, BootsAll}
 use Rattle.counts.specs.declared.Report.{Report}
-use Rattle.door.specs.Tested.{Reports}
+use Rattle.counts.specs.Counting.{Reports}
 use Rattle.exam.specs.declared.Answer.{Answer}
 use Rattle.exam.specs.Promise.{State, Leaves}
 use Rattle.lines.specs.declared.Ask.{Ask as Op}
@@ -27,8 +29,9 @@ use Rattle.lines.specs.declared.Op.{Op as OpOf}
 use Rattle.lines.specs.Reading.{Reads, asksIf, callOf, commandOf, nameOf, numbersOf}
 use Rattle.text.specs.Writing.{Wrote}
 use Rattle.text.proofs.Writing.{wrote-as}
-use Rattle.script.specs.Running.{Running, Turn, Bad, Does, Enters, Loans, Stands, Turned, Turns, worldBy}
-use Rattle.script.proofs.Answers.{accepted, boot-line, call-line, stats-tells}
+use Rattle.script.specs.declared.Running.{Running as RunningOf}
+use Rattle.script.specs.Running.{Running, Turn, Bad, Does, Enters, Loans, Stands, TellsAny, Turned, Turns, runningWith, worldBy}
+use Rattle.script.proofs.Answers.{accepted, boot-line, call-line, stats-call}
 use Rattle.script.proofs.Writing.{wrote-nothing}
 
 module _ (board : Board) where
@@ -121,21 +124,16 @@ module _ (board : Board) where
 
 module _ (board : Board) where
   -- the statistics leave all as it is
-  module _
-      {r : Running} {l : Loans} {out out′ : List ℕ} {at n : ℕ} (name : List ℕ) {p : Report} (late : r .booted ≡ true)
-      (R : Reports board (worldBy (r .state) l) p)
-    where
-      told-stats : {t : List ℕ} → t ≡ answerLine name (call board (worldBy (r .state) l) Stats .answer) → Wrote out at t out′ n
-          → Does board (Ask Stats) name r l out at l out′ (record { running = r; at = n })
-      told-stats e w = turned-as board name Stats (r .booted) (sym late) late (R .world) (wrote-as e w)
-
-      pub turned-refused : (p .number ≡ 0 → ⊥) → Wrote out at (lineOf name (p .number) 0 0) out′ n
-          → Does board (Ask Stats) name r l out at l out′ (record { running = r; at = n })
-      turned-refused h = told-stats (stats-tells board name (worldBy (r .state) l) p R .refused h)
-
-      pub turned-stats : p .number ≡ 0 → Wrote out at (take (p .len) (p .text)) out′ n
-          → Does board (Ask Stats) name r l out at l out′ (record { running = r; at = n })
-      turned-stats h = told-stats (stats-tells board name (worldBy (r .state) l) p R .text h)
+  pub turned-stats : {k : RunningOf} {out out′ : List ℕ} {at n : ℕ} {p : Report} → k .booted ≡ true → Reports (k .counters) p
+      → Wrote out at (take (p .len) (p .text)) out′ n → TellsAny board k out at out′ (record { running = k; at = n })
+  turned-stats {k} late R w ws l sure small =
+      let r : Running = runningWith k ws in
+      let v : World = worldBy (r .state) l in
+      let e : call board v Stats ≡ record { world = v; answer = Text (trackerStats (k .counters)) } =
+      stats-call board v (sure late) small
+      in
+      turned-as board {r = r} {l = l} (bytesOf "stats") Stats (k .booted) (sym late) late (ap (λ (x : Left). x .world) e)
+      (wrote-as (R .text ∙ sym (ap (λ (x : Left). answerLine (bytesOf "stats") (x .answer)) e)) w)
 
 -- ---- the line
 

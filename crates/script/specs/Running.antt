@@ -1,15 +1,18 @@
 -- What the run of a script keeps between lines, and what it promises: `Stands`, that this is definition's `RunningOn`; `Turns`, of one line; `Ran`, of a whole
--- script: the bytes that it writes and all that it leaves in the loans.
+-- script: the bytes that it writes and all that it leaves in the loans. `Sure` is what a line asks for: from an accepted boot on, the
+-- loans are sound.
 use Prim.Native.Nat.{ℕ, _+_, _≤_, _<_}
-use mathlib.Core.Bool.{Bool, false}
+use mathlib.Core.Bool.{Bool, true, false}
 use mathlib.Core.List.{List, [], _∷_, _++_}
 use mathlib.Core.Path.{_≡_}
-use lib.ListN.{length, take, drop, replicate}
+use lib.ListN.{getD, length, take, drop, replicate}
 use Rattle.definition.specs.declared.MemoryRegion.{MemoryRegion}
 use Rattle.definition.specs.Board.{Board, standard}
 use Rattle.definition.specs.Boot.{countersAtBoot}
+use Rattle.definition.specs.Calls.{Stats}
 use Rattle.definition.specs.Script.{
   AddRegion,
+  Ask,
   Command,
   RunningOn,
   TurnOn,
@@ -23,6 +26,7 @@ use Rattle.definition.specs.Script.{
   worldAfter,
 }
 use Rattle.definition.specs.Text.{bytesOf}
+use Rattle.definition.specs.Torn.{sound}
 use Rattle.definition.specs.World.{World, noRow}
 use Rattle.exam.specs.Promise.{State, stateWith, worldOf}
 use Rattle.text.specs.Writing.{Wrote}
@@ -127,6 +131,16 @@ module _ (board : Board) where
 
   abbrev pub AddsAny : RunningOf → (ℕ → ℕ) → List ℕ → ℕ → List ℕ → TurnOf → Type 0
   AddsAny r n out at out′ t = (ws : List ℕ) → Adds (runningWith r ws) n out at out′ (turnWith t ws)
+
+  -- from an accepted boot on, what is kept and the loans pass the torn sheet
+  abbrev pub Sure : Running → Loans → Type 0
+  Sure r l = r .booted ≡ true → sound board (worldBy (r .state) l) ≡ true
+
+  -- the statistics, for any words and loans that are sure, whose records are bytes
+  abbrev pub TellsAny : RunningOf → List ℕ → ℕ → List ℕ → TurnOf → Type 0
+  TellsAny r out at out′ t =
+      (ws : List ℕ) (l : Loans) → Sure (runningWith r ws) l → ((i : ℕ) → getD (l .records) i 0 < 256)
+      → Does (Ask Stats) (bytesOf "stats") (runningWith r ws) l out at l out′ (turnWith t ws)
 
   abbrev pub Turns : Running → Loans → (line out : List ℕ) → ℕ → Loans → List ℕ → Turn → Type 0
   Turns r l line out at l′ out′ t = (x : RunningOn) → Stands r l x → Turned (lineOn board x (readLine line)) out at l′ out′ t

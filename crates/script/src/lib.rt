@@ -1,5 +1,5 @@
-// The run of a script: each line is read, done and answered, and the answers follow one another (01, "The script program"). `jilakkor_run` is exported for C and
-// Rust, and the program `jilakkor` calls it.
+// The run of a script: each line is read, done and answered, and the answers follow one another (01, "The script program"). `jilakkor_run`
+// is exported for C and Rust, and the program `jilakkor` calls it.
 use address::PhysAddr;
 use definition::Counters;
 use definition::MemoryRegion;
@@ -7,14 +7,32 @@ use definition::MemoryRegionKind;
 use exam::Answer;
 use lines::Ask;
 use lines::Op;
+ghost use mathlib.Core.Bool.{true};
 ghost use mathlib.Core.Path.{_≡_};
 ghost use Prim.Native.Nat.{_+_, _≤_, _<_, _^_};
 ghost use lib.ListN.{length, getD, replicate};
-ghost use Rattle.definition.specs.Calls.{Stats};
 ghost use Rattle.definition.specs.Script.{BootNow, Ask as Asks, lineOf, room};
+ghost use Rattle.exam.specs.Making.{Few};
+ghost use Rattle.words.specs.Words.{Long, stateWords};
 ghost use Rattle.text.specs.Writing.{Wrote};
 ghost use Rattle.lines.specs.Reading.{askName, nameOf, callOf};
-ghost use Rattle.script.specs.Running.{programBoard, Names, Fresh, Bounded, BadAny, Enters, AddsAny, Does, Turns, RanAll, Ran, runningWith, turnWith};
+ghost use Rattle.script.specs.Running.{
+  programBoard,
+  Names,
+  Fresh,
+  Bounded,
+  BadAny,
+  Enters,
+  AddsAny,
+  TellsAny,
+  Does,
+  Sure,
+  Turns,
+  RanAll,
+  Ran,
+  runningWith,
+  turnWith,
+};
 
 // ---- what is printed
 
@@ -66,7 +84,8 @@ fn put_op(out: &mut [u8], at: usize, op: Op) -> usize
     text::put_text(out, at, &bytes[..len])
 }
 
-// "op, 0, address, bytes", or the refusal's number in place of 0: a name of at most 6 bytes, three numbers of at most 20 digits, and four marks.
+// "op, 0, address, bytes", or the refusal's number in place of 0: a name of at most 6 bytes, three numbers of at most 20 digits, and four
+// marks.
 fn put_line(out: &mut [u8], at: usize, op: Op, y: Answer) -> usize
     requires { ⌜ at + 70 ≤ length (now out) ⌝ }
     ensures { λ r. ⌜ Wrote (now (out .entry)) at (lineOf (nameOf op) (y .number) (y .address) (y .bytes)) (now (out .exit)) r ⌝ }
@@ -81,8 +100,8 @@ fn put_line(out: &mut [u8], at: usize, op: Op, y: Answer) -> usize
 
 // ---- what is kept
 
-// What is kept from line to line beside the loans and the words: the first eight entries of the map and how many were read, whether a boot was accepted, and the
-// store's counters.
+// What is kept from line to line beside the loans and the words: the first eight entries of the map and how many were read, whether a boot
+// was accepted, and the store's counters.
 pub struct Running {
     pub map: [MemoryRegion; 8],
     pub count: usize,
@@ -98,7 +117,7 @@ pub struct Turn {
 
 // What is kept before the first line, where the words are zeros.
 fn fresh() -> Running
-    ensures { λ r. ⌜ Fresh (runningWith r (replicate 92 0)) ⌝ }
+    ensures { λ r. ⌜ Fresh (runningWith r (replicate stateWords 0)) ⌝ }
 {
     let unused = MemoryRegion {
         start: PhysAddr(0),
@@ -173,9 +192,12 @@ fn boot_now(
     answer: &mut [u8],
     at: usize,
 ) -> Turn
-    requires { ⌜ 92 ≤ length (now words) ⌝ }
+    requires { ⌜ Long (now words) ⌝ }
     requires { ⌜ at + 512 ≤ length (now answer) ⌝ }
-    ensures { λ r. ⌜ Does programBoard BootNow (nameOf (Op.Boot)) (runningWith running (now (words .entry))) (record { records = now (records .entry); memory = now (memory .entry); queue = now (queue .entry) }) (now (answer .entry)) at (record { records = now (records .exit); memory = now (memory .entry); queue = now (queue .entry) }) (now (answer .exit)) (turnWith r (now (words .exit))) ⌝ }
+    ensures { λ r. ⌜ Does programBoard BootNow (nameOf (Op.Boot)) (runningWith running (now (words .entry)))
+        (record { records = now (records .entry); memory = now (memory .entry); queue = now (queue .entry) }) (now (answer .entry)) at
+        (record { records = now (records .exit); memory = now (memory .entry); queue = now (queue .entry) }) (now (answer .exit))
+        (turnWith r (now (words .exit))) ⌝ }
     ensures { λ r. ⌜ Bounded running at r ⌝ }
 {
     if running.booted {
@@ -207,34 +229,23 @@ fn boot_now(
 }
 
 // The statistics answer by a text, of at most 368 bytes.
-fn stats_now(
-    running: Running,
-    words: &[u64],
-    records: &[u8],
-    memory: &[u8],
-    queue: &[u64],
-    answer: &mut [u8],
-    at: usize,
-) -> Turn
-    requires { ⌜ 92 ≤ length (now words) ⌝ }
+fn stats_now(running: Running, answer: &mut [u8], at: usize) -> Turn
+    requires { ⌜ (running .booted ≡ true → Few (running .counters)) ⌝ }
     requires { ⌜ at + 512 ≤ length (now answer) ⌝ }
-    ensures { λ r. ⌜ Does programBoard (Asks Stats) (nameOf (Op.Stats)) (runningWith running (now (words .entry))) (record { records = now (records .entry); memory = now (memory .entry); queue = now (queue .entry) }) (now (answer .entry)) at (record { records = now (records .entry); memory = now (memory .entry); queue = now (queue .entry) }) (now (answer .exit)) (turnWith r (now (words .entry))) ⌝ }
+    ensures { λ r. ⌜ TellsAny programBoard running (now (answer .entry)) at (now (answer .exit)) r ⌝ }
     ensures { λ r. ⌜ Bounded running at r ⌝ }
 {
     if !running.booted {
         return bad(running, answer, at);
     }
-    let report = door::stats(running.counters, words, records, memory, queue);
-    if report.number != 0 {
-        let at = put_line(answer, at, Op::Stats, exam::refused(report.number));
-        return Turn { running, at };
-    }
+    let report = counts::stats(running.counters);
     let text = report.text;
     let len = report.len;
     let at = text::put_text(answer, at, &text[..len]);
     Turn { running, at }
 }
 
+// A call tests nothing of the loans: they are the run's own, and are sound from the accepted boot on.
 fn call_now(
     running: Running,
     op: Ask,
@@ -246,15 +257,20 @@ fn call_now(
     answer: &mut [u8],
     at: usize,
 ) -> Turn
-    requires { ⌜ 92 ≤ length (now words) ⌝ }
+    requires { ⌜ Long (now words) ⌝ }
+    requires { ⌜ Sure programBoard (runningWith running (now words))
+        (record { records = now records; memory = now memory; queue = now queue }) ⌝ }
     requires { ⌜ at + 512 ≤ length (now answer) ⌝ }
-    ensures { λ r. ⌜ Does programBoard (Asks (callOf op (λ i. getD n i 0))) (askName op) (runningWith running (now (words .entry))) (record { records = now (records .entry); memory = now (memory .entry); queue = now (queue .entry) }) (now (answer .entry)) at (record { records = now (records .exit); memory = now (memory .exit); queue = now (queue .exit) }) (now (answer .exit)) (turnWith r (now (words .exit))) ⌝ }
+    ensures { λ r. ⌜ Does programBoard (Asks (callOf op (λ i. getD n i 0))) (askName op) (runningWith running (now (words .entry)))
+        (record { records = now (records .entry); memory = now (memory .entry); queue = now (queue .entry) }) (now (answer .entry)) at
+        (record { records = now (records .exit); memory = now (memory .exit); queue = now (queue .exit) }) (now (answer .exit))
+        (turnWith r (now (words .exit))) ⌝ }
     ensures { λ r. ⌜ Bounded running at r ⌝ }
 {
     if !running.booted {
         return bad(running, answer, at);
     }
-    let o = door::ask(running.counters, words, records, memory, queue, op, n);
+    let o = calls::make(running.counters, words, records, memory, queue, op, n);
     let y = o.answer;
     let at = put_line(answer, at, Op::Call(op), y);
     let map = running.map;
@@ -279,9 +295,14 @@ fn take_turn(
     answer: &mut [u8],
     at: usize,
 ) -> Turn
-    requires { ⌜ 92 ≤ length (now words) ⌝ }
+    requires { ⌜ Long (now words) ⌝ }
+    requires { ⌜ Sure programBoard (runningWith running (now words))
+        (record { records = now records; memory = now memory; queue = now queue }) ⌝ }
     requires { ⌜ (at + 512 ≤ length (now answer)) × (running .count + 1 < 2 ^ 64) ⌝ }
-    ensures { λ r. ⌜ Turns programBoard (runningWith running (now (words .entry))) (record { records = now (records .entry); memory = now (memory .entry); queue = now (queue .entry) }) (now (line .entry)) (now (answer .entry)) at (record { records = now (records .exit); memory = now (memory .exit); queue = now (queue .exit) }) (now (answer .exit)) (turnWith r (now (words .exit))) ⌝ }
+    ensures { λ r. ⌜ Turns programBoard (runningWith running (now (words .entry)))
+        (record { records = now (records .entry); memory = now (memory .entry); queue = now (queue .entry) }) (now (line .entry))
+        (now (answer .entry)) at (record { records = now (records .exit); memory = now (memory .exit); queue = now (queue .exit) })
+        (now (answer .exit)) (turnWith r (now (words .exit))) ⌝ }
     ensures { λ r. ⌜ Bounded running at r ⌝ }
 {
     let read = lines::read_line(line);
@@ -291,7 +312,7 @@ fn take_turn(
         Op::Bad => bad(running, answer, at),
         Op::Region => region(running, n, answer, at),
         Op::Boot => boot_now(running, words, records, memory, queue, answer, at),
-        Op::Stats => stats_now(running, words, records, memory, queue, answer, at),
+        Op::Stats => stats_now(running, answer, at),
         Op::Call(a) => call_now(running, a, n, words, records, memory, queue, answer, at),
     }
 }
@@ -305,9 +326,11 @@ fn run_all(
     queue: &mut [u64],
     answer: &mut [u8],
 ) -> usize
-    requires { ⌜ now words ≡ replicate 92 0 ⌝ }
+    requires { ⌜ now words ≡ replicate stateWords 0 ⌝ }
     requires { ⌜ room (now script) ≤ length (now answer) ⌝ }
-    ensures { λ r. ⌜ RanAll programBoard (now (script .entry)) (record { records = now (records .entry); memory = now (memory .entry); queue = now (queue .entry) }) (now (answer .entry)) (record { records = now (records .exit); memory = now (memory .exit); queue = now (queue .exit) }) (now (answer .exit)) r ⌝ }
+    ensures { λ r. ⌜ RanAll programBoard (now (script .entry))
+        (record { records = now (records .entry); memory = now (memory .entry); queue = now (queue .entry) }) (now (answer .entry))
+        (record { records = now (records .exit); memory = now (memory .exit); queue = now (queue .exit) }) (now (answer .exit)) r ⌝ }
 {
     let mut w = text::put_text(answer, 0, b"op,refusal,address,bytes\n");
     let mut running = fresh();
@@ -332,7 +355,8 @@ fn run_all(
     w
 }
 
-// The whole script. Returns the bytes written; 0 with nothing written and nothing run where the answer slice is under 512 bytes for each line plus 512.
+// The whole script. Returns the bytes written; 0 with nothing written and nothing run where the answer slice is under 512 bytes for each
+// line plus 512.
 #[no_mangle]
 pub extern "C" fn jilakkor_run(
     script: &[u8],
@@ -341,7 +365,9 @@ pub extern "C" fn jilakkor_run(
     queue: &mut [u64],
     answer: &mut [u8],
 ) -> usize
-    ensures { λ r. ⌜ Ran programBoard (now (script .entry)) (record { records = now (records .entry); memory = now (memory .entry); queue = now (queue .entry) }) (now (answer .entry)) (record { records = now (records .exit); memory = now (memory .exit); queue = now (queue .exit) }) (now (answer .exit)) r ⌝ }
+    ensures { λ r. ⌜ Ran programBoard (now (script .entry))
+        (record { records = now (records .entry); memory = now (memory .entry); queue = now (queue .entry) }) (now (answer .entry))
+        (record { records = now (records .exit); memory = now (memory .exit); queue = now (queue .exit) }) (now (answer .exit)) r ⌝ }
 {
     if answer.len() < 512 {
         return 0;
@@ -349,6 +375,6 @@ pub extern "C" fn jilakkor_run(
     if (answer.len() - 512) / 512 < lines::count_lines(script) {
         return 0;
     }
-    let mut words = [0u64; 92];
+    let mut words = [0u64; words::STATE_WORDS];
     run_all(script, &mut words, records, memory, queue, answer)
 }

@@ -31,12 +31,11 @@ use Rattle.service.specs.Serving.{
   countedBy,
   tells,
   isLent,
-  isLentKept,
   worldIn,
   worldWith,
   stateOver,
 }
-use Rattle.service.proofs.Serving.{kept-same, lent-kept, lent-long, serves-torn, serves-with-torn}
+use Rattle.service.proofs.Serving.{kept-same, lent-words, serves-torn, serves-with-torn}
 
 -- ---- the world
 
@@ -74,7 +73,7 @@ module _ (c : Call) (l : Lent) where
   unfolding served
   serves-made e = rw e refl
 
-  serves-with-made : (k : Counters) → isLentKept l ≡ true → servedWith c k l ≡ countedBy l (call (boardIn (l .words)) (worldWith k l) c)
+  serves-with-made : (k : Counters) → isLent l ≡ true → servedWith c k l ≡ countedBy l (call (boardIn (l .words)) (worldWith k l) c)
   unfolding servedWith
   serves-with-made k e = rw e refl
 
@@ -93,15 +92,15 @@ module _ (c : Call) (l : Lent) (small : (i : ℕ) → getD (l .records) i 0 < 25
           ∙ rw (
             call-untouched (boardIn (l .words)) (worldIn l) c small n,
             tells-none (told (call (boardIn (l .words)) (worldIn l) c .answer)) (l .answer) n,
-            kept-same l (lent-kept l e) (worldIn l .counters),
-            counters-again (l .words) (lent-long l e),
+            kept-same l e (worldIn l .counters),
+            counters-again (l .words) (lent-words l e),
           ) refl
 
   -- the same where the counters are a record of their own, and they stay too
   pub refused-untouched-with : (k : Counters) → (servedWith c k l .served .number ≡ 0 → ⊥) → (servedWith c k l .counters ≡ k) × (servedWith c k l .served .lent ≡ l)
-  refused-untouched-with k d = go (isLentKept l) refl
+  refused-untouched-with k d = go (isLent l) refl
     where
-      go : (t : Bool) → isLentKept l ≡ t → (servedWith c k l .counters ≡ k) × (servedWith c k l .served .lent ≡ l)
+      go : (t : Bool) → isLent l ≡ t → (servedWith c k l .counters ≡ k) × (servedWith c k l .served .lent ≡ l)
       go false e = rw (serves-with-torn c l k e) (refl, refl)
       go true e =
           let m = serves-with-made c l k e in

@@ -14,13 +14,13 @@ use Rattle.definition.specs.declared.Refusal.{Refusal}
 use Rattle.definition.specs.declared.Refusal.the-variants.{Torn}
 use Rattle.definition.specs.Board.{Board, standard}
 use Rattle.definition.specs.Boot.{bootSheet}
-use Rattle.definition.specs.Refusal.{lowest}
+use Rattle.definition.specs.Refusal.{firstMet}
 use Rattle.definition.specs.Calls.{Answer as AnswerOf, Call, Read, Refused, Done, Text, Bytes, Stats, answerNumber, names, perform, sheet, step, unlessRefused}
 use Rattle.definition.specs.World.{World, decode}
 use Rattle.definition.specs.Torn.{bootCall, booted as bootedWorld, call, sound, untouched, unlessRefused as unlessBootRefused, written as writtenWorld}
 use Rattle.definition.proofs.Tests.{and-left, and-right}
 use Rattle.record.specs.Records.{withBytes}
-use Rattle.words.specs.Words.{boardIn, Beside, wordIn, isKept, countersIn, counterWords}
+use Rattle.words.specs.Words.{boardIn, Long, stateWords, countersAt, Beside, wordIn, isKept, countersIn, counterWords}
 use Rattle.words.proofs.Words.{beside-same, kept-again, kept-from, counters-again}
 use Rattle.world.specs.Refusals.{numberIf}
 use Rattle.exam.specs.declared.Answer.{Answer}
@@ -51,9 +51,7 @@ use Rattle.service.specs.Serving.{
   written,
   tells,
   isLent,
-  isLentKept,
   isRoomy,
-  isRoomyKept,
   hasRoom,
   shortNumber,
   worldIn,
@@ -65,11 +63,11 @@ use Rattle.service.specs.Serving.{
 
 -- ---- the tests of the loans
 
-pub kept-long : (ws : List ℕ) → isKept ws ≡ true → 92 ≤ length ws
-kept-long ws e = leb-true 92 (length ws) (and-left (leb 92 (length ws)) _ e)
+pub kept-long : (ws : List ℕ) → isKept ws ≡ true → Long ws
+kept-long ws e = leb-true stateWords (length ws) (and-left (leb stateWords (length ws)) _ e)
 
-module _ (l : Lent) (e : isLentKept l ≡ true) where
-  pub lent-words : 92 ≤ length (l .words)
+module _ (l : Lent) (e : isLent l ≡ true) where
+  pub lent-words : Long (l .words)
   lent-words = kept-long (l .words) (and-left (isKept (l .words)) (hasRoom l) e)
 
   pub lent-room : 2 ≤ length (l .answer)
@@ -79,13 +77,6 @@ module _ (l : Lent) (e : isLentKept l ≡ true) where
   pub kept-same : (k : Counters) → keptOver (worldWith k l) (l .words) ≡ l .words
   kept-same k = kept-again (l .words) lent-words
 
-module _ (l : Lent) (e : isLent l ≡ true) where
-  pub lent-long : 101 ≤ length (l .words)
-  lent-long = leb-true 101 (length (l .words)) (and-left _ _ e)
-
-  pub lent-kept : isLentKept l ≡ true
-  lent-kept = and-right (leb 101 (length (l .words))) (isLentKept l) e
-
 -- ---- a call that is refused for its loans
 
 module _ (c : Call) (l : Lent) where
@@ -93,7 +84,7 @@ module _ (c : Call) (l : Lent) where
   unfolding served
   serves-torn e = rw e refl
 
-  pub serves-with-torn : (k : Counters) → isLentKept l ≡ false → ServesWith c k l k l 6
+  pub serves-with-torn : (k : Counters) → isLent l ≡ false → ServesWith c k l k l 6
   unfolding servedWith
   serves-with-torn k e = rw e refl
 
@@ -101,7 +92,7 @@ module _ (c : Call) (l : Lent) where
 
 module _ {c : Call} (l : Lent) (k : Counters) {k′ : Counters} {words records memory queue : List ℕ} {y : Answer}
     (L : Leaves (boardIn (l .words)) (worldWith k l) c (worldOf (stateWith k′ words) records memory queue) y)
-    {answer : List ℕ} {r : ℕ} (told-answer : answer ≡ tells y (l .answer)) (told-number : r ≡ y .number) (e : isLentKept l ≡ true) where
+    {answer : List ℕ} {r : ℕ} (told-answer : answer ≡ tells y (l .answer)) (told-number : r ≡ y .number) (e : isLent l ≡ true) where
   pub serves-with : length words ≡ length (l .words) → Beside (l .words) words
       → ServesWith c k l k′ (record { words = words; records = records; memory = memory; queue = queue; answer = answer }) r
   unfolding servedWith
@@ -115,7 +106,7 @@ wordsFrom x =
     record {
       lent =
           record {
-            words = withBytes (x .served .lent .words) 92 (counterWords (x .counters));
+            words = withBytes (x .served .lent .words) countersAt (counterWords (x .counters));
             records = x .served .lent .records;
             memory = x .served .lent .memory;
             queue = x .served .lent .queue;
@@ -131,7 +122,7 @@ besides l records memory queue answer = record { words = l .words; records = rec
 module _ (c : Call) (l : Lent) (e : isLent l ≡ true) where
   pub in-words : served c l ≡ wordsFrom (servedWith c (countersIn (l .words)) l)
   unfolding served servedWith
-  in-words = rw (e, lent-kept l e) refl
+  in-words = rw e refl
 
   -- where the counters that it leaves are written over the words that it leaves
   pub made-in-words : {k′ : Counters} {l′ : Lent} {r : ℕ} → ServesWith c (countersIn (l .words)) l k′ l′ r
@@ -142,7 +133,7 @@ module _ (c : Call) (l : Lent) (e : isLent l ≡ true) where
   pub kept-in-words : {records memory queue answer : List ℕ} {r : ℕ}
       → ServesWith c (countersIn (l .words)) l (countersIn (l .words)) (besides l records memory queue answer) r
       → Serves c l (besides l records memory queue answer) r
-  kept-in-words S = made-in-words S ∙ rw (counters-again (l .words) (lent-long l e)) refl
+  kept-in-words S = made-in-words S ∙ rw (counters-again (l .words) (lent-words l e)) refl
 
 -- ---- a read
 
@@ -171,7 +162,7 @@ module _ (a off len : ℕ) (l : Lent) where
         bytes = λ z. absurd (omega arith);
       }
 
-  module _ (k : Counters) {p : Place} (F : Finds (boardIn (l .words)) (worldWith k l) (Read a off len) len p) (e : isLentKept l ≡ true)
+  module _ (k : Counters) {p : Place} (F : Finds (boardIn (l .words)) (worldWith k l) (Read a off len) len p) (e : isLent l ≡ true)
       {answer : List ℕ} {r : ℕ} (told-answer : answer ≡ tells (record { number = p .number; address = p .at; bytes = len }) (l .answer)) (number : r ≡ p .number) where
     read-number : r ≡ servedWith (Read a off len) k l .served .number
     unfolding servedWith
@@ -213,7 +204,7 @@ stats-or b w true none = refl
 -- they answer a text, or a refusal and none
 stats-bytes : (b : Board) (w : World) → told (call b w Stats .answer) .bytes ≡ length (textOf (call b w Stats .answer))
 unfolding call step
-stats-bytes b w = stats-or b w (sound b w) (lowest (sheet b (decode b w) (names Stats)))
+stats-bytes b w = stats-or b w (sound b w) (firstMet (sheet b (decode b w) (names Stats)))
 
 -- no more text than the report's array holds
 pub report-short : {b : Board} {w : World} {p : Report} → ReportsOf b w p → p .len ≤ length (p .text)
@@ -235,7 +226,7 @@ module _ {b : Board} {O : Type 0} (fit : Bool) (w : World) {made refused : O} (t
 module _ (l : Lent) (text : List ℕ) where
   pub reports : (k : Counters) {p : Report} → ReportsOf (boardIn (l .words)) (worldWith k l) p
       → {answer text′ : List ℕ} {r : ℕ} → answer ≡ tells (record { number = p .number; address = 0; bytes = p .len }) (l .answer) → r ≡ p .number
-      → 368 ≤ length text → isLentKept l ≡ true
+      → 368 ≤ length text → isLent l ≡ true
       → text′ ≡ withBytes text 0 (take (p .len) (p .text))
       → ReportsWith k l text k (record { words = l .words; records = l .records; memory = l .memory; queue = l .queue; answer = answer }) text′ r
   reports k R a b h e t =
@@ -249,7 +240,7 @@ module _ (l : Lent) (text : List ℕ) where
       → ReportsWith (countersIn (l .words)) l text (countersIn (l .words)) (besides l records memory queue answer) text′ r
       → Reports l text (besides l records memory queue answer) text′ r
   reports-in-words {records} {memory} {queue} {answer} {text′} {r} e R =
-      record { loans = go (leb 368 (length text)) (R .loans); report = rw e (rw (lent-kept l e) at (R .report)) }
+      record { loans = go (leb 368 (length text)) (R .loans); report = R .report }
     where
       go : (t : Bool)
           → cond t (servedWith Stats (countersIn (l .words)) l) (stays (countersIn (l .words)) l 6)
@@ -267,29 +258,29 @@ boot-or b ms w none d = absurd (d refl)
 
 boot-leaves : (b : Board) (ms : List MemoryRegion) (w : World) → (told (bootCall b ms w .answer) .number ≡ 0 → ⊥) → bootCall b ms w .world ≡ w
 unfolding bootCall
-boot-leaves b ms w = boot-or b ms w (lowest (bootSheet b ms (length (w .records)) (length (w .memory))))
+boot-leaves b ms w = boot-or b ms w (firstMet (bootSheet b ms (length (w .records)) (length (w .memory))))
 
-module _ (l : Lent) (e : isRoomyKept l ≡ true) where
-  pub roomy-words : 92 ≤ length (l .words)
-  roomy-words = leb-true 92 (length (l .words)) (and-left (leb 92 (length (l .words))) (hasRoom l) e)
+module _ (l : Lent) (e : isRoomy l ≡ true) where
+  pub roomy-words : Long (l .words)
+  roomy-words = leb-true stateWords (length (l .words)) (and-left (leb stateWords (length (l .words))) (hasRoom l) e)
 
   pub roomy-room : 2 ≤ length (l .answer)
-  roomy-room = leb-true 2 (length (l .answer)) (and-right (leb 92 (length (l .words))) (hasRoom l) e)
+  roomy-room = leb-true 2 (length (l .answer)) (and-right (leb stateWords (length (l .words))) (hasRoom l) e)
 
 module _ (ms : List MemoryRegion) (l : Lent) where
   abbrev pub shortBoot : ℕ
-  shortBoot = shortNumber (numberIf (lowest (bootSheet standard ms (length (l .records)) (length (l .memory)))))
+  shortBoot = shortNumber (numberIf (firstMet (bootSheet standard ms (length (l .records)) (length (l .memory)))))
 
   pub boots-short : isRoomy l ≡ false → {r : ℕ} → r ≡ shortBoot → booted ms l ≡ refusedAs l r
   unfolding booted
   boots-short e n = rw (e, n) refl
 
-  pub boots-with-short : (k : Counters) → isRoomyKept l ≡ false → {r : ℕ} → r ≡ shortBoot → bootedWith ms k l ≡ stays k l r
+  pub boots-with-short : (k : Counters) → isRoomy l ≡ false → {r : ℕ} → r ≡ shortBoot → bootedWith ms k l ≡ stays k l r
   unfolding bootedWith
   boots-with-short k e n = rw (e, n) refl
 
   -- one that is made: refused it leaves all loans as they were, accepted it has written them
-  module _ (k : Counters) {k′ : Counters} {words records : List ℕ} {y : Answer} (e : isRoomyKept l ≡ true)
+  module _ (k : Counters) {k′ : Counters} {words records : List ℕ} {y : Answer} (e : isRoomy l ≡ true)
       (B : BootsOf standard ms (worldWith k l) (worldOf (stateWith k′ words) records (l .memory) (l .queue)) y) (O : BootsOver (l .words) words y)
       {answer : List ℕ} {r : ℕ} (told-answer : answer ≡ tells y (l .answer)) (told-number : r ≡ y .number) where
     same-world : eqb (y .number) 0 ≡ false → worldOf (stateWith k′ words) records (l .memory) (l .queue) ≡ worldWith k l
@@ -311,11 +302,11 @@ module _ (ms : List MemoryRegion) (l : Lent) where
             rw (told-answer, told-number, e, B .answer, f, O .refused f, ap (λ (v : World). v .records) w, ap (λ (v : World). v .counters) w) refl
 
   -- the words with the counters, whether they have room or not
-  pub boot-in-words : 101 ≤ length (l .words) → booted ms l ≡ wordsFrom (bootedWith ms (countersIn (l .words)) l)
+  pub boot-in-words : Long (l .words) → booted ms l ≡ wordsFrom (bootedWith ms (countersIn (l .words)) l)
   unfolding booted bootedWith
   boot-in-words h =
       let x = bootCall standard ms (worldIn l) in
-      rw (le-leb 101 (length (l .words)) h, le-leb 92 (length (l .words)) (omega arith)) (roomy (hasRoom l) (eqb (told (x .answer) .number) 0))
+      rw (le-leb stateWords (length (l .words)) h) (roomy (hasRoom l) (eqb (told (x .answer) .number) 0))
     where
       stayed : (n : ℕ) → refusedAs l n ≡ wordsFrom (stays (countersIn (l .words)) l n)
       stayed n = rw (counters-again (l .words) h) refl

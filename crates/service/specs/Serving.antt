@@ -1,7 +1,7 @@
 -- What a call over lent words leaves and answers. A kernel lends the state as words beside the records, the memory and the queue, and a slice for the two
 -- numbers of the answer. `served` is the whole outcome: the loans as `call` of definition/specs/Torn.antt leaves them, and the refusal's number, 0 where the call
 -- was accepted. Words that are too few or of another version, and an answer slice of under two places, are refused 6 and nothing changes. `servedWith` is the same
--- where the counters are lent apart and the words go without.
+-- where the counters are a record lent beside the words, whose own counters it then neither reads nor writes.
 use Prim.Native.Nat.{ℕ}
 use mathlib.Core.Bool.{Bool, cond, _&&_}
 use mathlib.Core.List.{List, [], _∷_}
@@ -12,7 +12,7 @@ use Rattle.definition.specs.declared.Counters.{Counters}
 use Rattle.definition.specs.declared.MemoryRegion.{MemoryRegion}
 use Rattle.definition.specs.Board.{Board, standard}
 use Rattle.definition.specs.Boot.{bootSheet}
-use Rattle.definition.specs.Refusal.{lowest}
+use Rattle.definition.specs.Refusal.{firstMet}
 use Rattle.definition.specs.Calls.{Call, Read, Stats}
 use Rattle.definition.specs.World.{World, usedRows}
 use Rattle.definition.specs.Torn.{Left, call, bootCall}
@@ -22,7 +22,7 @@ use Rattle.exam.specs.declared.Answer.{Answer}
 use Rattle.exam.specs.Promise.{told}
 use Rattle.counts.specs.Counting.{textOf}
 use Rattle.copies.specs.Copies.{bytesOf}
-use Rattle.words.specs.Words.{boardIn, wordIn, keptWords, stateWords, rowsIn, queuedIn, passIn, countersIn, isKept, keptIn, keptOf, counterWords}
+use Rattle.words.specs.Words.{boardIn, wordIn, stateWords, countersAt, rowsIn, queuedIn, passIn, countersIn, isKept, keptIn, keptOf, counterWords}
 
 -- the loans of a call, whole
 pub record Lent : Type 0 where
@@ -31,6 +31,9 @@ pub record Lent : Type 0 where
   pub memory : List ℕ
   pub queue : List ℕ
   pub answer : List ℕ
+
+abbrev pub loansOf : (words records memory queue answer : List ℕ) → Lent
+loansOf ws rs m q ys = record { words = ws; records = rs; memory = m; queue = q; answer = ys }
 
 -- the world that they hold, with counters from elsewhere, and with those of the words
 abbrev pub worldWith : Counters → Lent → World
@@ -55,14 +58,14 @@ abbrev pub keptOver : World → List ℕ → List ℕ
 keptOver w ws = keptIn ws (w .rows) (w .queued) (w .pass)
 
 abbrev pub stateOver : World → List ℕ → List ℕ
-stateOver w ws = withBytes (keptOver w ws) 92 (counterWords (w .counters))
+stateOver w ws = withBytes (keptOver w ws) countersAt (counterWords (w .counters))
 
 -- the same as a boot writes it, the first word and the unused rows included
 abbrev pub bootOver : World → List ℕ → List ℕ
 bootOver w ws = withBytes ws 0 (keptOf (length (usedRows (w .rows))) (w .rows) (w .queued) (w .pass))
 
 abbrev pub bootStateOver : World → List ℕ → List ℕ
-bootStateOver w ws = withBytes (bootOver w ws) 92 (counterWords (w .counters))
+bootStateOver w ws = withBytes (bootOver w ws) countersAt (counterWords (w .counters))
 
 -- the address and the bytes of an accepted call stand in front of the answer; a refusal leaves it as it is
 unfoldable pub tells : Answer → List ℕ → List ℕ
@@ -94,9 +97,9 @@ written over l x =
 abbrev pub hasRoom : Lent → Bool
 hasRoom l = leb 2 (length (l .answer))
 
--- the words are a state's
+-- the words are a state's, and the answer has room
 abbrev pub isLent : Lent → Bool
-isLent l = leb stateWords (length (l .words)) && (isKept (l .words) && hasRoom l)
+isLent l = isKept (l .words) && hasRoom l
 
 unfoldable pub served : Call → Lent → Served
 served c l = cond (isLent l) (written stateOver l (call (boardIn (l .words)) (worldIn l) c)) (refusedAs l 6)
@@ -110,10 +113,6 @@ pub record Counted : Type 0 where
   pub counters : Counters
   pub served : Served
 
--- the words are a state's but for its counters
-abbrev pub isLentKept : Lent → Bool
-isLentKept l = isKept (l .words) && hasRoom l
-
 abbrev pub countedBy : Lent → Left → Counted
 countedBy l x = record { counters = x .world .counters; served = written keptOver l x }
 
@@ -122,7 +121,7 @@ abbrev pub stays : Counters → Lent → ℕ → Counted
 stays k l n = record { counters = k; served = refusedAs l n }
 
 unfoldable pub servedWith : Call → Counters → Lent → Counted
-servedWith c k l = cond (isLentKept l) (countedBy l (call (boardIn (l .words)) (worldWith k l) c)) (stays k l 6)
+servedWith c k l = cond (isLent l) (countedBy l (call (boardIn (l .words)) (worldWith k l) c)) (stays k l 6)
 
 abbrev pub ServesWith : Call → Counters → Lent → Counters → Lent → ℕ → Type 0
 ServesWith c k l k′ l′ r = servedWith c k l ≡ record { counters = k′; served = record { lent = l′; number = r } }
@@ -140,7 +139,7 @@ Reports l text l′ text′ r =
 
 abbrev pub ReportsWith : Counters → Lent → List ℕ → Counters → Lent → List ℕ → ℕ → Type 0
 ReportsWith k l text k′ l′ text′ r =
-    ReportsBy (boardIn (l .words)) Counted (isLentKept l) (worldWith k l) (servedWith Stats k l) (stays k l 6)
+    ReportsBy (boardIn (l .words)) Counted (isLent l) (worldWith k l) (servedWith Stats k l) (stays k l 6)
     (record { counters = k′; served = record { lent = l′; number = r } }) text text′
 
 -- a read tells where the bytes stand in the lent memory, and how many they are; `n` is the number of the call
@@ -171,7 +170,7 @@ shortNumber n = cond (eqb n 0) 5 n
 abbrev pub ShortBoots : List MemoryRegion → (count records memory r : ℕ) → Type 0
 ShortBoots map count records memory r =
     (ms : List MemoryRegion) → length ms ≡ count → take 8 ms ≡ take count map
-    → r ≡ shortNumber (numberIf (lowest (bootSheet standard ms records memory)))
+    → r ≡ shortNumber (numberIf (firstMet (bootSheet standard ms records memory)))
 
 abbrev pub bootWritten : Lent → Left → Served
 bootWritten l x = cond (eqb (told (x .answer) .number) 0) (written bootStateOver l x) (refusedAs l (told (x .answer) .number))
@@ -179,7 +178,7 @@ bootWritten l x = cond (eqb (told (x .answer) .number) 0) (written bootStateOver
 unfoldable pub booted : List MemoryRegion → Lent → Served
 booted ms l =
     cond (isRoomy l) (bootWritten l (bootCall standard ms (worldIn l)))
-    (refusedAs l (shortNumber (numberIf (lowest (bootSheet standard ms (length (l .records)) (length (l .memory)))))))
+    (refusedAs l (shortNumber (numberIf (firstMet (bootSheet standard ms (length (l .records)) (length (l .memory)))))))
 
 -- whatever stands past the eighth entry of the map
 abbrev pub Boots : List MemoryRegion → ℕ → Lent → Lent → ℕ → Type 0
@@ -188,17 +187,14 @@ Boots map count l l′ r =
 
 -- ---- a boot whose counters are a record of their own
 
-abbrev pub isRoomyKept : Lent → Bool
-isRoomyKept l = leb keptWords (length (l .words)) && hasRoom l
-
 abbrev pub bootCounted : Counters → Lent → Left → Counted
 bootCounted k l x =
     cond (eqb (told (x .answer) .number) 0) (record { counters = x .world .counters; served = written bootOver l x }) (stays k l (told (x .answer) .number))
 
 unfoldable pub bootedWith : List MemoryRegion → Counters → Lent → Counted
 bootedWith ms k l =
-    cond (isRoomyKept l) (bootCounted k l (bootCall standard ms (worldWith k l)))
-    (stays k l (shortNumber (numberIf (lowest (bootSheet standard ms (length (l .records)) (length (l .memory)))))))
+    cond (isRoomy l) (bootCounted k l (bootCall standard ms (worldWith k l)))
+    (stays k l (shortNumber (numberIf (firstMet (bootSheet standard ms (length (l .records)) (length (l .memory)))))))
 
 abbrev pub BootsWith : List MemoryRegion → ℕ → Counters → Lent → Counters → Lent → ℕ → Type 0
 BootsWith map count k l k′ l′ r =

@@ -1,6 +1,7 @@
-// The calls over lent words, for a kernel to make: the words are tested for their number and version, and the call is made on them where they stand. The answer's two
-// numbers go to a lent slice, and the refusal's number, 0 where the call was accepted, is returned. Every promise is `served` or `booted` of specs/Serving.antt.
-// What ends in `_with` takes the counters apart from the words; beside it stands the same over words that have them, which are read out and written back.
+// The calls over lent words, for a kernel to make: the words are tested for their number and version, and the call is made on them where
+// they stand. The answer's two numbers go to a lent slice, and the refusal's number, 0 where the call was accepted, is returned. Every
+// promise is `served` or `booted` of specs/Serving.antt. What ends in `_with` takes the counters apart from the words; beside it stands the
+// same with those of the words, which are read out and written back.
 use address::PhysAddr;
 use definition::Counters;
 use definition::MemoryRegion;
@@ -16,14 +17,14 @@ ghost use Rattle.lines.specs.Reading.{callOf};
 ghost use Rattle.service.specs.Serving.{
   tells,
   isLent,
-  isLentKept,
-  isRoomyKept,
+  isRoomy,
   Serves,
   ServesWith,
   Reports,
   ReportsWith,
   Places,
   PlacesWith,
+  loansOf,
   ShortBoots,
   Boots,
   BootsWith,
@@ -31,23 +32,15 @@ ghost use Rattle.service.specs.Serving.{
 
 // ---- the words
 
-// Whether the words are a state's but for its counters, and the answer has room.
-fn is_lent_kept(words: &[u64], answer: &[u64]) -> bool
-    ensures { λ r. ⌜ r ≡ isLentKept (record { words = now (words .entry); records = []; memory = []; queue = []; answer = now (answer .entry) }) ⌝ }
+// Whether the words are a state's, and the answer has room.
+fn is_lent(words: &[u64], answer: &[u64]) -> bool
+    ensures { λ r. ⌜ r ≡ isLent
+        (record { words = now (words .entry); records = []; memory = []; queue = []; answer = now (answer .entry) }) ⌝ }
 {
     if answer.len() < 2 {
         return false;
     }
     words::is_kept(words)
-}
-
-fn is_lent(words: &[u64], answer: &[u64]) -> bool
-    ensures { λ r. ⌜ r ≡ isLent (record { words = now (words .entry); records = []; memory = []; queue = []; answer = now (answer .entry) }) ⌝ }
-{
-    if words.len() < 101 {
-        return false;
-    }
-    is_lent_kept(words, answer)
 }
 
 // ---- the answer
@@ -72,7 +65,7 @@ pub struct Counted {
     pub number: u32,
 }
 
-// A call that answers by numbers, where the counters are a record of their own and the words go without.
+// A call that answers by numbers, where the counters are a record of their own.
 pub fn serve_with(
     counters: Counters,
     words: &mut [u64],
@@ -83,9 +76,11 @@ pub fn serve_with(
     op: Ask,
     n: [u64; 5],
 ) -> Counted
-    ensures { λ r. ⌜ ServesWith (callOf op (λ i. getD n i 0)) counters (record { words = now (words .entry); records = now (records .entry); memory = now (memory .entry); queue = now (queue .entry); answer = now (answer .entry) }) (r .counters) (record { words = now (words .exit); records = now (records .exit); memory = now (memory .exit); queue = now (queue .exit); answer = now (answer .exit) }) (r .number) ⌝ }
+    ensures { λ r. ⌜ ServesWith (callOf op (λ i. getD n i 0)) counters
+        (loansOf (now (words .entry)) (now (records .entry)) (now (memory .entry)) (now (queue .entry)) (now (answer .entry))) (r .counters)
+        (loansOf (now (words .exit)) (now (records .exit)) (now (memory .exit)) (now (queue .exit)) (now (answer .exit))) (r .number) ⌝ }
 {
-    if !is_lent_kept(words, answer) {
+    if !is_lent(words, answer) {
         return Counted {
             counters,
             number: 6,
@@ -100,7 +95,7 @@ pub fn serve_with(
     }
 }
 
-// The same over words that have the counters too.
+// The same with the counters of the words.
 pub fn serve(
     words: &mut [u64],
     records: &mut [u8],
@@ -110,7 +105,9 @@ pub fn serve(
     op: Ask,
     n: [u64; 5],
 ) -> u32
-    ensures { λ r. ⌜ Serves (callOf op (λ i. getD n i 0)) (record { words = now (words .entry); records = now (records .entry); memory = now (memory .entry); queue = now (queue .entry); answer = now (answer .entry) }) (record { words = now (words .exit); records = now (records .exit); memory = now (memory .exit); queue = now (queue .exit); answer = now (answer .exit) }) r ⌝ }
+    ensures { λ r. ⌜ Serves (callOf op (λ i. getD n i 0))
+        (loansOf (now (words .entry)) (now (records .entry)) (now (memory .entry)) (now (queue .entry)) (now (answer .entry)))
+        (loansOf (now (words .exit)) (now (records .exit)) (now (memory .exit)) (now (queue .exit)) (now (answer .exit))) r ⌝ }
 {
     if !is_lent(words, answer) {
         return 6;
@@ -135,7 +132,9 @@ pub fn serve_find(
     answer: &mut [u64],
     pa: PhysAddr,
 ) -> u32
-    ensures { λ r. ⌜ Serves (Find (pa .0)) (record { words = now (words .entry); records = now (records .entry); memory = now (memory .entry); queue = now (queue .entry); answer = now (answer .entry) }) (record { words = now (words .entry); records = now (records .entry); memory = now (memory .entry); queue = now (queue .entry); answer = now (answer .exit) }) r ⌝ }
+    ensures { λ r. ⌜ Serves (Find (pa .0))
+        (loansOf (now (words .entry)) (now (records .entry)) (now (memory .entry)) (now (queue .entry)) (now (answer .entry)))
+        (loansOf (now (words .entry)) (now (records .entry)) (now (memory .entry)) (now (queue .entry)) (now (answer .exit))) r ⌝ }
 {
     if !is_lent(words, answer) {
         return 6;
@@ -154,7 +153,9 @@ pub fn serve_free(
     answer: &mut [u64],
     pa: PhysAddr,
 ) -> u32
-    ensures { λ r. ⌜ Serves (Free (pa .0)) (record { words = now (words .entry); records = now (records .entry); memory = now (memory .entry); queue = now (queue .entry); answer = now (answer .entry) }) (record { words = now (words .exit); records = now (records .exit); memory = now (memory .entry); queue = now (queue .entry); answer = now (answer .exit) }) r ⌝ }
+    ensures { λ r. ⌜ Serves (Free (pa .0))
+        (loansOf (now (words .entry)) (now (records .entry)) (now (memory .entry)) (now (queue .entry)) (now (answer .entry)))
+        (loansOf (now (words .exit)) (now (records .exit)) (now (memory .entry)) (now (queue .entry)) (now (answer .exit))) r ⌝ }
 {
     if !is_lent(words, answer) {
         return 6;
@@ -177,7 +178,9 @@ pub fn serve_alloc(
     align: u64,
     flags: u64,
 ) -> u32
-    ensures { λ r. ⌜ Serves (Alloc (record { size = size; align = align; flags = flagsOf flags })) (record { words = now (words .entry); records = now (records .entry); memory = now (memory .entry); queue = now (queue .entry); answer = now (answer .entry) }) (record { words = now (words .exit); records = now (records .exit); memory = now (memory .exit); queue = now (queue .entry); answer = now (answer .exit) }) r ⌝ }
+    ensures { λ r. ⌜ Serves (Alloc (record { size = size; align = align; flags = flagsOf flags }))
+        (loansOf (now (words .entry)) (now (records .entry)) (now (memory .entry)) (now (queue .entry)) (now (answer .entry)))
+        (loansOf (now (words .exit)) (now (records .exit)) (now (memory .exit)) (now (queue .entry)) (now (answer .exit))) r ⌝ }
 {
     if !is_lent(words, answer) {
         return 6;
@@ -212,9 +215,11 @@ pub fn serve_write_with(
     offset: u64,
     bytes: &[u8],
 ) -> u32
-    ensures { λ r. ⌜ ServesWith (Write (pa .0) offset (now (bytes .entry))) counters (record { words = now (words .entry); records = now (records .entry); memory = now (memory .entry); queue = now (queue .entry); answer = now (answer .entry) }) counters (record { words = now (words .entry); records = now (records .exit); memory = now (memory .exit); queue = now (queue .entry); answer = now (answer .exit) }) r ⌝ }
+    ensures { λ r. ⌜ ServesWith (Write (pa .0) offset (now (bytes .entry))) counters
+        (loansOf (now (words .entry)) (now (records .entry)) (now (memory .entry)) (now (queue .entry)) (now (answer .entry))) counters
+        (loansOf (now (words .entry)) (now (records .exit)) (now (memory .exit)) (now (queue .entry)) (now (answer .exit))) r ⌝ }
 {
-    if !is_lent_kept(words, answer) {
+    if !is_lent(words, answer) {
         return 6;
     }
     let y = door::write(counters, words, records, memory, queue, pa, offset, bytes);
@@ -231,7 +236,9 @@ pub fn serve_write(
     offset: u64,
     bytes: &[u8],
 ) -> u32
-    ensures { λ r. ⌜ Serves (Write (pa .0) offset (now (bytes .entry))) (record { words = now (words .entry); records = now (records .entry); memory = now (memory .entry); queue = now (queue .entry); answer = now (answer .entry) }) (record { words = now (words .entry); records = now (records .exit); memory = now (memory .exit); queue = now (queue .entry); answer = now (answer .exit) }) r ⌝ }
+    ensures { λ r. ⌜ Serves (Write (pa .0) offset (now (bytes .entry)))
+        (loansOf (now (words .entry)) (now (records .entry)) (now (memory .entry)) (now (queue .entry)) (now (answer .entry)))
+        (loansOf (now (words .entry)) (now (records .exit)) (now (memory .exit)) (now (queue .entry)) (now (answer .exit))) r ⌝ }
 {
     if !is_lent(words, answer) {
         return 6;
@@ -262,9 +269,11 @@ pub fn serve_read_with(
     offset: u64,
     len: u64,
 ) -> u32
-    ensures { λ r. ⌜ PlacesWith (pa .0) offset len counters (record { words = now (words .entry); records = now (records .entry); memory = now (memory .entry); queue = now (queue .entry); answer = now (answer .entry) }) (record { words = now (words .entry); records = now (records .entry); memory = now (memory .entry); queue = now (queue .entry); answer = now (answer .exit) }) r ⌝ }
+    ensures { λ r. ⌜ PlacesWith (pa .0) offset len counters
+        (loansOf (now (words .entry)) (now (records .entry)) (now (memory .entry)) (now (queue .entry)) (now (answer .entry)))
+        (loansOf (now (words .entry)) (now (records .entry)) (now (memory .entry)) (now (queue .entry)) (now (answer .exit))) r ⌝ }
 {
-    if !is_lent_kept(words, answer) {
+    if !is_lent(words, answer) {
         return 6;
     }
     let place = door::read_place(counters, words, records, memory, queue, pa, offset, len);
@@ -288,7 +297,9 @@ pub fn serve_read(
     offset: u64,
     len: u64,
 ) -> u32
-    ensures { λ r. ⌜ Places (pa .0) offset len (record { words = now (words .entry); records = now (records .entry); memory = now (memory .entry); queue = now (queue .entry); answer = now (answer .entry) }) (record { words = now (words .entry); records = now (records .entry); memory = now (memory .entry); queue = now (queue .entry); answer = now (answer .exit) }) r ⌝ }
+    ensures { λ r. ⌜ Places (pa .0) offset len
+        (loansOf (now (words .entry)) (now (records .entry)) (now (memory .entry)) (now (queue .entry)) (now (answer .entry)))
+        (loansOf (now (words .entry)) (now (records .entry)) (now (memory .entry)) (now (queue .entry)) (now (answer .exit))) r ⌝ }
 {
     if !is_lent(words, answer) {
         return 6;
@@ -317,12 +328,16 @@ pub fn serve_stats_with(
     answer: &mut [u64],
     text: &mut [u8],
 ) -> u32
-    ensures { λ r. ⌜ ReportsWith counters (record { words = now (words .entry); records = now (records .entry); memory = now (memory .entry); queue = now (queue .entry); answer = now (answer .entry) }) (now (text .entry)) counters (record { words = now (words .entry); records = now (records .entry); memory = now (memory .entry); queue = now (queue .entry); answer = now (answer .exit) }) (now (text .exit)) r ⌝ }
+    ensures { λ r. ⌜ ReportsWith counters
+        (loansOf (now (words .entry)) (now (records .entry)) (now (memory .entry)) (now (queue .entry)) (now (answer .entry)))
+        (now (text .entry)) counters
+        (loansOf (now (words .entry)) (now (records .entry)) (now (memory .entry)) (now (queue .entry)) (now (answer .exit)))
+        (now (text .exit)) r ⌝ }
 {
     if text.len() < 368 {
         return 6;
     }
-    if !is_lent_kept(words, answer) {
+    if !is_lent(words, answer) {
         return 6;
     }
     let report = door::stats(counters, words, records, memory, queue);
@@ -347,7 +362,11 @@ pub fn serve_stats(
     answer: &mut [u64],
     text: &mut [u8],
 ) -> u32
-    ensures { λ r. ⌜ Reports (record { words = now (words .entry); records = now (records .entry); memory = now (memory .entry); queue = now (queue .entry); answer = now (answer .entry) }) (now (text .entry)) (record { words = now (words .entry); records = now (records .entry); memory = now (memory .entry); queue = now (queue .entry); answer = now (answer .exit) }) (now (text .exit)) r ⌝ }
+    ensures { λ r. ⌜ Reports
+        (loansOf (now (words .entry)) (now (records .entry)) (now (memory .entry)) (now (queue .entry)) (now (answer .entry)))
+        (now (text .entry))
+        (loansOf (now (words .entry)) (now (records .entry)) (now (memory .entry)) (now (queue .entry)) (now (answer .exit)))
+        (now (text .exit)) r ⌝ }
 {
     if !is_lent(words, answer) {
         return 6;
@@ -359,9 +378,10 @@ pub fn serve_stats(
 // ---- the boot
 
 fn is_roomy(words: &[u64], answer: &[u64]) -> bool
-    ensures { λ r. ⌜ r ≡ isRoomyKept (record { words = now (words .entry); records = []; memory = []; queue = []; answer = now (answer .entry) }) ⌝ }
+    ensures { λ r. ⌜ r ≡ isRoomy
+        (record { words = now (words .entry); records = []; memory = []; queue = []; answer = now (answer .entry) }) ⌝ }
 {
-    if words.len() < 92 {
+    if words.len() < words::STATE_WORDS {
         return false;
     }
     answer.len() >= 2
@@ -389,7 +409,9 @@ pub fn serve_boot_with(
     queue: &[u64],
     answer: &mut [u64],
 ) -> Counted
-    ensures { λ r. ⌜ BootsWith map count counters (record { words = now (words .entry); records = now (records .entry); memory = now (memory .entry); queue = now (queue .entry); answer = now (answer .entry) }) (r .counters) (record { words = now (words .exit); records = now (records .exit); memory = now (memory .entry); queue = now (queue .entry); answer = now (answer .exit) }) (r .number) ⌝ }
+    ensures { λ r. ⌜ BootsWith map count counters
+        (loansOf (now (words .entry)) (now (records .entry)) (now (memory .entry)) (now (queue .entry)) (now (answer .entry))) (r .counters)
+        (loansOf (now (words .exit)) (now (records .exit)) (now (memory .entry)) (now (queue .entry)) (now (answer .exit))) (r .number) ⌝ }
 {
     if !is_roomy(words, answer) {
         let number = short_boot(map, count, records.len(), memory.len());
@@ -414,9 +436,11 @@ pub fn serve_boot(
     queue: &[u64],
     answer: &mut [u64],
 ) -> u32
-    ensures { λ r. ⌜ Boots map count (record { words = now (words .entry); records = now (records .entry); memory = now (memory .entry); queue = now (queue .entry); answer = now (answer .entry) }) (record { words = now (words .exit); records = now (records .exit); memory = now (memory .entry); queue = now (queue .entry); answer = now (answer .exit) }) r ⌝ }
+    ensures { λ r. ⌜ Boots map count
+        (loansOf (now (words .entry)) (now (records .entry)) (now (memory .entry)) (now (queue .entry)) (now (answer .entry)))
+        (loansOf (now (words .exit)) (now (records .exit)) (now (memory .entry)) (now (queue .entry)) (now (answer .exit))) r ⌝ }
 {
-    if words.len() < 101 {
+    if words.len() < words::STATE_WORDS {
         return short_boot(map, count, records.len(), memory.len());
     }
     let counters = words::counters_in(words);

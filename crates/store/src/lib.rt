@@ -1,6 +1,7 @@
-// The library that a kernel links: one exported function for each call, on numbers and lent slices. The state is lent as words (words/specs/Words.antt); the answer's
-// two numbers go to a lent slice, and the refusal's number, 0 where the call was accepted, is returned. Every promise is `served` or `booted` of
-// service/specs/Serving.antt: what stands in the loans afterwards, to the last word and byte, and the number.
+// The library that a kernel links: one exported function for each call, on numbers and lent slices. The state is lent as words
+// (words/specs/Words.antt); the answer's two numbers go to a lent slice, and the refusal's number, 0 where the call was accepted, is
+// returned. Every promise is `served` or `booted` of service/specs/Serving.antt: what stands in the loans afterwards, to the last word and
+// byte, and the number.
 use address::PhysAddr;
 use definition::Counters;
 use definition::MemoryRegion;
@@ -29,7 +30,7 @@ ghost use Rattle.definition.specs.Calls.{
   Low,
 };
 ghost use Rattle.lines.specs.Reading.{callOf};
-ghost use Rattle.service.specs.Serving.{Serves, ServesWith, Places, PlacesWith, Reports, ReportsWith};
+ghost use Rattle.service.specs.Serving.{loansOf, Serves, ServesWith, Places, PlacesWith, Reports, ReportsWith};
 ghost use Rattle.store.specs.Exported.{Audits};
 ghost use Rattle.store.specs.Lending.{
   regionOf,
@@ -57,9 +58,6 @@ pub extern "C" fn jilakkor_audit(
 ) -> u32
     ensures { λ r. ⌜ Audits (now (words .entry)) (now (records .entry)) «memory_len» «queue_len» r ⌝ }
 {
-    if words.len() < 101 {
-        return 6;
-    }
     if !words::is_kept(words) {
         return 6;
     }
@@ -85,7 +83,9 @@ pub extern "C" fn jilakkor_alloc(
     align: u64,
     flags: u64,
 ) -> u32
-    ensures { λ r. ⌜ Serves (Alloc (record { size = size; align = align; flags = flagsOf flags })) (record { words = now (words .entry); records = now (records .entry); memory = now (memory .entry); queue = now (queue .entry); answer = now (answer .entry) }) (record { words = now (words .exit); records = now (records .exit); memory = now (memory .exit); queue = now (queue .exit); answer = now (answer .exit) }) r ⌝ }
+    ensures { λ r. ⌜ Serves (Alloc (record { size = size; align = align; flags = flagsOf flags }))
+        (loansOf (now (words .entry)) (now (records .entry)) (now (memory .entry)) (now (queue .entry)) (now (answer .entry)))
+        (loansOf (now (words .exit)) (now (records .exit)) (now (memory .exit)) (now (queue .exit)) (now (answer .exit))) r ⌝ }
 {
     service::serve_alloc(words, records, memory, queue, answer, size, align, flags)
 }
@@ -102,7 +102,9 @@ pub extern "C" fn jilakkor_take(
     align: u64,
     flags: u64,
 ) -> u32
-    ensures { λ r. ⌜ Serves (Take (record { size = size; align = align; flags = flagsOf flags })) (record { words = now (words .entry); records = now (records .entry); memory = now (memory .entry); queue = now (queue .entry); answer = now (answer .entry) }) (record { words = now (words .exit); records = now (records .exit); memory = now (memory .exit); queue = now (queue .exit); answer = now (answer .exit) }) r ⌝ }
+    ensures { λ r. ⌜ Serves (Take (record { size = size; align = align; flags = flagsOf flags }))
+        (loansOf (now (words .entry)) (now (records .entry)) (now (memory .entry)) (now (queue .entry)) (now (answer .entry)))
+        (loansOf (now (words .exit)) (now (records .exit)) (now (memory .exit)) (now (queue .exit)) (now (answer .exit))) r ⌝ }
 {
     service::serve(
         words,
@@ -125,7 +127,9 @@ pub extern "C" fn jilakkor_split(
     answer: &mut [u64],
     address: u64,
 ) -> u32
-    ensures { λ r. ⌜ Serves (Split address) (record { words = now (words .entry); records = now (records .entry); memory = now (memory .entry); queue = now (queue .entry); answer = now (answer .entry) }) (record { words = now (words .exit); records = now (records .exit); memory = now (memory .exit); queue = now (queue .exit); answer = now (answer .exit) }) r ⌝ }
+    ensures { λ r. ⌜ Serves (Split address)
+        (loansOf (now (words .entry)) (now (records .entry)) (now (memory .entry)) (now (queue .entry)) (now (answer .entry)))
+        (loansOf (now (words .exit)) (now (records .exit)) (now (memory .exit)) (now (queue .exit)) (now (answer .exit))) r ⌝ }
 {
     service::serve(
         words,
@@ -148,7 +152,9 @@ pub extern "C" fn jilakkor_free(
     answer: &mut [u64],
     address: u64,
 ) -> u32
-    ensures { λ r. ⌜ Serves (Free address) (record { words = now (words .entry); records = now (records .entry); memory = now (memory .entry); queue = now (queue .entry); answer = now (answer .entry) }) (record { words = now (words .exit); records = now (records .exit); memory = now (memory .exit); queue = now (queue .exit); answer = now (answer .exit) }) r ⌝ }
+    ensures { λ r. ⌜ Serves (Free address)
+        (loansOf (now (words .entry)) (now (records .entry)) (now (memory .entry)) (now (queue .entry)) (now (answer .entry)))
+        (loansOf (now (words .exit)) (now (records .exit)) (now (memory .exit)) (now (queue .exit)) (now (answer .exit))) r ⌝ }
 {
     service::serve_free(words, records, memory, queue, answer, PhysAddr(address))
 }
@@ -163,7 +169,9 @@ pub extern "C" fn jilakkor_zero(
     answer: &mut [u64],
     address: u64,
 ) -> u32
-    ensures { λ r. ⌜ Serves (Zero address) (record { words = now (words .entry); records = now (records .entry); memory = now (memory .entry); queue = now (queue .entry); answer = now (answer .entry) }) (record { words = now (words .exit); records = now (records .exit); memory = now (memory .exit); queue = now (queue .exit); answer = now (answer .exit) }) r ⌝ }
+    ensures { λ r. ⌜ Serves (Zero address)
+        (loansOf (now (words .entry)) (now (records .entry)) (now (memory .entry)) (now (queue .entry)) (now (answer .entry)))
+        (loansOf (now (words .exit)) (now (records .exit)) (now (memory .exit)) (now (queue .exit)) (now (answer .exit))) r ⌝ }
 {
     service::serve(
         words,
@@ -186,7 +194,9 @@ pub extern "C" fn jilakkor_dirty(
     answer: &mut [u64],
     address: u64,
 ) -> u32
-    ensures { λ r. ⌜ Serves (Dirty address) (record { words = now (words .entry); records = now (records .entry); memory = now (memory .entry); queue = now (queue .entry); answer = now (answer .entry) }) (record { words = now (words .exit); records = now (records .exit); memory = now (memory .exit); queue = now (queue .exit); answer = now (answer .exit) }) r ⌝ }
+    ensures { λ r. ⌜ Serves (Dirty address)
+        (loansOf (now (words .entry)) (now (records .entry)) (now (memory .entry)) (now (queue .entry)) (now (answer .entry)))
+        (loansOf (now (words .exit)) (now (records .exit)) (now (memory .exit)) (now (queue .exit)) (now (answer .exit))) r ⌝ }
 {
     service::serve(
         words,
@@ -209,7 +219,9 @@ pub extern "C" fn jilakkor_find(
     answer: &mut [u64],
     address: u64,
 ) -> u32
-    ensures { λ r. ⌜ Serves (Find address) (record { words = now (words .entry); records = now (records .entry); memory = now (memory .entry); queue = now (queue .entry); answer = now (answer .entry) }) (record { words = now (words .exit); records = now (records .exit); memory = now (memory .exit); queue = now (queue .exit); answer = now (answer .exit) }) r ⌝ }
+    ensures { λ r. ⌜ Serves (Find address)
+        (loansOf (now (words .entry)) (now (records .entry)) (now (memory .entry)) (now (queue .entry)) (now (answer .entry)))
+        (loansOf (now (words .exit)) (now (records .exit)) (now (memory .exit)) (now (queue .exit)) (now (answer .exit))) r ⌝ }
 {
     service::serve_find(words, records, memory, queue, answer, PhysAddr(address))
 }
@@ -224,7 +236,9 @@ pub extern "C" fn jilakkor_queue(
     answer: &mut [u64],
     address: u64,
 ) -> u32
-    ensures { λ r. ⌜ Serves (Queue address) (record { words = now (words .entry); records = now (records .entry); memory = now (memory .entry); queue = now (queue .entry); answer = now (answer .entry) }) (record { words = now (words .exit); records = now (records .exit); memory = now (memory .exit); queue = now (queue .exit); answer = now (answer .exit) }) r ⌝ }
+    ensures { λ r. ⌜ Serves (Queue address)
+        (loansOf (now (words .entry)) (now (records .entry)) (now (memory .entry)) (now (queue .entry)) (now (answer .entry)))
+        (loansOf (now (words .exit)) (now (records .exit)) (now (memory .exit)) (now (queue .exit)) (now (answer .exit))) r ⌝ }
 {
     service::serve(
         words,
@@ -250,7 +264,9 @@ pub extern "C" fn jilakkor_fill(
     len: u64,
     byte: u64,
 ) -> u32
-    ensures { λ r. ⌜ Serves (Fill address offset len (byte % 256)) (record { words = now (words .entry); records = now (records .entry); memory = now (memory .entry); queue = now (queue .entry); answer = now (answer .entry) }) (record { words = now (words .exit); records = now (records .exit); memory = now (memory .exit); queue = now (queue .exit); answer = now (answer .exit) }) r ⌝ }
+    ensures { λ r. ⌜ Serves (Fill address offset len (byte % 256))
+        (loansOf (now (words .entry)) (now (records .entry)) (now (memory .entry)) (now (queue .entry)) (now (answer .entry)))
+        (loansOf (now (words .exit)) (now (records .exit)) (now (memory .exit)) (now (queue .exit)) (now (answer .exit))) r ⌝ }
 {
     service::serve(
         words,
@@ -277,7 +293,9 @@ pub extern "C" fn jilakkor_copy(
     source_offset: u64,
     len: u64,
 ) -> u32
-    ensures { λ r. ⌜ Serves (Copy target «target_offset» source «source_offset» len) (record { words = now (words .entry); records = now (records .entry); memory = now (memory .entry); queue = now (queue .entry); answer = now (answer .entry) }) (record { words = now (words .exit); records = now (records .exit); memory = now (memory .exit); queue = now (queue .exit); answer = now (answer .exit) }) r ⌝ }
+    ensures { λ r. ⌜ Serves (Copy target «target_offset» source «source_offset» len)
+        (loansOf (now (words .entry)) (now (records .entry)) (now (memory .entry)) (now (queue .entry)) (now (answer .entry)))
+        (loansOf (now (words .exit)) (now (records .exit)) (now (memory .exit)) (now (queue .exit)) (now (answer .exit))) r ⌝ }
 {
     service::serve(
         words,
@@ -303,7 +321,9 @@ pub extern "C" fn jilakkor_pcopy(
     source: u64,
     len: u64,
 ) -> u32
-    ensures { λ r. ⌜ Serves (Pcopy target «target_offset» source len) (record { words = now (words .entry); records = now (records .entry); memory = now (memory .entry); queue = now (queue .entry); answer = now (answer .entry) }) (record { words = now (words .exit); records = now (records .exit); memory = now (memory .exit); queue = now (queue .exit); answer = now (answer .exit) }) r ⌝ }
+    ensures { λ r. ⌜ Serves (Pcopy target «target_offset» source len)
+        (loansOf (now (words .entry)) (now (records .entry)) (now (memory .entry)) (now (queue .entry)) (now (answer .entry)))
+        (loansOf (now (words .exit)) (now (records .exit)) (now (memory .exit)) (now (queue .exit)) (now (answer .exit))) r ⌝ }
 {
     service::serve(
         words,
@@ -325,7 +345,9 @@ pub extern "C" fn jilakkor_round(
     queue: &mut [u64],
     answer: &mut [u64],
 ) -> u32
-    ensures { λ r. ⌜ Serves (Round) (record { words = now (words .entry); records = now (records .entry); memory = now (memory .entry); queue = now (queue .entry); answer = now (answer .entry) }) (record { words = now (words .exit); records = now (records .exit); memory = now (memory .exit); queue = now (queue .exit); answer = now (answer .exit) }) r ⌝ }
+    ensures { λ r. ⌜ Serves (Round)
+        (loansOf (now (words .entry)) (now (records .entry)) (now (memory .entry)) (now (queue .entry)) (now (answer .entry)))
+        (loansOf (now (words .exit)) (now (records .exit)) (now (memory .exit)) (now (queue .exit)) (now (answer .exit))) r ⌝ }
 {
     service::serve(
         words,
@@ -348,7 +370,9 @@ pub extern "C" fn jilakkor_lend(
     answer: &mut [u64],
     count: u64,
 ) -> u32
-    ensures { λ r. ⌜ Serves (Lend count) (record { words = now (words .entry); records = now (records .entry); memory = now (memory .entry); queue = now (queue .entry); answer = now (answer .entry) }) (record { words = now (words .exit); records = now (records .exit); memory = now (memory .exit); queue = now (queue .exit); answer = now (answer .exit) }) r ⌝ }
+    ensures { λ r. ⌜ Serves (Lend count)
+        (loansOf (now (words .entry)) (now (records .entry)) (now (memory .entry)) (now (queue .entry)) (now (answer .entry)))
+        (loansOf (now (words .exit)) (now (records .exit)) (now (memory .exit)) (now (queue .exit)) (now (answer .exit))) r ⌝ }
 {
     service::serve(
         words,
@@ -371,7 +395,9 @@ pub extern "C" fn jilakkor_back(
     answer: &mut [u64],
     count: u64,
 ) -> u32
-    ensures { λ r. ⌜ Serves (Back count) (record { words = now (words .entry); records = now (records .entry); memory = now (memory .entry); queue = now (queue .entry); answer = now (answer .entry) }) (record { words = now (words .exit); records = now (records .exit); memory = now (memory .exit); queue = now (queue .exit); answer = now (answer .exit) }) r ⌝ }
+    ensures { λ r. ⌜ Serves (Back count)
+        (loansOf (now (words .entry)) (now (records .entry)) (now (memory .entry)) (now (queue .entry)) (now (answer .entry)))
+        (loansOf (now (words .exit)) (now (records .exit)) (now (memory .exit)) (now (queue .exit)) (now (answer .exit))) r ⌝ }
 {
     service::serve(
         words,
@@ -393,7 +419,9 @@ pub extern "C" fn jilakkor_low(
     queue: &mut [u64],
     answer: &mut [u64],
 ) -> u32
-    ensures { λ r. ⌜ Serves (Low) (record { words = now (words .entry); records = now (records .entry); memory = now (memory .entry); queue = now (queue .entry); answer = now (answer .entry) }) (record { words = now (words .exit); records = now (records .exit); memory = now (memory .exit); queue = now (queue .exit); answer = now (answer .exit) }) r ⌝ }
+    ensures { λ r. ⌜ Serves (Low)
+        (loansOf (now (words .entry)) (now (records .entry)) (now (memory .entry)) (now (queue .entry)) (now (answer .entry)))
+        (loansOf (now (words .exit)) (now (records .exit)) (now (memory .exit)) (now (queue .exit)) (now (answer .exit))) r ⌝ }
 {
     service::serve(
         words,
@@ -420,7 +448,9 @@ pub extern "C" fn jilakkor_write(
     offset: u64,
     bytes: &[u8],
 ) -> u32
-    ensures { λ r. ⌜ Serves (Write address offset (now (bytes .entry))) (record { words = now (words .entry); records = now (records .entry); memory = now (memory .entry); queue = now (queue .entry); answer = now (answer .entry) }) (record { words = now (words .exit); records = now (records .exit); memory = now (memory .exit); queue = now (queue .exit); answer = now (answer .exit) }) r ⌝ }
+    ensures { λ r. ⌜ Serves (Write address offset (now (bytes .entry)))
+        (loansOf (now (words .entry)) (now (records .entry)) (now (memory .entry)) (now (queue .entry)) (now (answer .entry)))
+        (loansOf (now (words .exit)) (now (records .exit)) (now (memory .exit)) (now (queue .exit)) (now (answer .exit))) r ⌝ }
 {
     service::serve_write(
         words,
@@ -446,7 +476,9 @@ pub extern "C" fn jilakkor_read(
     offset: u64,
     len: u64,
 ) -> u32
-    ensures { λ r. ⌜ Places address offset len (record { words = now (words .entry); records = now (records .entry); memory = now (memory .entry); queue = now (queue .entry); answer = now (answer .entry) }) (record { words = now (words .exit); records = now (records .exit); memory = now (memory .exit); queue = now (queue .exit); answer = now (answer .exit) }) r ⌝ }
+    ensures { λ r. ⌜ Places address offset len
+        (loansOf (now (words .entry)) (now (records .entry)) (now (memory .entry)) (now (queue .entry)) (now (answer .entry)))
+        (loansOf (now (words .exit)) (now (records .exit)) (now (memory .exit)) (now (queue .exit)) (now (answer .exit))) r ⌝ }
 {
     service::serve_read(
         words,
@@ -460,7 +492,8 @@ pub extern "C" fn jilakkor_read(
     )
 }
 
-// print_tracker_stats, tracker.rs 235: the statistics stand in front of `text`, which has at least 368 bytes; the answer's second number is their length.
+// print_tracker_stats, tracker.rs 235: the statistics stand in front of `text`, which has at least 368 bytes; the answer's second number is
+// their length.
 #[no_mangle]
 pub extern "C" fn jilakkor_stats(
     words: &mut [u64],
@@ -470,7 +503,11 @@ pub extern "C" fn jilakkor_stats(
     answer: &mut [u64],
     text: &mut [u8],
 ) -> u32
-    ensures { λ r. ⌜ Reports (record { words = now (words .entry); records = now (records .entry); memory = now (memory .entry); queue = now (queue .entry); answer = now (answer .entry) }) (now (text .entry)) (record { words = now (words .exit); records = now (records .exit); memory = now (memory .exit); queue = now (queue .exit); answer = now (answer .exit) }) (now (text .exit)) r ⌝ }
+    ensures { λ r. ⌜ Reports
+        (loansOf (now (words .entry)) (now (records .entry)) (now (memory .entry)) (now (queue .entry)) (now (answer .entry)))
+        (now (text .entry))
+        (loansOf (now (words .exit)) (now (records .exit)) (now (memory .exit)) (now (queue .exit)) (now (answer .exit))) (now (text .exit))
+        r ⌝ }
 {
     service::serve_stats(words, records, memory, queue, answer, text)
 }
@@ -523,7 +560,9 @@ fn boot_gathered(
     queue: &[u64],
     answer: &mut [u64],
 ) -> u32
-    ensures { λ r. ⌜ BootsBy g (record { words = now (words .entry); records = now (records .entry); memory = now (memory .entry); queue = now (queue .entry); answer = now (answer .entry) }) (record { words = now (words .exit); records = now (records .exit); memory = now (memory .entry); queue = now (queue .entry); answer = now (answer .exit) }) r ⌝ }
+    ensures { λ r. ⌜ BootsBy g
+        (loansOf (now (words .entry)) (now (records .entry)) (now (memory .entry)) (now (queue .entry)) (now (answer .entry)))
+        (loansOf (now (words .exit)) (now (records .exit)) (now (memory .entry)) (now (queue .entry)) (now (answer .exit))) r ⌝ }
 {
     let map = g.map;
     service::serve_boot(map, g.count, words, records, memory, queue, answer)
@@ -539,7 +578,9 @@ pub extern "C" fn jilakkor_boot(
     queue: &[u64],
     answer: &mut [u64],
 ) -> u32
-    ensures { λ r. ⌜ Boots (now (map .entry)) (record { words = now (words .entry); records = now (records .entry); memory = now (memory .entry); queue = now (queue .entry); answer = now (answer .entry) }) (record { words = now (words .exit); records = now (records .exit); memory = now (memory .entry); queue = now (queue .entry); answer = now (answer .exit) }) r ⌝ }
+    ensures { λ r. ⌜ Boots (now (map .entry))
+        (loansOf (now (words .entry)) (now (records .entry)) (now (memory .entry)) (now (queue .entry)) (now (answer .entry)))
+        (loansOf (now (words .exit)) (now (records .exit)) (now (memory .entry)) (now (queue .entry)) (now (answer .exit))) r ⌝ }
 {
     boot_gathered(gather(map), words, records, memory, queue, answer)
 }
@@ -599,7 +640,9 @@ fn known_counted(
     ask: Ask,
     n: &[u64],
 ) -> Counted
-    ensures { λ r. ⌜ ServesWith (callOf ask (numbersOf (now (n .entry)))) counters (record { words = now (words .entry); records = now (records .entry); memory = now (memory .entry); queue = now (queue .entry); answer = now (answer .entry) }) (r .counters) (record { words = now (words .exit); records = now (records .exit); memory = now (memory .exit); queue = now (queue .exit); answer = now (answer .exit) }) (r .number) ⌝ }
+    ensures { λ r. ⌜ ServesWith (callOf ask (numbersOf (now (n .entry)))) counters
+        (loansOf (now (words .entry)) (now (records .entry)) (now (memory .entry)) (now (queue .entry)) (now (answer .entry))) (r .counters)
+        (loansOf (now (words .exit)) (now (records .exit)) (now (memory .exit)) (now (queue .exit)) (now (answer .exit))) (r .number) ⌝ }
 {
     let five = [
         number_at(n, 0),
@@ -621,7 +664,9 @@ fn write_counted(
     n: &[u64],
     bytes: &[u8],
 ) -> Counted
-    ensures { λ r. ⌜ ServesWith (Write (numbersOf (now (n .entry)) 0) (numbersOf (now (n .entry)) 1) (now (bytes .entry))) counters (record { words = now (words .entry); records = now (records .entry); memory = now (memory .entry); queue = now (queue .entry); answer = now (answer .entry) }) (r .counters) (record { words = now (words .entry); records = now (records .exit); memory = now (memory .exit); queue = now (queue .entry); answer = now (answer .exit) }) (r .number) ⌝ }
+    ensures { λ r. ⌜ ServesWith (Write (numbersOf (now (n .entry)) 0) (numbersOf (now (n .entry)) 1) (now (bytes .entry))) counters
+        (loansOf (now (words .entry)) (now (records .entry)) (now (memory .entry)) (now (queue .entry)) (now (answer .entry))) (r .counters)
+        (loansOf (now (words .entry)) (now (records .exit)) (now (memory .exit)) (now (queue .entry)) (now (answer .exit))) (r .number) ⌝ }
 {
     let pa = PhysAddr(number_at(n, 0));
     let offset = number_at(n, 1);
@@ -650,7 +695,10 @@ fn read_counted(
     answer: &mut [u64],
     n: &[u64],
 ) -> Counted
-    ensures { λ r. ⌜ PlacesWith (numbersOf (now (n .entry)) 0) (numbersOf (now (n .entry)) 1) (numbersOf (now (n .entry)) 2) counters (record { words = now (words .entry); records = now (records .entry); memory = now (memory .entry); queue = now (queue .entry); answer = now (answer .entry) }) (record { words = now (words .entry); records = now (records .entry); memory = now (memory .entry); queue = now (queue .entry); answer = now (answer .exit) }) (r .number) × (r .counters ≡ counters) ⌝ }
+    ensures { λ r. ⌜ PlacesWith (numbersOf (now (n .entry)) 0) (numbersOf (now (n .entry)) 1) (numbersOf (now (n .entry)) 2) counters
+        (loansOf (now (words .entry)) (now (records .entry)) (now (memory .entry)) (now (queue .entry)) (now (answer .entry)))
+        (loansOf (now (words .entry)) (now (records .entry)) (now (memory .entry)) (now (queue .entry)) (now (answer .exit))) (r .number)
+        × (r .counters ≡ counters) ⌝ }
 {
     let pa = PhysAddr(number_at(n, 0));
     let offset = number_at(n, 1);
@@ -680,7 +728,11 @@ fn stats_counted(
     answer: &mut [u64],
     text: &mut [u8],
 ) -> Counted
-    ensures { λ r. ⌜ ReportsWith counters (record { words = now (words .entry); records = now (records .entry); memory = now (memory .entry); queue = now (queue .entry); answer = now (answer .entry) }) (now (text .entry)) (r .counters) (record { words = now (words .entry); records = now (records .entry); memory = now (memory .entry); queue = now (queue .entry); answer = now (answer .exit) }) (now (text .exit)) (r .number) ⌝ }
+    ensures { λ r. ⌜ ReportsWith counters
+        (loansOf (now (words .entry)) (now (records .entry)) (now (memory .entry)) (now (queue .entry)) (now (answer .entry)))
+        (now (text .entry)) (r .counters)
+        (loansOf (now (words .entry)) (now (records .entry)) (now (memory .entry)) (now (queue .entry)) (now (answer .exit)))
+        (now (text .exit)) (r .number) ⌝ }
 {
     Counted {
         counters,
@@ -723,7 +775,9 @@ fn boot_counted(
     answer: &mut [u64],
     n: &[u64],
 ) -> Counted
-    ensures { λ r. ⌜ BootsFrom (now (n .entry)) counters (record { words = now (words .entry); records = now (records .entry); memory = now (memory .entry); queue = now (queue .entry); answer = now (answer .entry) }) (r .counters) (record { words = now (words .exit); records = now (records .exit); memory = now (memory .entry); queue = now (queue .entry); answer = now (answer .exit) }) (r .number) ⌝ }
+    ensures { λ r. ⌜ BootsFrom (now (n .entry)) counters
+        (loansOf (now (words .entry)) (now (records .entry)) (now (memory .entry)) (now (queue .entry)) (now (answer .entry))) (r .counters)
+        (loansOf (now (words .exit)) (now (records .exit)) (now (memory .entry)) (now (queue .entry)) (now (answer .exit))) (r .number) ⌝ }
 {
     if n.len() % 3 != 0 {
         return Counted {
@@ -756,7 +810,11 @@ fn call_counted(
     n: &[u64],
     bytes: &mut [u8],
 ) -> Counted
-    ensures { λ r. ⌜ CallsWith op (now (n .entry)) counters (record { words = now (words .entry); records = now (records .entry); memory = now (memory .entry); queue = now (queue .entry); answer = now (answer .entry) }) (now (bytes .entry)) (r .counters) (record { words = now (words .exit); records = now (records .exit); memory = now (memory .exit); queue = now (queue .exit); answer = now (answer .exit) }) (now (bytes .exit)) (r .number) ⌝ }
+    ensures { λ r. ⌜ CallsWith op (now (n .entry)) counters
+        (loansOf (now (words .entry)) (now (records .entry)) (now (memory .entry)) (now (queue .entry)) (now (answer .entry)))
+        (now (bytes .entry)) (r .counters)
+        (loansOf (now (words .exit)) (now (records .exit)) (now (memory .exit)) (now (queue .exit)) (now (answer .exit)))
+        (now (bytes .exit)) (r .number) ⌝ }
 {
     match ask_of(op) {
         Asked::Known(ask) => known_counted(counters, words, records, memory, queue, answer, ask, n),
@@ -771,8 +829,9 @@ fn call_counted(
     }
 }
 
-// Every call by its number, 0 for alloc to 14 for low, 15 write, 16 read, 17 stats and 18 boot, where MemoryTracker's nine counters are one lent record, which it
-// updates. The words go without them: the first 92 of a state's, of which the record is the rest. `bytes` are what a write writes and where the statistics go.
+// Every call by its number, 0 for alloc to 14 for low, 15 write, 16 read, 17 stats and 18 boot, where MemoryTracker's nine counters are one
+// lent record, which it updates: of the words it then neither reads nor writes those of the counters. `bytes` are what a write writes and
+// where the statistics go.
 #[no_mangle]
 pub extern "C" fn jilakkor_call(
     counters: &mut Counters,
@@ -785,7 +844,11 @@ pub extern "C" fn jilakkor_call(
     numbers: &[u64],
     bytes: &mut [u8],
 ) -> u32
-    ensures { λ r. ⌜ CallsWith op (now (numbers .entry)) (now (counters .entry)) (record { words = now (words .entry); records = now (records .entry); memory = now (memory .entry); queue = now (queue .entry); answer = now (answer .entry) }) (now (bytes .entry)) (now (counters .exit)) (record { words = now (words .exit); records = now (records .exit); memory = now (memory .exit); queue = now (queue .exit); answer = now (answer .exit) }) (now (bytes .exit)) r ⌝ }
+    ensures { λ r. ⌜ CallsWith op (now (numbers .entry)) (now (counters .entry))
+        (loansOf (now (words .entry)) (now (records .entry)) (now (memory .entry)) (now (queue .entry)) (now (answer .entry)))
+        (now (bytes .entry)) (now (counters .exit))
+        (loansOf (now (words .exit)) (now (records .exit)) (now (memory .exit)) (now (queue .exit)) (now (answer .exit)))
+        (now (bytes .exit)) r ⌝ }
 {
     let counted = call_counted(
         *counters,

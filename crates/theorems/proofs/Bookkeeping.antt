@@ -17,7 +17,7 @@ use Rattle.definition.specs.Basics.{all}
 use Rattle.definition.specs.Board.{Board}
 use Rattle.definition.specs.Boot.{keptRegions, bootSheet}
 use Rattle.definition.specs.Calls.{Call, Answer, Refused, Names, names, sheet}
-use Rattle.definition.specs.Refusal.{Test, lowest, numberOf}
+use Rattle.definition.specs.Refusal.{Test, firstMet, numberOf}
 use Rattle.definition.specs.Store.{Store}
 use Rattle.definition.specs.Torn as Torn
 use Rattle.definition.specs.Torn.{bootCall, booted, written, untouched}
@@ -37,8 +37,8 @@ module _ {board : Board} where
   unfolding bootCall
   boot-answered map w =
       record {
-        refusedAsSheet = λ r. as-sheet r (lowest (bootSheet board map (length (w .records)) (length (w .memory))));
-        untouched = λ r e. stays r (lowest (bootSheet board map (length (w .records)) (length (w .memory)))) e;
+        refusedAsSheet = λ r. as-sheet r (firstMet (bootSheet board map (length (w .records)) (length (w .memory))));
+        untouched = λ r e. stays r (firstMet (bootSheet board map (length (w .records)) (length (w .memory)))) e;
       }
     where
       as-sheet : (r : Refusal) (o : Option Refusal) → (Torn.unlessRefused w o (booted board map w) .answer ≡ Refused r) ↔ (o ≡ some r)
@@ -52,12 +52,12 @@ module _ {board : Board} where
 
 -- ---- 6 is no line of a later call's sheet
 
-torn-free : (ts : List Test) → all (λ t. not (eqb (numberOf (t .refusal)) 6)) ts ≡ true → lowest ts ≡ some Torn → ⊥
-unfolding all lowest
+torn-free : (ts : List Test) → all (λ t. not (eqb (numberOf (t .refusal)) 6)) ts ≡ true → firstMet ts ≡ some Torn → ⊥
+unfolding all firstMet
 torn-free [] a e = let z : _≡_ {A = ℕ} 0 1 = cc in omega arith
 torn-free (t ∷ ts) a e = go (t .met) e (torn-free ts (and-right (not (eqb (numberOf (t .refusal)) 6)) _ a))
   where
-    go : (m : Bool) → elim m [ true ↦ some (t .refusal) | false ↦ lowest ts ] ≡ some Torn → (lowest ts ≡ some Torn → ⊥) → ⊥
+    go : (m : Bool) → elim m [ true ↦ some (t .refusal) | false ↦ firstMet ts ] ≡ some Torn → (firstMet ts ≡ some Torn → ⊥) → ⊥
     go true h more =
         let k : t .refusal ≡ Torn = cc in
         false≢true (sym (ap (λ (r : Refusal). not (eqb (numberOf r) 6)) k) ∙ and-left _ _ a)

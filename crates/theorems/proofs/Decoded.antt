@@ -126,8 +126,8 @@ module _ {board : Board} where
 -- ---- the store
 
 same-store : {a b : PhysicalFrameAllocator} {m n : Memory} {c : Counters} {q t : List ℕ} {i j : ℕ} {p : Pass} → a ≡ b → m ≡ n → q ≡ t → i ≡ j
-    → _≡_ {A = Store} (record { allocator = a; memory = m; counters = c; queue = q; room = i; pass = p })
-    (record { allocator = b; memory = n; counters = c; queue = t; room = j; pass = p })
+    → _≡_ {A = Store} (record { allocator = a; memory = m; counters = c; queue = q; kept = record { room = i }; pass = p })
+    (record { allocator = b; memory = n; counters = c; queue = t; kept = record { room = j }; pass = p })
 same-store e0 e1 e2 e3 = cc
 
 either-way : {A : Type 0} (t : Bool) {x y : A} → (t ≡ false → x ≡ y) → cond t x y ≡ x

@@ -81,7 +81,7 @@ module _ (board : Board) where
   pub record Fits (s : Store) (w : World) : Type 0 where
     pub records : recordSize * managedPages board (s .allocator .regions) ≤ length (w .records)
     pub memory : board .page * managedPages board (s .allocator .regions) ≤ length (w .memory)
-    pub queue : s .room ≡ length (w .queue)
+    pub queue : s .kept .room ≡ length (w .queue)
 
 module _ {board : Board} (fit : Fit board) where
   module _ {s : Store} {k : Book} (w : World) (G : Good board s k) (F : Fits board s w) where

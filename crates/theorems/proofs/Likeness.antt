@@ -14,7 +14,7 @@ use Rattle.definition.specs.Basics.{isSome}
 use Rattle.definition.specs.Board.{Board}
 use Rattle.definition.specs.Boot.{keptRegions, bootSheet}
 use Rattle.definition.specs.Calls.{Call, Answer, Ran, step, run}
-use Rattle.definition.specs.Refusal.{lowest}
+use Rattle.definition.specs.Refusal.{firstMet}
 use Rattle.definition.specs.Rust as Rust
 use Rattle.definition.specs.Rust.{groundMap, commonGround}
 use Rattle.definition.specs.Store.{Store}
@@ -72,7 +72,7 @@ module _ (board : Board) where
   ground-accepted : (map : List MemoryRegion) (w : World) → groundMap board map (length (w .records)) (length (w .memory)) ≡ true
       → Accepted (bootCall board map w .answer)
   unfolding bootCall
-  ground-accepted map w g = go (lowest (bootSheet board map (length (w .records)) (length (w .memory)))) (and-left _ _ g)
+  ground-accepted map w g = go (firstMet (bootSheet board map (length (w .records)) (length (w .memory)))) (and-left _ _ g)
     where
       go : (o : Option Refusal) → not (isSome o) ≡ true → Accepted (Torn.unlessRefused w o (booted board map w) .answer)
       go none e r h = let z : _≡_ {A = ℕ} 0 1 = cc in omega arith

@@ -21,7 +21,7 @@ use Rattle.definition.specs.Frame.{Frame, withZeroed}
 use Rattle.definition.specs.Allocator.{AllocationRegion, PhysicalFrameAllocator, managed, contains, isManaged, doAlloc}
 use Rattle.definition.specs.Boot.{keptRegions, boot}
 use Rattle.definition.specs.Book.{Book, emptyBook}
-use Rattle.definition.specs.Refusal.{lowest}
+use Rattle.definition.specs.Refusal.{firstMet}
 use Rattle.definition.specs.Store.{Memory, Store, withMemory, withQueue, withAllocator, mark}
 use Rattle.definition.specs.World.{numberIn, byteAt, memoryOf}
 use Rattle.definition.specs.Contents.{
@@ -233,9 +233,9 @@ module _ (b : Board) (a : ℕ) where
 
     step-zero : (c : Call) → step b s c .store .memory a ≡ 0
     unfolding step
-    step-zero c = go (lowest (sheet b s (names c))) refl
+    step-zero c = go (firstMet (sheet b s (names c))) refl
       where
-        go : (o : Option Refusal) → lowest (sheet b s (names c)) ≡ o → unlessRefused s o (perform b s c) .store .memory a ≡ 0
+        go : (o : Option Refusal) → firstMet (sheet b s (names c)) ≡ o → unlessRefused s o (perform b s c) .store .memory a ≡ 0
         go none e = perform-zero c (passed b s (names c) e)
         go (some r) e = z
 

@@ -18,8 +18,8 @@ use Rattle.definition.specs.Board.{Board}
 use Rattle.definition.specs.Boot.{keptRegions, bootSheet, boot, managedPages}
 use Rattle.definition.specs.Book.{Book, noteAnswer}
 use Rattle.definition.specs.Calls.{Call, Answer, step, run}
-use Rattle.definition.specs.Refusal.{lowest}
-use Rattle.definition.specs.Store.{Store}
+use Rattle.definition.specs.Refusal.{firstMet}
+use Rattle.definition.specs.Store.{Kept, Store}
 use Rattle.definition.specs.Torn as Torn
 use Rattle.definition.specs.Torn.{sound, call, bootCall, booted, written}
 use Rattle.definition.specs.World.{World, regionsBytes, memoryBytes, memoryOf, decode, encode}
@@ -31,7 +31,7 @@ use Rattle.bookkeeping.specs.Good.{Good}
 use Rattle.bookkeeping.proofs.Accepts.{accepted}
 use Rattle.bookkeeping.proofs.Good.{good}
 use Rattle.bookkeeping.proofs.Regions.{next-regions}
-use Rattle.bookkeeping.proofs.Rooms.{step-room}
+use Rattle.bookkeeping.proofs.Kept.{step-kept}
 use Rattle.theorems.specs.Demands.{Accepted, worldAfter, answersOf, bookAfter, Tied}
 use Rattle.theorems.specs.Stands.{Stands}
 use Rattle.theorems.proofs.Bytes.{regions-length, memory-length}
@@ -196,7 +196,7 @@ module _ {board : Board} (fit : Fit board) where
         record {
           records = omega (arith, H .fits .records, managed-here, m);
           memory = omega (arith, H .fits .memory, pages-same (board .page) managed-here, pages-same (board .page) m);
-          queue = step-room board (x .store) c ∙ H .fits .queue;
+          queue = ap (λ (k : Kept). k .room) (step-kept board (x .store) c) ∙ H .fits .queue;
         } in
         rw (call-is c)
         (record {
@@ -242,9 +242,9 @@ module _ (board : Board) where
 
 module _ (board : Board) where
   pub boot-accepted : (map : List MemoryRegion) (w : World) → Accepted (bootCall board map w .answer)
-      → lowest (bootSheet board map (length (w .records)) (length (w .memory))) ≡ none
+      → firstMet (bootSheet board map (length (w .records)) (length (w .memory))) ≡ none
   unfolding bootCall
-  boot-accepted map w h = go (lowest (bootSheet board map (length (w .records)) (length (w .memory)))) h
+  boot-accepted map w h = go (firstMet (bootSheet board map (length (w .records)) (length (w .memory)))) h
     where
       go : (o : Option Refusal) → Accepted (Torn.unlessRefused w o (booted board map w) .answer) → o ≡ none
       go none h = refl
@@ -255,7 +255,7 @@ module _ (board : Board) (fit : Fit board) where
     abbrev begun : State
     begun = Claim.booted board map (memoryOf board (w .memory) (keptRegions board map)) (length (w .queue))
 
-    passed : lowest (bootSheet board map (length (w .records)) (length (w .memory))) ≡ none
+    passed : firstMet (bootSheet board map (length (w .records)) (length (w .memory))) ≡ none
     passed = boot-accepted board map w ok
 
     boot-is : bootCall board map w ≡ booted board map w
@@ -271,7 +271,7 @@ module _ (board : Board) (fit : Fit board) where
     unfolding after
     first-good = always []
 
-    room-is : begun .store .room ≡ length (w .queue)
+    room-is : begun .store .kept .room ≡ length (w .queue)
     unfolding boot
     room-is = refl
 

@@ -12,7 +12,7 @@ use Rattle.definition.specs.declared.MemoryRegion.{MemoryRegion}
 use Rattle.definition.specs.declared.Refusal.{Refusal}
 use Rattle.definition.specs.Board.{Board}
 use Rattle.definition.specs.Boot.{keptRegions, bootSheet}
-use Rattle.definition.specs.Refusal.{lowest}
+use Rattle.definition.specs.Refusal.{firstMet}
 use Rattle.definition.specs.Script.{
   AddRegion,
   BootNow,
@@ -73,9 +73,9 @@ module _ {board : Board} (fit : Fit board) where
   boot-same : (w : World) (map : List MemoryRegion) (name : List ℕ) → AlikeTurn board w (turnOn board w (record { map = map; store = none }) name BootNow none)
       (commandOn board (record { map = map; booted = false; world = w }) name BootNow false)
   unfolding bootCall
-  boot-same w map name = go (lowest (bootSheet board map (length (w .records)) (length (w .memory)))) refl
+  boot-same w map name = go (firstMet (bootSheet board map (length (w .records)) (length (w .memory)))) refl
     where
-      go : (o : Option Refusal) → lowest (bootSheet board map (length (w .records)) (length (w .memory))) ≡ o
+      go : (o : Option Refusal) → firstMet (bootSheet board map (length (w .records)) (length (w .memory))) ≡ o
           → AlikeTurn board w (bootTurn board w (record { map = map; store = none }) name o)
           (bootOn (record { map = map; booted = false; world = w }) name (Torn.unlessRefused w o (booted board map w)))
       go none e =

@@ -13,7 +13,7 @@ use Rattle.definition.specs.Board.{Board}
 use Rattle.definition.specs.Boot.{keptRegions, bootSheet, boot}
 use Rattle.definition.specs.Book.{Book, emptyBook, noteAnswer}
 use Rattle.definition.specs.Calls.{Layout, Call, Answer, Refused, names, badLayout, noLevel, findLevel, sheet, run}
-use Rattle.definition.specs.Refusal.{lowest}
+use Rattle.definition.specs.Refusal.{firstMet}
 use Rattle.definition.specs.Rust as Rust
 use Rattle.definition.specs.Rust.{commonGround}
 use Rattle.definition.specs.Store.{Store}
@@ -58,7 +58,7 @@ bookAll b map w calls = bookAfter b (emptyBook (keptRegions b map)) calls (answe
 pub record BootAnswered (b : Board) (map : List MemoryRegion) (w : World) : Type 0 where
   -- "Boot [is] refused exactly as 01's sheet says"
   pub refusedAsSheet
-      : (r : Refusal) → (bootCall b map w .answer ≡ Refused r) ↔ (lowest (bootSheet b map (length (w .records)) (length (w .memory))) ≡ some r)
+      : (r : Refusal) → (bootCall b map w .answer ≡ Refused r) ↔ (firstMet (bootSheet b map (length (w .records)) (length (w .memory))) ≡ some r)
   -- and a refused one changes nothing
   pub untouched : (r : Refusal) → bootCall b map w .answer ≡ Refused r → bootCall b map w .world ≡ w
 
@@ -67,7 +67,7 @@ pub record Answered (b : Board) (w : World) (c : Call) : Type 0 where
   -- no call finds the records torn
   pub notTorn : call b w c .answer ≡ Refused Torn → ⊥
   -- "each call [is] refused exactly as 01's sheet says"
-  pub refusedAsSheet : (r : Refusal) → (call b w c .answer ≡ Refused r) ↔ (lowest (sheet b (decode b w) (names c)) ≡ some r)
+  pub refusedAsSheet : (r : Refusal) → (call b w c .answer ≡ Refused r) ↔ (firstMet (sheet b (decode b w) (names c)) ≡ some r)
   -- and a refused one changes nothing, not a byte
   pub untouched : (r : Refusal) → call b w c .answer ≡ Refused r → call b w c .world ≡ w
   -- "want of memory .. exactly when no earlier refusal meets it and no listed frame of the asked level or above exists just before it"
@@ -75,7 +75,7 @@ pub record Answered (b : Board) (w : World) (c : Call) : Type 0 where
       : (y : Layout) → Asks c y
       → Wanting (call b w c .answer) ↔ ((badLayout y ≡ false) × (noLevel b y ≡ false) × NoneFrom (findLevel b y) (decode b w))
   -- "a grant gives the frame that 01 picks"
-  pub picked : (y : Layout) → Asks c y → lowest (sheet b (decode b w) (names c)) ≡ none → Picked b (decode b w) y (call b w c .answer)
+  pub picked : (y : Layout) → Asks c y → firstMet (sheet b (decode b w) (names c)) ≡ none → Picked b (decode b w) y (call b w c .answer)
 
 -- each call of the list is answered so, on the world as the last left it
 pub data Along (b : Board) : World → List Call → Type 0 where

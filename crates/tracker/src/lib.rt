@@ -1,5 +1,5 @@
-// The nine counters of the store, after tracker.rs's MemoryTracker: grants and frees counted, whether memory is low, the pager's loan, and the
-// statistics as text. Counters go in and come out by value, where the Rust has atomics.
+// The nine counters of the store, after tracker.rs's MemoryTracker: grants and frees counted, whether memory is low, the pager's loan, and
+// the statistics as text. Counters go in and come out by value, where the Rust has atomics.
 use definition::Board;
 use definition::Counters;
 ghost use mathlib.Core.Path.{_≡_};
@@ -161,8 +161,9 @@ fn put_shares(out: &mut [u8], at: usize, c: Counters) -> usize
     text::put_text(out, next, b" loaned)\n")
 }
 
-// tracker.rs 235: the five lines of the statistics, from `at` on, and the place behind them. They take at most 368 bytes, 128 of them fixed and 20
-// for each of twelve numbers. The bound on three counters, which the audit keeps far below, lets the percentages be reckoned in 64 bits.
+// tracker.rs 235: the five lines of the statistics, from `at` on, and the place behind them. They take at most 368 bytes, 128 of them fixed
+// and 20 for each of twelve numbers. The bound on three counters, which the audit keeps far below, lets the percentages be reckoned in 64
+// bits.
 pub fn print_tracker_stats(out: &mut [u8], at: usize, c: Counters) -> usize
     requires { ⌜ (at + 368 ≤ length (now out)) × (c .idle < 2 ^ 57) × (c .«kernel_used» < 2 ^ 57) × (c .«page_data» < 2 ^ 57) ⌝ }
     ensures { λ r. ⌜ Wrote (now (out .entry)) at (trackerStats c) (now (out .exit)) r ⌝ }

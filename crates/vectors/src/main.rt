@@ -1,7 +1,7 @@
-// Replays scripts against the answers that are expected of them, all in one file on standard input, and prints how many there were and how many differ. The
-// file has for each script a line `script,LINES`, that many lines, a line `answers,BYTES` and that many bytes; the numbers are decimal, without leading zeros.
-// At most 1,048,576 bytes, and 8,191 lines to a script. Standard error says where the file can't be read or is longer; a program of Rattle has no exit status to
-// say it by.
+// Replays scripts against the answers that are expected of them, all in one file on standard input, and prints how many there were and how
+// many differ. The file has for each script a line `script,LINES`, that many lines, a line `answers,BYTES` and that many bytes; the numbers
+// are decimal, without leading zeros. At most 1,048,576 bytes, and 8,191 lines to a script. Standard error says where the file can't be
+// read or is longer; a program of Rattle has no exit status to say it by.
 use program::Input;
 ghost use Prim.Native.Nat.{_+_, _≤_, _<_};
 ghost use mathlib.Core.Bool.{true, false, not};

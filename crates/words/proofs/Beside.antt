@@ -13,7 +13,7 @@ use Rattle.definition.specs.declared.Row.{Row}
 use Rattle.definition.specs.World.{noLinks}
 use Rattle.record.specs.Records.{withBytes}
 use Rattle.record.proofs.Bytes.{with-length, with-in, with-out}
-use Rattle.words.specs.Words.{InUse, RowBeside, QueuedBeside, PassBeside, wordIn, firstIn, secondIn, rowOf, rowsIn, pairWords, withList}
+use Rattle.words.specs.Words.{Long, countersAt, InUse, RowBeside, QueuedBeside, PassBeside, wordIn, firstIn, secondIn, rowOf, rowsIn, pairWords, withList}
 use Rattle.words.proofs.Reading.{pair-read, pair-same, row-same, here-same, rows-same}
 use Rattle.words.proofs.Places.{length-rows, row-numbered, row-place, place, list-place, row-changed}
 
@@ -49,9 +49,9 @@ module _ (ws : List ℕ) (i level : ℕ) (a b : Links) (u : InUse ws i) (l : lev
                     version = out 0 (λ x y. omega arith);
                     unused = λ k m j. out k (λ x y. omega arith);
                     behind =
-                        ext-getD 0 (drop 92 written) (drop 92 ws)
-                        (rw (length-drop 92 written, length-drop 92 ws, with-length ws (place i level) (pairWords a b) (omega arith)) refl)
-                        (λ k m. getD-drop 92 written k 0 ∙ out (92 + k) (λ x y. omega arith) ∙ sym (getD-drop 92 ws k 0));
+                        ext-getD 0 (drop countersAt written) (drop countersAt ws)
+                        (rw (length-drop countersAt written, length-drop countersAt ws, with-length ws (place i level) (pairWords a b) (omega arith)) refl)
+                        (λ k m. getD-drop countersAt written k 0 ∙ out (countersAt + k) (λ x y. omega arith) ∙ sym (getD-drop countersAt ws k 0));
                   };
               queued = out 89 (λ x y. omega arith);
               pass = rw (out 90 (λ x y. omega arith), out 91 (λ x y. omega arith)) refl;
@@ -96,7 +96,7 @@ module _ (ws : List ℕ) (i level : ℕ) (list : Links) (u : InUse ws i) (l : le
     pair-beside ws i level (firstIn ws (place i level)) list u l,
   )
 
-pub queued-beside : (ws : List ℕ) (n : ℕ) → 92 ≤ length ws → QueuedBeside ws n (set ws 89 n)
+pub queued-beside : (ws : List ℕ) (n : ℕ) → Long ws → QueuedBeside ws n (set ws 89 n)
 queued-beside ws n h =
     let out : (k : ℕ) → (k ≡ 89 → ⊥) → wordIn (set ws 89 n) k ≡ wordIn ws k = λ k d. getD-set-other ws 89 k n 0 d in
     record {
@@ -104,14 +104,14 @@ queued-beside ws n h =
           record {
             version = out 0 (λ e. omega arith);
             unused = λ k m j. out k (λ e. omega arith);
-            behind = drop-set-lt 92 ws 89 n (omega arith);
+            behind = drop-set-lt countersAt ws 89 n (omega arith);
           };
       rows = rows-same (set ws 89 n) ws 0 8 (omega arith) (λ k l. out k (λ e. omega arith));
       queued = getD-set-same ws 89 n 0 (omega arith);
       pass = rw (out 90 (λ e. omega arith), out 91 (λ e. omega arith)) refl;
     }
 
-pub pass-beside : (ws : List ℕ) (p : Pass) → 92 ≤ length ws → PassBeside ws p (set (set ws 90 (p .rounds)) 91 (p .freed))
+pub pass-beside : (ws : List ℕ) (p : Pass) → Long ws → PassBeside ws p (set (set ws 90 (p .rounds)) 91 (p .freed))
 pass-beside ws p h =
     let us : List ℕ = set ws 90 (p .rounds) in
     let vs : List ℕ = set us 91 (p .freed) in
@@ -123,7 +123,7 @@ pass-beside ws p h =
           record {
             version = out 0 (λ e. omega arith) (λ e. omega arith);
             unused = λ k m j. out k (λ e. omega arith) (λ e. omega arith);
-            behind = drop-set-lt 92 us 91 (p .freed) (omega arith) ∙ drop-set-lt 92 ws 90 (p .rounds) (omega arith);
+            behind = drop-set-lt countersAt us 91 (p .freed) (omega arith) ∙ drop-set-lt countersAt ws 90 (p .rounds) (omega arith);
           };
       rows = rows-same vs ws 0 8 (omega arith) (λ k l. out k (λ e. omega arith) (λ e. omega arith));
       queued = out 89 (λ e. omega arith) (λ e. omega arith);

@@ -10,7 +10,7 @@ use Rattle.definition.specs.declared.Pass.{Pass}
 use Rattle.definition.specs.declared.Row.{Row}
 use Rattle.record.specs.Records.{withBytes}
 use Rattle.record.proofs.Bytes.{with-length, with-then}
-use Rattle.words.specs.Words.{wordIn, rowWords, rowsWords, joined, keptOf}
+use Rattle.words.specs.Words.{Long, version, wordIn, rowWords, rowsWords, joined, keptOf}
 use Rattle.words.proofs.Stores.{stores}
 
 length-row-words : (row : Row) → length (rowWords row) ≡ 11
@@ -47,13 +47,13 @@ row-more ws rows i d h k =
     (rw n at (with-then ws 1 (rowsWords (take i rows)) (omega arith) (rowWords (getD rows i d))))
     ∙ rw (add-one, take-suc rows i d, rows-snoc (take i rows) (getD rows i d)) refl
 
-pub kept-stores : (ws : List ℕ) (used : ℕ) (rows : List Row) (queued : ℕ) (pass : Pass) → length rows ≡ 8 → 92 ≤ length ws
-    → set (set (set (withBytes (set ws 0 (joined 1 used)) 1 (rowsWords rows)) 89 queued) 90 (pass .rounds)) 91 (pass .freed)
+pub kept-stores : (ws : List ℕ) (used : ℕ) (rows : List Row) (queued : ℕ) (pass : Pass) → length rows ≡ 8 → Long ws
+    → set (set (set (withBytes (set ws 0 (joined version used)) 1 (rowsWords rows)) 89 queued) 90 (pass .rounds)) 91 (pass .freed)
     ≡ withBytes ws 0 (keptOf used rows queued pass)
 unfolding keptOf
 kept-stores ws used rows queued pass e h =
-    let first : List ℕ = joined 1 used ∷ [] in
-    let xs : List ℕ = joined 1 used ∷ rowsWords rows in
+    let first : List ℕ = joined version used ∷ [] in
+    let xs : List ℕ = joined version used ∷ rowsWords rows in
     let ys : List ℕ = queued ∷ pass .rounds ∷ pass .freed ∷ [] in
     let n : length (rowsWords rows) ≡ 88 = length-rows-words rows ∙ omega arith in
     let l : length (withBytes ws 0 xs) ≡ length ws = with-length ws 0 xs (omega arith) in

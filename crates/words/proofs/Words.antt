@@ -18,6 +18,10 @@ use Rattle.definition.specs.World.{noRow}
 use Rattle.record.specs.Records.{withBytes}
 use Rattle.record.proofs.Bytes.{with-length, with-in, with-out}
 use Rattle.words.specs.Words.{
+  Long,
+  version,
+  stateWords,
+  countersAt,
   Beside,
   boardIn,
   InUse,
@@ -45,7 +49,7 @@ use Rattle.words.proofs.Places.{length-rows, row-numbered, rows-stand}
 
 -- ---- lengths
 
-pub length-kept : (used : ℕ) (rows : List Row) (queued : ℕ) (pass : Pass) → length rows ≡ 8 → length (keptOf used rows queued pass) ≡ 92
+pub length-kept : (used : ℕ) (rows : List Row) (queued : ℕ) (pass : Pass) → length rows ≡ 8 → length (keptOf used rows queued pass) ≡ countersAt
 unfolding keptOf
 length-kept used rows queued pass e =
     ap suc (length-append (rowsWords rows) (queued ∷ pass .rounds ∷ pass .freed ∷ [])) ∙ omega (arith, length-rows-words rows)
@@ -107,21 +111,21 @@ pub in-use-then : {ws vs : List ℕ} {i : ℕ} → length vs ≡ length ws → R
 in-use-then e b u = rw (e, b .beside .version) u
 
 -- ---- all written, as a boot does, and read
-module _ (ws : List ℕ) (used : ℕ) (rows : List Row) (queued : ℕ) (pass : Pass) (h : 92 ≤ length ws) where
+module _ (ws : List ℕ) (used : ℕ) (rows : List Row) (queued : ℕ) (pass : Pass) (h : Long ws) where
   abbrev behind : List ℕ
-  behind = queued ∷ pass .rounds ∷ pass .freed ∷ drop 92 ws
+  behind = queued ∷ pass .rounds ∷ pass .freed ∷ drop countersAt ws
 
-  split : length rows ≡ 8 → withBytes ws 0 (keptOf used rows queued pass) ≡ joined 1 used ∷ (rowsWords rows ++ behind)
+  split : length rows ≡ 8 → withBytes ws 0 (keptOf used rows queued pass) ≡ joined version used ∷ (rowsWords rows ++ behind)
   unfolding withBytes keptOf
-  split e = rw (length-kept used rows queued pass e, append-assoc (rowsWords rows) (queued ∷ pass .rounds ∷ pass .freed ∷ []) (drop 92 ws)) refl
+  split e = rw (length-kept used rows queued pass e, append-assoc (rowsWords rows) (queued ∷ pass .rounds ∷ pass .freed ∷ []) (drop countersAt ws)) refl
 
   -- the three words behind the rows
   tail : length rows ≡ 8 → (k : ℕ) → wordIn (withBytes ws 0 (keptOf used rows queued pass)) (89 + k) ≡ wordIn behind k
   tail e k =
-      let n : length (joined 1 used ∷ rowsWords rows) ≡ 89 = ap suc (length-rows-words rows) ∙ omega arith in
-      rw (split e) (rw n at (getD-append-add (joined 1 used ∷ rowsWords rows) behind k 0))
+      let n : length (joined version used ∷ rowsWords rows) ≡ 89 = ap suc (length-rows-words rows) ∙ omega arith in
+      rw (split e) (rw n at (getD-append-add (joined version used ∷ rowsWords rows) behind k 0))
 
-  first : length rows ≡ 8 → wordIn (withBytes ws 0 (keptOf used rows queued pass)) 0 ≡ joined 1 used
+  first : length rows ≡ 8 → wordIn (withBytes ws 0 (keptOf used rows queued pass)) 0 ≡ joined version used
   first e = rw (split e) refl
 
   pub used-written : length rows ≡ 8 → usedIn (withBytes ws 0 (keptOf used rows queued pass)) ≡ used
@@ -133,7 +137,7 @@ module _ (ws : List ℕ) (used : ℕ) (rows : List Row) (queued : ℕ) (pass : P
       (λ i k l m j.
       let s : 1 + 11 * i + k ≡ 1 + (11 * i + k) = omega arith in
       rw (s, split (n .eight))
-      (getD-append-add (joined 1 used ∷ []) (rowsWords rows ++ behind) (11 * i + k) 0
+      (getD-append-add (joined version used ∷ []) (rowsWords rows ++ behind) (11 * i + k) 0
       ∙ List·getD-append (rowsWords rows) behind 0 (11 * i + k) (omega (arith, length-rows-words rows, n .eight))
       ∙ row-word rows i k noRow (omega (arith, n .eight)) j))
 
@@ -145,13 +149,13 @@ module _ (ws : List ℕ) (used : ℕ) (rows : List Row) (queued : ℕ) (pass : P
 
   pub kept-written : length rows ≡ 8 → used ≤ 8 → isKept (withBytes ws 0 (keptOf used rows queued pass)) ≡ true
   kept-written e most =
-      let n : length (keptOf used rows queued pass) ≡ 92 = length-kept used rows queued pass e in
-      let o : joined 1 used % 4294967296 ≡ 1 = omega arith in
-      let u : joined 1 used / 4294967296 ≡ used = omega arith in
-      rw (with-length ws 0 (keptOf used rows queued pass) (omega arith), le-leb 92 (length ws) h, first e, o, u, le-leb used 8 most) refl
+      let n : length (keptOf used rows queued pass) ≡ countersAt = length-kept used rows queued pass e in
+      let o : joined version used % 4294967296 ≡ version = omega arith in
+      let u : joined version used / 4294967296 ≡ used = omega arith in
+      rw (with-length ws 0 (keptOf used rows queued pass) (omega arith), le-leb stateWords (length ws) h, first e, o, u, le-leb used 8 most) refl
 
 -- ---- written over the rows in use: word by word
-module _ (ws : List ℕ) (rows : List Row) (queued : ℕ) (pass : Pass) (h : 92 ≤ length ws) (e : length rows ≡ 8) where
+module _ (ws : List ℕ) (rows : List Row) (queued : ℕ) (pass : Pass) (h : Long ws) (e : length rows ≡ 8) where
   abbrev front : List ℕ
   front = rowsWords (take (usedIn ws) rows)
 
@@ -189,14 +193,14 @@ module _ (ws : List ℕ) (rows : List Row) (queued : ℕ) (pass : Pass) (h : 92 
       ∙ row-word (take (usedIn ws) rows) i k noRow t m
       ∙ ap (λ (row : Row). wordIn (rowWords row) k) (getD-take (usedIn ws) rows i noRow u)
 
-  word-else : (k : ℕ) → (89 ≤ k → k < 92 → ⊥) → (1 ≤ k → k < 89 → k < 1 + 11 * usedIn ws → ⊥) → wordIn (keptIn ws rows queued pass) k ≡ wordIn ws k
+  word-else : (k : ℕ) → (89 ≤ k → k < countersAt → ⊥) → (1 ≤ k → k < 89 → k < 1 + 11 * usedIn ws → ⊥) → wordIn (keptIn ws rows queued pass) k ≡ wordIn ws k
   unfolding keptIn
   word-else k m o =
       with-out (withBytes ws 1 front) 89 three (omega (arith, middle)) k (λ a b. m a b)
       ∙ with-out ws 1 front (omega (arith, long .0)) k (λ a b. o a (omega (arith, long .0)) (omega (arith, long .1)))
 
 -- ---- and read
-module _ (ws : List ℕ) (rows : List Row) (queued : ℕ) (pass : Pass) (h : 92 ≤ length ws) (n : Narrow rows) where
+module _ (ws : List ℕ) (rows : List Row) (queued : ℕ) (pass : Pass) (h : Long ws) (n : Narrow rows) where
   pub length-in : length (keptIn ws rows queued pass) ≡ length ws
   length-in = all-words ws rows queued pass h (n .eight)
 
@@ -220,7 +224,7 @@ module _ (ws : List ℕ) (rows : List Row) (queued : ℕ) (pass : Pass) (h : 92 
 
 -- ---- read and written again
 
-module _ (ws vs : List ℕ) (h : 92 ≤ length ws) (b : Beside ws vs) where
+module _ (ws vs : List ℕ) (h : Long ws) (b : Beside ws vs) where
   abbrev kept : List ℕ
   kept = keptIn ws (rowsIn vs) (queuedIn vs) (passIn vs)
 
@@ -228,7 +232,7 @@ module _ (ws vs : List ℕ) (h : 92 ≤ length ws) (b : Beside ws vs) where
   eight = length-rows vs 0 8
 
   -- a word that is not written is one that stays
-  stays : (k : ℕ) → (89 ≤ k → k < 92 → ⊥) → (1 ≤ k → k < 89 → k < 1 + 11 * usedIn ws → ⊥) → wordIn vs k ≡ wordIn ws k → wordIn kept k ≡ wordIn vs k
+  stays : (k : ℕ) → (89 ≤ k → k < countersAt → ⊥) → (1 ≤ k → k < 89 → k < 1 + 11 * usedIn ws → ⊥) → wordIn vs k ≡ wordIn ws k → wordIn kept k ≡ wordIn vs k
   stays k m o e = word-else ws (rowsIn vs) (queuedIn vs) (passIn vs) h eight k m o ∙ sym e
 
   in-row : (i k : ℕ) → i < 8 → i < usedIn ws → k < 11 → wordIn kept (1 + 11 * i + k) ≡ wordIn vs (1 + 11 * i + k)
@@ -237,11 +241,11 @@ module _ (ws vs : List ℕ) (h : 92 ≤ length ws) (b : Beside ws vs) where
       ∙ ap (λ (row : Row). wordIn (rowWords row) k) (row-numbered vs noRow i j ∙ row-used vs i (rw (b .version) u))
       ∙ word-again vs (1 + 11 * i) k m
 
-  word : (k : ℕ) → Dec (k < 92) → Dec (k < 89) → Dec (k < 1 + 11 * usedIn ws) → Dec (k ≡ 0) → wordIn kept k ≡ wordIn vs k
+  word : (k : ℕ) → Dec (k < countersAt) → Dec (k < 89) → Dec (k < 1 + 11 * usedIn ws) → Dec (k ≡ 0) → wordIn kept k ≡ wordIn vs k
   word k (no m) d u z =
-      let e : 92 + (k - 92) ≡ k = omega arith in
-      let s : wordIn vs (92 + (k - 92)) ≡ wordIn ws (92 + (k - 92)) =
-      sym (getD-drop 92 vs (k - 92) 0) ∙ ap (λ (xs : List ℕ). getD xs (k - 92) 0) (b .behind) ∙ getD-drop 92 ws (k - 92) 0
+      let e : countersAt + (k - countersAt) ≡ k = omega arith in
+      let s : wordIn vs (countersAt + (k - countersAt)) ≡ wordIn ws (countersAt + (k - countersAt)) =
+      sym (getD-drop countersAt vs (k - countersAt) 0) ∙ ap (λ (xs : List ℕ). getD xs (k - countersAt) 0) (b .behind) ∙ getD-drop countersAt ws (k - countersAt) 0
       in
       stays k (λ x y. omega arith) (λ x y t. omega arith) (rw e at s)
   word k (yes m) (no d) u z =
@@ -254,13 +258,13 @@ module _ (ws vs : List ℕ) (h : 92 ≤ length ws) (b : Beside ws vs) where
       rw e at (in-row ((k - 1) / 11) ((k - 1) % 11) (omega arith) (omega arith) (omega arith))
 
 -- what is kept of the words vs, written over words that they stand beside
-pub kept-from : (ws vs : List ℕ) → 92 ≤ length ws → length vs ≡ length ws → Beside ws vs → keptIn ws (rowsIn vs) (queuedIn vs) (passIn vs) ≡ vs
+pub kept-from : (ws vs : List ℕ) → Long ws → length vs ≡ length ws → Beside ws vs → keptIn ws (rowsIn vs) (queuedIn vs) (passIn vs) ≡ vs
 kept-from ws vs h l b =
     ext-getD 0 (keptIn ws (rowsIn vs) (queuedIn vs) (passIn vs)) vs
     (all-words ws (rowsIn vs) (queuedIn vs) (passIn vs) h (length-rows vs 0 8) ∙ sym l)
-    (λ k m. word ws vs h b k (decLt k 92) (decLt k 89) (decLt k (1 + 11 * usedIn ws)) (ℕ-discrete k 0))
+    (λ k m. word ws vs h b k (decLt k countersAt) (decLt k 89) (decLt k (1 + 11 * usedIn ws)) (ℕ-discrete k 0))
 
-pub kept-again : (ws : List ℕ) → 92 ≤ length ws → keptIn ws (rowsIn ws) (queuedIn ws) (passIn ws) ≡ ws
+pub kept-again : (ws : List ℕ) → Long ws → keptIn ws (rowsIn ws) (queuedIn ws) (passIn ws) ≡ ws
 kept-again ws h = kept-from ws ws h refl beside-same
 
 -- ---- the counters
@@ -271,15 +275,15 @@ again ws at n h =
     let l : length (take n (drop at ws)) ≡ n = length-take-le n (drop at ws) (rw length-drop (omega arith)) in
     rw (run-taken 0 ws at n h, l, ← take-add at n ws) (take-append-drop (at + n) ws)
 
-pub counters-again : (ws : List ℕ) → 101 ≤ length ws → withBytes ws 92 (counterWords (countersIn ws)) ≡ ws
+pub counters-again : (ws : List ℕ) → Long ws → withBytes ws countersAt (counterWords (countersIn ws)) ≡ ws
 unfolding countersIn counterWords
-counters-again ws h = again ws 92 9 h
+counters-again ws h = again ws countersAt 9 (omega arith)
 
-module _ (ws : List ℕ) (c : Counters) (h : 101 ≤ length ws) where
-  pub counters-written : countersIn (withBytes ws 92 (counterWords c)) ≡ c
+module _ (ws : List ℕ) (c : Counters) (h : Long ws) where
+  pub counters-written : countersIn (withBytes ws countersAt (counterWords c)) ≡ c
   unfolding countersIn counterWords
   counters-written =
-      let w : (k : ℕ) → k < 9 → wordIn (withBytes ws 92 (counterWords c)) (92 + k) ≡ getD (counterWords c) k 0 = with-in ws 92 (counterWords c) h in
+      let w : (k : ℕ) → k < 9 → wordIn (withBytes ws countersAt (counterWords c)) (countersAt + k) ≡ getD (counterWords c) k 0 = with-in ws countersAt (counterWords c) (omega arith) in
       rw (
         w 0 (omega arith),
         w 1 (omega arith),
@@ -293,20 +297,20 @@ module _ (ws : List ℕ) (c : Counters) (h : 101 ≤ length ws) where
       ) refl
 
   -- all else stays
-  same : (k : ℕ) → k < 92 → wordIn (withBytes ws 92 (counterWords c)) k ≡ wordIn ws k
-  same k l = with-out ws 92 (counterWords c) (omega (arith, length-counters c)) k (λ a b. omega arith)
+  same : (k : ℕ) → k < countersAt → wordIn (withBytes ws countersAt (counterWords c)) k ≡ wordIn ws k
+  same k l = with-out ws countersAt (counterWords c) (omega (arith, length-counters c)) k (λ a b. omega arith)
 
-  pub first-kept : wordIn (withBytes ws 92 (counterWords c)) 0 ≡ wordIn ws 0
+  pub first-kept : wordIn (withBytes ws countersAt (counterWords c)) 0 ≡ wordIn ws 0
   first-kept = same 0 (omega arith)
 
-  pub rows-kept : rowsIn (withBytes ws 92 (counterWords c)) ≡ rowsIn ws
-  rows-kept = rows-same (withBytes ws 92 (counterWords c)) ws 0 8 (omega arith) (λ k l. same k (omega arith))
+  pub rows-kept : rowsIn (withBytes ws countersAt (counterWords c)) ≡ rowsIn ws
+  rows-kept = rows-same (withBytes ws countersAt (counterWords c)) ws 0 8 (omega arith) (λ k l. same k (omega arith))
 
-  pub queued-kept : queuedIn (withBytes ws 92 (counterWords c)) ≡ queuedIn ws
+  pub queued-kept : queuedIn (withBytes ws countersAt (counterWords c)) ≡ queuedIn ws
   queued-kept = same 89 (omega arith)
 
-  pub pass-kept : passIn (withBytes ws 92 (counterWords c)) ≡ passIn ws
+  pub pass-kept : passIn (withBytes ws countersAt (counterWords c)) ≡ passIn ws
   pass-kept = rw (same 90 (omega arith), same 91 (omega arith)) refl
 
-  pub is-kept-kept : isKept (withBytes ws 92 (counterWords c)) ≡ isKept ws
-  is-kept-kept = rw (first-kept, with-length ws 92 (counterWords c) (omega (arith, length-counters c))) refl
+  pub is-kept-kept : isKept (withBytes ws countersAt (counterWords c)) ≡ isKept ws
+  is-kept-kept = rw (first-kept, with-length ws countersAt (counterWords c) (omega (arith, length-counters c))) refl

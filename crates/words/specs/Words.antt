@@ -1,7 +1,13 @@
--- The state of a store as 101 words of 64 bits, in which a kernel lends it. In this order: the version of this layout, in the low half of its word, and how many rows
--- are in use, in the high half; the eight rows, eleven words each; how many places of the queue are taken; the pass's rounds and freed; and, from the word 92 on, the
--- nine counters. A row is its start, its pages, and its six lists as eighteen 32-bit numbers, two to a word, the first in the low half: of each level the dirty
--- list's front and back, the zeroed list's, and the two counts. The words of the rows that are not in use are nothing's: no call reads them or writes them.
+-- The state of a store as 512 words of 64 bits, in which a kernel lends it: version 2 of this layout.
+--   0            the version, in the low half, and how many rows are in use, in the high half
+--   1 to 88      the eight rows, eleven words each: the start, the pages, and the six lists as eighteen 32-bit numbers, two to a word, the first in the low half:
+--                of each level the dirty list's front and back, the zeroed list's, and the two counts
+--   89           how many places of the queue are taken
+--   90 and 91    the pass: its rounds and what it freed
+--   92 to 100    the nine counters
+--   101 to 511   reserved: they have no meaning yet
+-- No call reads or writes the reserved words and those that stand behind the state, nor, where the counters are lent as a record of their own, the words 92 to 100. Of
+-- the rows that are not in use a boot writes the words, and no later call reads or writes them.
 use Prim.Native.Nat.{ℕ, zero, suc, _+_, _*_, _/_, _%_, _≤_, _<_}
 use mathlib.Core.Bool.{Bool, cond, _&&_}
 use mathlib.Core.List.{List, [], _∷_, _++_}
@@ -20,15 +26,34 @@ use Rattle.record.specs.Records.{withBytes}
 abbrev pub wordIn : List ℕ → ℕ → ℕ
 wordIn ws i = getD ws i 0
 
+-- ---- the layout
+
 abbrev pub version : ℕ
-version = 1
+version = 2
 
--- how many words there are, without the counters and with them
-abbrev pub keptWords : ℕ
-keptWords = 92
-
+-- how many words there are
 abbrev pub stateWords : ℕ
-stateWords = 101
+stateWords = 512
+
+-- how many of them a row has, and where the first of the row i stands
+abbrev pub rowWordsEach : ℕ
+rowWordsEach = 11
+
+abbrev pub rowAt : ℕ → ℕ
+rowAt i = 1 + rowWordsEach * i
+
+abbrev pub queuedAt : ℕ
+queuedAt = 89
+
+abbrev pub passAt : ℕ
+passAt = 90
+
+abbrev pub countersAt : ℕ
+countersAt = 92
+
+-- there are words enough for a state
+abbrev pub Long : List ℕ → Type 0
+Long ws = stateWords ≤ length ws
 
 -- the board that the words are of: every state is of the standard one, and no word holds its numbers
 unfoldable pub boardIn : List ℕ → Board
@@ -72,11 +97,11 @@ usedIn ws = highHalf (wordIn ws 0)
 
 -- there are words enough for a state, and its row i is in use
 abbrev pub InUse : List ℕ → ℕ → Type 0
-InUse ws i = (keptWords ≤ length ws) × (i < mostRows) × (i < usedIn ws)
+InUse ws i = Long ws × (i < mostRows) × (i < usedIn ws)
 
 -- the row i: behind those in use it is an unused one, whatever its words are
 abbrev pub rowHere : List ℕ → ℕ → Row
-rowHere ws i = cond (ltb i (usedIn ws)) (rowIn ws (1 + 11 * i)) noRow
+rowHere ws i = cond (ltb i (usedIn ws)) (rowIn ws (rowAt i)) noRow
 
 -- so many rows, the first of which is the i-th
 unfoldable pub rowsFrom : List ℕ → ℕ → ℕ → List Row
@@ -91,28 +116,28 @@ abbrev pub rowOf : List Row → ℕ → Row
 rowOf rows i = getD rows i (record { start = record { 0 = 0 }; pages = 0; lists = [] })
 
 abbrev pub queuedIn : List ℕ → ℕ
-queuedIn ws = wordIn ws 89
+queuedIn ws = wordIn ws queuedAt
 
 abbrev pub passIn : List ℕ → Pass
-passIn ws = record { rounds = wordIn ws 90; freed = wordIn ws 91 }
+passIn ws = record { rounds = wordIn ws passAt; freed = wordIn ws (passAt + 1) }
 
 unfoldable pub countersIn : List ℕ → Counters
 countersIn ws =
     record {
-      «kernel_used» = wordIn ws 92;
-      «page_data» = wordIn ws 93;
-      idle = wordIn ws 94;
-      total = wordIn ws 95;
-      allocated = wordIn ws 96;
-      freed = wordIn ws 97;
-      reclaimed = wordIn ws 98;
-      waiting = wordIn ws 99;
-      «pager_outstanding» = wordIn ws 100;
+      «kernel_used» = wordIn ws countersAt;
+      «page_data» = wordIn ws (countersAt + 1);
+      idle = wordIn ws (countersAt + 2);
+      total = wordIn ws (countersAt + 3);
+      allocated = wordIn ws (countersAt + 4);
+      freed = wordIn ws (countersAt + 5);
+      reclaimed = wordIn ws (countersAt + 6);
+      waiting = wordIn ws (countersAt + 7);
+      «pager_outstanding» = wordIn ws (countersAt + 8);
     }
 
--- enough words for what is kept beside the counters, of this version, and no more rows in use than there are
+-- enough words, of this version, and no more rows in use than there are
 abbrev pub isKept : List ℕ → Bool
-isKept ws = leb keptWords (length ws) && (eqb (lowHalf (wordIn ws 0)) version && leb (usedIn ws) mostRows)
+isKept ws = leb stateWords (length ws) && (eqb (lowHalf (wordIn ws 0)) version && leb (usedIn ws) mostRows)
 
 -- ---- written
 
@@ -146,7 +171,7 @@ keptOf used rows queued pass = joined version used ∷ (rowsWords rows ++ (queue
 -- the same over words of which so many rows are in use already: the first word stays, and so do the words of the unused rows
 unfoldable pub keptIn : List ℕ → List Row → ℕ → Pass → List ℕ
 keptIn ws rows queued pass =
-    withBytes (withBytes ws 1 (rowsWords (take (usedIn ws) rows))) 89 (queued ∷ pass .rounds ∷ pass .freed ∷ [])
+    withBytes (withBytes ws 1 (rowsWords (take (usedIn ws) rows))) queuedAt (queued ∷ pass .rounds ∷ pass .freed ∷ [])
 
 unfoldable pub counterWords : Counters → List ℕ
 counterWords c =
@@ -163,11 +188,11 @@ counterWords c =
 
 -- ---- what stays
 
--- from the words ws on, the state's own may have changed; the first word, those of the unused rows and all that stand behind the state's have not
+-- of the words ws the rows in use, the queue's count and the pass may have changed; the first word, those of the unused rows and all from the counters on have not
 pub record Beside (ws vs : List ℕ) : Type 0 where
   pub version : wordIn vs 0 ≡ wordIn ws 0
-  pub unused : (k : ℕ) → 1 + 11 * usedIn ws ≤ k → k < 89 → wordIn vs k ≡ wordIn ws k
-  pub behind : drop keptWords vs ≡ drop keptWords ws
+  pub unused : (k : ℕ) → rowAt (usedIn ws) ≤ k → k < queuedAt → wordIn vs k ≡ wordIn ws k
+  pub behind : drop countersAt vs ≡ drop countersAt ws
 
 -- nothing has changed but rows
 pub record RowsBeside (ws vs : List ℕ) : Type 0 where

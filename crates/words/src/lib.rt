@@ -1,5 +1,6 @@
-// The state of a store as 101 words of 64 bits, in a lent slice: a row, the queue's count, the pass or the counters are read where they stand, and written there.
-// Any words of the right number and version are some state; whether it is a sound one is the audit's to say. What each word is stands in specs/Words.antt.
+// The state of a store as 512 words of 64 bits, in a lent slice: a row, the queue's count, the pass or the counters are read where they
+// stand, and written there. Any words of the right number and version are some state; whether it is a sound one is the audit's to say. What
+// each word is stands in specs/Words.antt.
 use address::PhysAddr;
 use definition::Board;
 use definition::Counters;
@@ -16,6 +17,9 @@ ghost use Rattle.definition.specs.Torn.{isNoLinks, isNoRow};
 ghost use Rattle.definition.specs.World.{noRow};
 ghost use Rattle.record.specs.Records.{withBytes};
 ghost use Rattle.words.specs.Words.{
+  Long,
+  countersAt,
+  rowWordsEach,
   lowHalf,
   highHalf,
   firstIn,
@@ -42,6 +46,40 @@ ghost use Rattle.words.specs.Words.{
   QueuedBeside,
   PassBeside,
 };
+
+// ---- the layout
+
+const VERSION: u32 = 2;
+
+pub const STATE_WORDS: usize = 512;
+
+const ROW_WORDS: usize = 11;
+
+const QUEUED_AT: usize = 89;
+
+const PASS_AT: usize = 90;
+
+const PASS_FREED_AT: usize = PASS_AT + 1;
+
+const COUNTERS_AT: usize = 92;
+
+const KERNEL_USED_AT: usize = COUNTERS_AT;
+
+const PAGE_DATA_AT: usize = COUNTERS_AT + 1;
+
+const IDLE_AT: usize = COUNTERS_AT + 2;
+
+const TOTAL_AT: usize = COUNTERS_AT + 3;
+
+const ALLOCATED_AT: usize = COUNTERS_AT + 4;
+
+const FREED_AT: usize = COUNTERS_AT + 5;
+
+const RECLAIMED_AT: usize = COUNTERS_AT + 6;
+
+const WAITING_AT: usize = COUNTERS_AT + 7;
+
+const PAGER_OUTSTANDING_AT: usize = COUNTERS_AT + 8;
 
 // ---- the board
 
@@ -91,7 +129,7 @@ fn second_at(words: &[u64], at: usize) -> Links
 
 // The row whose words begin at a place.
 fn row_from(words: &[u64], at: usize) -> Row
-    requires { ⌜ at + 11 ≤ length (now words) ⌝ }
+    requires { ⌜ at + rowWordsEach ≤ length (now words) ⌝ }
     ensures { λ r. ⌜ r ≡ rowIn (now (words .entry)) at ⌝ }
 {
     let start = PhysAddr(words[at]);
@@ -113,7 +151,7 @@ fn row_from(words: &[u64], at: usize) -> Row
 
 // How many rows are in use.
 pub fn used_in(words: &[u64]) -> usize
-    requires { ⌜ 92 ≤ length (now words) ⌝ }
+    requires { ⌜ Long (now words) ⌝ }
     ensures { λ r. ⌜ (r ≡ usedIn (now (words .entry))) × (r < 4294967296) ⌝ }
 {
     high_half(words[0]) as usize
@@ -137,11 +175,11 @@ fn no_row() -> Row
 
 // The row i of the eight.
 pub fn row_at(words: &[u64], i: usize) -> Row
-    requires { ⌜ (92 ≤ length (now words)) × (i < 8) ⌝ }
+    requires { ⌜ Long (now words) × (i < 8) ⌝ }
     ensures { λ r. ⌜ r ≡ rowOf (rowsIn (now (words .entry))) i ⌝ }
 {
     if i < used_in(words) {
-        return row_from(words, 1 + 11 * i);
+        return row_from(words, 1 + ROW_WORDS * i);
     }
     no_row()
 }
@@ -151,7 +189,7 @@ pub fn list_at(words: &[u64], i: usize, k: usize) -> Links
     requires { ⌜ InUse (now words) i × (k < 6) ⌝ }
     ensures { λ r. ⌜ r ≡ listIn (rowOf (rowsIn (now (words .entry))) i) k ⌝ }
 {
-    let at = 3 + 11 * i + 3 * (k / 2);
+    let at = 3 + ROW_WORDS * i + 3 * (k / 2);
     if k % 2 == 0 {
         return first_at(words, at);
     }
@@ -161,9 +199,11 @@ pub fn list_at(words: &[u64], i: usize, k: usize) -> Links
 // Whether the three words of a level are zeros, as they are where both of its lists are empty.
 pub fn is_bare(words: &[u64], i: usize, level: usize) -> bool
     requires { ⌜ InUse (now words) i × (level < 3) ⌝ }
-    ensures { λ r. ⌜ r ≡ (isNoLinks (listIn (rowOf (rowsIn (now (words .entry))) i) (2 * level)) && isNoLinks (listIn (rowOf (rowsIn (now (words .entry))) i) (2 * level + 1))) ⌝ }
+    ensures { λ r. ⌜ r
+        ≡ (isNoLinks (listIn (rowOf (rowsIn (now (words .entry))) i) (2 * level))
+        && isNoLinks (listIn (rowOf (rowsIn (now (words .entry))) i) (2 * level + 1))) ⌝ }
 {
-    let at = 3 + 11 * i + 3 * level;
+    let at = 3 + ROW_WORDS * i + 3 * level;
     if words[at] != 0 {
         return false;
     }
@@ -175,23 +215,23 @@ pub fn is_bare(words: &[u64], i: usize, level: usize) -> bool
 
 // How many pages the row i has: 0 where it is not in use.
 pub fn pages_at(words: &[u64], i: usize) -> usize
-    requires { ⌜ (92 ≤ length (now words)) × (i < 8) ⌝ }
+    requires { ⌜ Long (now words) × (i < 8) ⌝ }
     ensures { λ r. ⌜ r ≡ rowOf (rowsIn (now (words .entry))) i .pages ⌝ }
 {
     if i < used_in(words) {
-        return words[2 + 11 * i] as usize;
+        return words[2 + ROW_WORDS * i] as usize;
     }
     0
 }
 
 // Whether eleven words are zeros, as those of an unused row are. All are looked at before any is judged, so that they are read as vectors.
 fn is_no_row(words: &[u64], at: usize) -> bool
-    requires { ⌜ at + 11 ≤ length (now words) ⌝ }
+    requires { ⌜ at + rowWordsEach ≤ length (now words) ⌝ }
     ensures { λ r. ⌜ r ≡ isNoRow (rowIn (now (words .entry)) at) ⌝ }
 {
     let mut none = true;
     let mut k: usize = 0;
-    while k < 11 {
+    while k < ROW_WORDS {
         if words[at + k] != 0 {
             none = false;
         }
@@ -208,23 +248,23 @@ fn at_most(n: usize, most: usize) -> usize
 
 // Whether the rows from `first` on are unused ones. Behind those in use they are.
 pub fn is_no_rows(words: &[u64], first: usize) -> bool
-    requires { ⌜ (92 ≤ length (now words)) × (first ≤ 8) ⌝ }
+    requires { ⌜ Long (now words) × (first ≤ 8) ⌝ }
     ensures { λ r. ⌜ r ≡ all isNoRow (drop first (rowsIn (now (words .entry)))) ⌝ }
 {
-    let end = at_most(1 + 11 * used_in(words), 89);
-    let mut at = 1 + 11 * first;
+    let end = at_most(1 + ROW_WORDS * used_in(words), QUEUED_AT);
+    let mut at = 1 + ROW_WORDS * first;
     while at < end {
         if !is_no_row(words, at) {
             return false;
         }
-        at += 11;
+        at += ROW_WORDS;
     }
     true
 }
 
 // All eight rows, by value.
 pub fn rows_in(words: &[u64]) -> [Row; 8]
-    requires { ⌜ 92 ≤ length (now words) ⌝ }
+    requires { ⌜ Long (now words) ⌝ }
     ensures { λ r. ⌜ r ≡ rowsIn (now (words .entry)) ⌝ }
 {
     [
@@ -240,47 +280,47 @@ pub fn rows_in(words: &[u64]) -> [Row; 8]
 }
 
 pub fn queued_in(words: &[u64]) -> usize
-    requires { ⌜ 92 ≤ length (now words) ⌝ }
+    requires { ⌜ Long (now words) ⌝ }
     ensures { λ r. ⌜ r ≡ queuedIn (now (words .entry)) ⌝ }
 {
-    words[89] as usize
+    words[QUEUED_AT] as usize
 }
 
 pub fn pass_in(words: &[u64]) -> Pass
-    requires { ⌜ 92 ≤ length (now words) ⌝ }
+    requires { ⌜ Long (now words) ⌝ }
     ensures { λ r. ⌜ r ≡ passIn (now (words .entry)) ⌝ }
 {
     Pass {
-        rounds: words[90] as usize,
-        freed: words[91] as usize,
+        rounds: words[PASS_AT] as usize,
+        freed: words[PASS_FREED_AT] as usize,
     }
 }
 
 pub fn counters_in(words: &[u64]) -> Counters
-    requires { ⌜ 101 ≤ length (now words) ⌝ }
+    requires { ⌜ Long (now words) ⌝ }
     ensures { λ r. ⌜ r ≡ countersIn (now (words .entry)) ⌝ }
 {
     Counters {
-        kernel_used: words[92] as usize,
-        page_data: words[93] as usize,
-        idle: words[94] as usize,
-        total: words[95] as usize,
-        allocated: words[96] as usize,
-        freed: words[97] as usize,
-        reclaimed: words[98] as usize,
-        waiting: words[99] as usize,
-        pager_outstanding: words[100] as usize,
+        kernel_used: words[KERNEL_USED_AT] as usize,
+        page_data: words[PAGE_DATA_AT] as usize,
+        idle: words[IDLE_AT] as usize,
+        total: words[TOTAL_AT] as usize,
+        allocated: words[ALLOCATED_AT] as usize,
+        freed: words[FREED_AT] as usize,
+        reclaimed: words[RECLAIMED_AT] as usize,
+        waiting: words[WAITING_AT] as usize,
+        pager_outstanding: words[PAGER_OUTSTANDING_AT] as usize,
     }
 }
 
-// Whether the words are enough for what is kept beside the counters, and of this version, with at most eight rows in use.
+// Whether the words are enough, and of this version, with at most eight rows in use.
 pub fn is_kept(words: &[u64]) -> bool
     ensures { λ r. ⌜ r ≡ isKept (now (words .entry)) ⌝ }
 {
-    if words.len() < 92 {
+    if words.len() < STATE_WORDS {
         return false;
     }
-    if low_half(words[0]) != 1 {
+    if low_half(words[0]) != VERSION {
         return false;
     }
     used_in(words) <= 8
@@ -304,7 +344,7 @@ fn put_pair(words: &mut [u64], at: usize, a: Links, b: Links)
 }
 
 fn put_row_from(words: &mut [u64], at: usize, row: Row)
-    requires { ⌜ at + 11 ≤ length (now words) ⌝ }
+    requires { ⌜ at + rowWordsEach ≤ length (now words) ⌝ }
     ensures { λ _. ⌜ now (words .exit) ≡ withBytes (now (words .entry)) at (rowWords row) ⌝ }
 {
     let start = row.start;
@@ -321,7 +361,7 @@ pub fn put_list(words: &mut [u64], i: usize, k: usize, list: Links)
     ensures row { λ _. ⌜ rowOf (rowsIn (now (words .exit))) i ≡ withList (rowOf (rowsIn (now (words .entry))) i) k list ⌝ }
     ensures rest { λ _. ⌜ RowBeside (now (words .entry)) i (now (words .exit)) ⌝ }
 {
-    let at = 3 + 11 * i + 3 * (k / 2);
+    let at = 3 + ROW_WORDS * i + 3 * (k / 2);
     if k % 2 == 0 {
         let other = second_at(words, at);
         put_pair(words, at, list, other);
@@ -332,48 +372,48 @@ pub fn put_list(words: &mut [u64], i: usize, k: usize, list: Links)
 }
 
 pub fn put_queued(words: &mut [u64], queued: usize)
-    requires { ⌜ 92 ≤ length (now words) ⌝ }
+    requires { ⌜ Long (now words) ⌝ }
     ensures { λ _. ⌜ QueuedBeside (now (words .entry)) queued (now (words .exit)) ⌝ }
 {
-    words[89] = queued as u64;
+    words[QUEUED_AT] = queued as u64;
 }
 
 pub fn put_pass(words: &mut [u64], pass: Pass)
-    requires { ⌜ 92 ≤ length (now words) ⌝ }
+    requires { ⌜ Long (now words) ⌝ }
     ensures { λ _. ⌜ PassBeside (now (words .entry)) pass (now (words .exit)) ⌝ }
 {
-    words[90] = pass.rounds as u64;
-    words[91] = pass.freed as u64;
+    words[PASS_AT] = pass.rounds as u64;
+    words[PASS_FREED_AT] = pass.freed as u64;
 }
 
 // All that is kept beside the counters, with the version.
 pub fn put_kept(words: &mut [u64], used: u32, rows: [Row; 8], queued: usize, pass: Pass)
-    requires { ⌜ 92 ≤ length (now words) ⌝ }
+    requires { ⌜ Long (now words) ⌝ }
     ensures { λ _. ⌜ now (words .exit) ≡ withBytes (now (words .entry)) 0 (keptOf used rows queued pass) ⌝ }
 {
-    words[0] = joined(1, used);
+    words[0] = joined(VERSION, used);
     let mut i: usize = 0;
     while i < 8 {
         let row = rows[i];
-        put_row_from(words, 1 + 11 * i, row);
+        put_row_from(words, 1 + ROW_WORDS * i, row);
         i += 1;
     }
-    words[89] = queued as u64;
-    words[90] = pass.rounds as u64;
-    words[91] = pass.freed as u64;
+    words[QUEUED_AT] = queued as u64;
+    words[PASS_AT] = pass.rounds as u64;
+    words[PASS_FREED_AT] = pass.freed as u64;
 }
 
 pub fn put_counters(words: &mut [u64], counters: Counters)
-    requires { ⌜ 101 ≤ length (now words) ⌝ }
-    ensures { λ _. ⌜ now (words .exit) ≡ withBytes (now (words .entry)) 92 (counterWords counters) ⌝ }
+    requires { ⌜ Long (now words) ⌝ }
+    ensures { λ _. ⌜ now (words .exit) ≡ withBytes (now (words .entry)) countersAt (counterWords counters) ⌝ }
 {
-    words[92] = counters.kernel_used as u64;
-    words[93] = counters.page_data as u64;
-    words[94] = counters.idle as u64;
-    words[95] = counters.total as u64;
-    words[96] = counters.allocated as u64;
-    words[97] = counters.freed as u64;
-    words[98] = counters.reclaimed as u64;
-    words[99] = counters.waiting as u64;
-    words[100] = counters.pager_outstanding as u64;
+    words[KERNEL_USED_AT] = counters.kernel_used as u64;
+    words[PAGE_DATA_AT] = counters.page_data as u64;
+    words[IDLE_AT] = counters.idle as u64;
+    words[TOTAL_AT] = counters.total as u64;
+    words[ALLOCATED_AT] = counters.allocated as u64;
+    words[FREED_AT] = counters.freed as u64;
+    words[RECLAIMED_AT] = counters.reclaimed as u64;
+    words[WAITING_AT] = counters.waiting as u64;
+    words[PAGER_OUTSTANDING_AT] = counters.pager_outstanding as u64;
 }

@@ -1,11 +1,9 @@
--- What `call` comes to on a world: torn, refused, or done. Where it is refused the world stays, every byte of it; where it is done, the world that the new store
--- is written to is what is left.
+-- What `call` comes to on a world: torn, or done, where the world that the new store is written to is what is left.
 use Prim.Native.Nat.{ℕ, _<_}
 use mathlib.Core.Bool.{true, false}
 use mathlib.Core.Option.{Option, none, some}
 use mathlib.Core.Path.{_≡_, refl, sym, ap, _∙_}
 use native.Mathlib.Omega.{arith}
-use lib.ListN.{getD}
 use Rattle.definition.specs.declared.Refusal.{Refusal}
 use Rattle.definition.specs.declared.Refusal.the-variants.{
   LongMap,
@@ -27,12 +25,11 @@ use Rattle.definition.specs.declared.Refusal.the-variants.{
   BadLine,
 }
 use Rattle.definition.specs.Board.{Board}
-use Rattle.definition.specs.Refusal.{lowest, numberOf}
+use Rattle.definition.specs.Refusal.{firstMet, numberOf}
 use Rattle.definition.specs.Calls.{Call, Answer, Refused, Outcome, names, perform, sheet, step}
 use Rattle.definition.specs.World.{World, decode, encode}
-use Rattle.definition.specs.Torn.{Left, Sound, call, sound}
+use Rattle.definition.specs.Torn.{Left, call, sound}
 use Rattle.world.specs.Refusals.{numberIf}
-use Rattle.world.proofs.RoundTrip.{round-trip}
 
 module _ (board : Board) where
   pub torn-call : (w : World) (c : Call) → sound board w ≡ false → call board w c ≡ record { world = w; answer = Refused Torn }
@@ -41,13 +38,7 @@ module _ (board : Board) where
 
   module _ (w : World) (c : Call) (t : sound board w ≡ true) where
     abbrev found : Option Refusal
-    found = lowest (sheet board (decode board w) (names c))
-
-    pub refused-call
-        : Sound board w → ((i : ℕ) → getD (w .records) i 0 < 256) → (r : Refusal) → found ≡ some r
-        → call board w c ≡ record { world = w; answer = Refused r }
-    unfolding call step
-    refused-call S small r e = rw (t, e) (ap (λ (v : World). record { world = v; answer = Refused r }) (round-trip w S small))
+    found = firstMet (sheet board (decode board w) (names c))
 
     pub done-call
         : (o : Outcome) (v : World) → found ≡ none → perform board (decode board w) c ≡ o → encode board (o .store) w ≡ v

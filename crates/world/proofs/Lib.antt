@@ -17,4 +17,3 @@ pub mod Calling
 pub mod Places
 pub mod Writing
 pub mod Spans
-pub mod Leaving

@@ -1,5 +1,5 @@
 -- The store that `decode` reads out of a sound world: the world stands for it (`decode-stands`), and writing it back gives the world again, every byte of
--- it (`round-trip`). So a call that leaves the store as it was leaves the world as it was.
+-- it (`round-trip`). So a call that leaves the store as it was leaves the world as it was. Its table is sane (`sound-sane`).
 use Prim.Native.Nat.{ℕ, _+_, _-_, _*_, _≤_, _<_}
 use mathlib.Core.Bool.{false}
 use mathlib.Core.List.{List, [], _∷_}
@@ -18,16 +18,18 @@ use Rattle.definition.specs.Allocator.{AllocationRegion, managed as managedOf}
 use Rattle.definition.specs.Torn.{Sound, bareRegions, loansLong, regionsOf}
 use Rattle.definition.proofs.Tests.{and-right}
 use Rattle.definition.specs.World.{World, usedRows, recordAt, frameOf, frameAt, bareRegion, decodeRow, decodeRows, decode, encode}
+use Rattle.record.specs.Records.{pagesIn}
 use Rattle.list.proofs.Laws.{all-map}
 use Rattle.region.specs.Rep.{fromOf, managed, stateOf}
 use Rattle.world.specs.Stands.{GoodRows, StandRows, Stands}
 use Rattle.world.specs.Stands.GoodRows.{good-none, good-more}
 use Rattle.world.specs.Stands.StandRows.{stand-none, stand-more}
+use Rattle.world.specs.Tables.{Sane}
 use Rattle.definition.proofs.Bytes.{pages-same}
 use Rattle.world.proofs.Encoding.{stands-encode}
 use Rattle.world.proofs.Memory.{memory-back}
 use Rattle.world.proofs.Numbering.{EachPage, each-first, each-rest, overlap-rest}
-use Rattle.world.proofs.Sheets.{AsBoot, as-boot, sound-rows}
+use Rattle.world.proofs.Sheets.{AsBoot, as-boot, managed-most, rows-apart, sound-rows}
 use Rattle.world.proofs.Unused.{unused-rows}
 
 -- ---- the rows
@@ -132,3 +134,14 @@ module _ {board : Board} where
 
     pub round-trip : ((i : ℕ) → getD (w .records) i 0 < 256) → encode board (decode board w) w ≡ w
     round-trip small = stands-encode w w (decode board w) decode-stands small refl refl refl
+
+    -- its table is sane: what every call asks for
+    pub sound-sane : Sane board (recordAt (w .records)) (pagesIn (w .records)) (w .rows)
+    sound-sane =
+        record {
+          eight = decode-stands .eight;
+          unused = decode-stands .unused;
+          good = sound-rows w sound;
+          apart = rows-apart w sound;
+          most = omega (arith, boot .most, managed-most board (regionsOf board (w .rows)));
+        }

@@ -82,7 +82,7 @@ module _ (board : Board) where
     pub pass : s .pass ≡ w .pass
     pub queue : s .queue ≡ take (w .queued) (w .queue)
     pub queued : w .queued ≤ length (w .queue)
-    pub room : s .room ≡ length (w .queue)
+    pub room : s .kept .room ≡ length (w .queue)
     pub fits : board .page * managedPages board (s .allocator .regions) ≤ length (w .memory)
     pub memory : memoryBytes board (s .memory) (s .allocator .regions) ≡ take (board .page * managedPages board (s .allocator .regions)) (w .memory)
 

@@ -42,9 +42,9 @@ impl Scratch {
         let root = std::env::temp_dir().join(format!("compare-{}", std::process::id()));
         let scratch = Scratch { root, jobs };
         // The definitions' own proofs are not compared, and would fail where a
-        // definition is changed on purpose.
+        // definition is changed on purpose; the code beside them has its own.
         copy(&repository.join("crates/address"), &scratch.crate_directory("address"))?;
-        for part in ["src", "specs"] {
+        for part in ["src", "specs", "proofs/rank_of"] {
             let from = repository.join("crates/definition").join(part);
             copy(&from, &scratch.crate_directory("definition").join(part))?;
         }

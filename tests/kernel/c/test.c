@@ -129,21 +129,28 @@ static void counts(void)
 }
 
 #define BY_NUMBER(op, numbers, count, bytes, length)                                               \
-    jilakkor_call(&counters, store.words, JILAKKOR_KEPT_WORDS, LENT_BESIDE_WORDS, op, numbers,     \
-                  count, bytes, length)
+    jilakkor_call(&counters, LENT, op, numbers, count, bytes, length)
 
-/* The counters are the state's tail, so that both forms serve the same store. */
+/* With the counters copied out and back, both forms serve the same store. */
 static void by_number(void)
 {
     const uint64_t asked[2] = {page, page};
-    struct jilakkor_counters *counters = &store.state.counters;
-    ANSWERED(jilakkor_call(counters, store.words, JILAKKOR_KEPT_WORDS, LENT_BESIDE_WORDS,
-                           JILAKKOR_OP_ALLOC, asked, 2, none, 0),
-             other, page);
-    HOLDS(counters->page_data == 5 && counters->allocated == 7);
+    struct jilakkor_counters counters = store.state.counters;
+    ANSWERED(BY_NUMBER(JILAKKOR_OP_ALLOC, asked, 2, none, 0), other, page);
+    HOLDS(counters.page_data == 5 && counters.allocated == 7);
+    HOLDS(store.state.counters.page_data == 4 && store.state.counters.allocated == 6);
+    HOLDS(BY_NUMBER(JILAKKOR_OP_BOOT + 1, asked, 2, none, 0) == JILAKKOR_BAD_LINE);
+    store.state.counters = counters;
     ANSWERED(jilakkor_free(LENT, other), other, page);
-    HOLDS(jilakkor_call(counters, store.words, JILAKKOR_KEPT_WORDS, LENT_BESIDE_WORDS,
-                        JILAKKOR_OP_BOOT + 1, asked, 2, none, 0) == JILAKKOR_BAD_LINE);
+}
+
+/* The reserved words are as they were before the boot. */
+static void reserved(void)
+{
+    size_t i;
+    for (i = 0; i < sizeof store.state.reserved / sizeof store.state.reserved[0]; i++) {
+        HOLDS(store.state.reserved[i] == UINT64_C(0xA5A5A5A5A5A5A5A5));
+    }
 }
 
 /* The calls over bytes, and a boot, with counters that are in no words. */
@@ -183,6 +190,7 @@ static void refusals(void)
     HOLDS(jilakkor_free(LENT, other) == JILAKKOR_NOT_HELD);
     HOLDS(jilakkor_alloc(LENT, page, 3, 0) == JILAKKOR_BAD_LAYOUT);
     HOLDS(jilakkor_low(store.words, JILAKKOR_WORDS - 1, LENT_BESIDE_WORDS) == JILAKKOR_TORN);
+    HOLDS(jilakkor_low(store.words, 101, LENT_BESIDE_WORDS) == JILAKKOR_TORN);
     HOLDS(memcmp(&before, &store, sizeof store) == 0);
     HOLDS(answer[0] == 77 && answer[1] == 77);
     store.state.counters.idle += 1;
@@ -199,6 +207,7 @@ int main(void)
     by_number();
     refusals();
     bytes_by_number();
+    reserved();
     if (!failed) {
         printf("kernel: every exported function from C, as expected\n");
     }

@@ -1,5 +1,5 @@
 //! Both forms of the counters side by side: each call of a script on the words, and
-//! by its number on words without the counters and a struct of them.
+//! by its number on words and a struct of the counters.
 
 use script::{
     case::{lent, lent_mut},
@@ -49,11 +49,12 @@ extern "C" {
     ) -> u32;
 }
 
-/// Words without the counters, and with them.
-const KEPT: usize = 92;
-const WORDS: usize = 101;
+/// Where the words' own counters start and end.
+const COUNTERS: usize = 92;
+const BEHIND: usize = 101;
 
-const UNLENT: u64 = 0x5eed;
+/// What stands there in the other form, which leaves it alone.
+const NOBODYS: u64 = 0x5eed;
 
 /// The ops beyond those that answer by numbers.
 const WRITE: u64 = 15;
@@ -160,15 +161,15 @@ fn agrees(op: u64, returned: u32, first: &Answer) -> Result<(), String> {
     }
 }
 
-/// Takes the counters out of the words; the other form is not lent their place.
+/// Takes the counters out of the words; in the other form their place is nobody's.
 fn taken(words: &mut [u64]) -> Counters {
     let counters = counters_in(words);
-    words[KEPT..WORDS].fill(UNLENT);
+    words[COUNTERS..BEHIND].fill(NOBODYS);
     counters
 }
 
 fn counters_in(words: &[u64]) -> Counters {
-    let counter = |place: usize| words[KEPT + place] as usize;
+    let counter = |place: usize| words[COUNTERS + place] as usize;
     Counters {
         kernel_used: counter(0),
         page_data: counter(1),
@@ -189,10 +190,10 @@ fn same(lot: &Lot, counters: &Counters, other: &Lot) -> Result<(), String> {
     if state != *counters {
         return Err(format!("the counters differ: {state:?} and {counters:?}"));
     }
-    if kept[KEPT..WORDS] != [UNLENT; WORDS - KEPT] {
-        return Err("words behind those lent were written".into());
+    if kept[COUNTERS..BEHIND] != [NOBODYS; BEHIND - COUNTERS] {
+        return Err("the words' own counters were written".into());
     }
-    if words[..KEPT] != kept[..KEPT] || words[WORDS..] != kept[WORDS..] {
+    if words[..COUNTERS] != kept[..COUNTERS] || words[BEHIND..] != kept[BEHIND..] {
         return Err("the two forms differ in words".into());
     }
     match lot.difference(other) {
@@ -217,7 +218,7 @@ fn text(bytes: &[u8], length: usize) -> Result<Answer, String> {
     Ok(Ok(Told::Text(String::from_utf8_lossy(&bytes[..length]).into())))
 }
 
-/// Lent words without the counters and the counters.
+/// Lent words, and the counters beside them.
 fn by_number(
     op: u64,
     numbers: &[u64],
@@ -226,7 +227,6 @@ fn by_number(
     lot: &mut Lot,
 ) -> u32 {
     let Lent { words, records, memory, queue, answer } = lot.lent();
-    let words = &mut words[..KEPT];
     // Safety: the counters and all slices are lent for the call.
     unsafe {
         jilakkor_call(

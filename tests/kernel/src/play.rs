@@ -88,7 +88,7 @@ pub fn watched(
 
 impl Played {
     /// What differs from the model's run, in words: what is printed, the loans, and
-    /// every word of the state.
+    /// every word of the state, of which those without a meaning are as before the boot.
     pub fn difference(&self, case: &Case) -> Option<String> {
         let store = modelled::store(case);
         if self.booted != store.is_some() {

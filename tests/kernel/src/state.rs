@@ -1,15 +1,17 @@
 //! The state's words as they are to be, from the model's store. Written from
 //! the head of crates/words/specs/Words.antt, and from nothing else.
 
-use jilakkor::WORDS;
 use script::model::{Region, Store};
 
-const VERSION: u64 = 1;
+const VERSION: u64 = 2;
 const ROW: usize = 11;
 
-/// The words of a store.
-pub fn words(store: &Store) -> [u64; WORDS] {
-    let mut words = [0; WORDS];
+/// How many words have a meaning; those behind are left as they are.
+const MEANT: usize = 101;
+
+/// The words of a store that have a meaning.
+pub fn words(store: &Store) -> [u64; MEANT] {
+    let mut words = [0; MEANT];
     words[0] = VERSION | (store.regions.len() as u64) << 32;
     for (row, region) in store.regions.iter().enumerate() {
         words[1 + ROW * row..][..ROW].copy_from_slice(&row_words(region));

@@ -17,7 +17,7 @@ use std::process::ExitCode;
 
 use damage::{Damage, Damager};
 use random::Random;
-use state::{version, Table, ROWS, VERSION, WORDS};
+use state::{version, Table, MEANT, ROWS, VERSION, WORDS};
 use tables::{Extent, Shape};
 use tally::Tally;
 
@@ -125,15 +125,15 @@ fn compare(table: &Table) -> Result<Option<sheet::Sentence>, String> {
 }
 
 /// Too few words are no state, nor are those of another version or with more than
-/// eight rows in use; words past the state's are not looked at.
+/// eight rows in use; words past the counters are not looked at.
 fn other_words(table: &Table) -> Result<(), String> {
     let words = table.state.words();
-    for few in [0, 1, 92, WORDS - 1] {
+    for few in [0, 1, 92, 101, WORDS - 1] {
         if store::audit(&words[..few], table) != 6 {
             return Err(format!("{few} words are taken for a state"));
         }
     }
-    for other in [0, VERSION + 1, (VERSION + 1) | 8 << 32, u64::MAX] {
+    for other in [0, VERSION - 1, VERSION + 1, (VERSION + 1) | 8 << 32, u64::MAX] {
         let mut words = words;
         words[0] = other;
         if store::audit(&words, table) != 6 {
@@ -162,10 +162,11 @@ fn other_words(table: &Table) -> Result<(), String> {
             return Err("a row less is in use, and the counters still hold".into());
         }
     }
-    let words = table.state.words();
+    let mut words = table.state.words();
+    words[MEANT..].fill(u64::MAX);
     let longer = [&words[..], &[u64::MAX]].concat();
     match store::audit(&longer, table) {
         0 => Ok(()),
-        answer => Err(format!("with a word more the store answers {answer}")),
+        answer => Err(format!("with other words behind the counters the store answers {answer}")),
     }
 }

@@ -21,9 +21,12 @@ const COUNTERS: usize = QUEUED + 3;
 /// The numbers of a state, in the order of its words.
 pub const NUMBERS: usize = COUNTERS + 9;
 
-/// The words in which a state is lent: a version, and two numbers of a list in one.
-pub const WORDS: usize = 101;
-pub const VERSION: u64 = 1;
+/// The words in which a state is lent: a version, two numbers of a list in one, and
+/// behind the counters words without a meaning.
+pub const WORDS: usize = 512;
+/// Those that have one.
+pub const MEANT: usize = 101;
+pub const VERSION: u64 = 2;
 
 #[derive(Clone, Copy, Default)]
 pub struct Links {

@@ -1,8 +1,8 @@
--- The two frames that were looked at: of their refusals the lower, or what `copy_contents_from` leaves.
+-- The two frames that were looked at: of their refusals the one that is tried first, or what `copy_contents_from` leaves.
 use mathlib.Core.Path.{_≡_, sym, _∙_}
 use borrow.Author.Needs.{needs}
 use Rattle.exam.specs.Making.{world}
-use Rattle.copies.proofs.Copying.{copy-made, copy-refused, lower-none, spans-of}
+use Rattle.copies.proofs.Copying.{copy-made, copy-refused, earlier-none, spans-of}
 use Rattle.copies.proofs.copy.Statement.{statement}
 use Rattle.copies.proofs.copy.Tie as tie
 
@@ -10,7 +10,7 @@ use Rattle.copies.proofs.copy.Tie as tie
 abbrev start : tie.After-look → tie.Start
 start d = d .before .before .before .before .before
 
-abbrev looked : tie.After-lower → tie.After-look
+abbrev looked : tie.After-earlier → tie.After-look
 looked l = l .before .before .before
 
 abbrev copied : tie.After-done → tie.After-copy-contents-from
@@ -19,7 +19,7 @@ copied c = c .before .before .before .before .before .before
 none : (e : tie.Else1) → (looked (e .before) .look .result .number ≡ 0) × (e .before .before .look2 .result .number ≡ 0)
 none e =
     let l = e .before in
-    lower-none (looked l .look .result .number) (l .before .look2 .result .number) (sym (l .lower .ensures) ∙ e .if1 .left)
+    earlier-none (looked l .look .result .number) (l .before .look2 .result .number) (sym (l .earlier .ensures) ∙ e .if1 .left)
 
 look-requires : tie.Need-look-requires
 look-requires c κs = search needs
@@ -27,8 +27,8 @@ look-requires c κs = search needs
 look-requires-2 : tie.Need-look-requires-2
 look-requires-2 c κs = search needs
 
-lower-requires : tie.Need-lower-requires
-lower-requires c κs = search needs
+earlier-requires : tie.Need-earlier-requires
+earlier-requires c κs = search needs
 
 refused-requires : tie.Need-refused-requires
 refused-requires c κs = search needs
@@ -40,7 +40,7 @@ returns : tie.Need-returns
 returns c k q s H =
     let l = c .before .before in
     rw (c .refused .ensures)
-    (copy-refused H (looked l .look .ensures) (l .before .look2 .ensures) (l .lower .result) (l .lower .ensures) (c .before .if1 .taken))
+    (copy-refused H (looked l .look .ensures) (l .before .look2 .ensures) (l .earlier .result) (l .earlier .ensures) (c .before .if1 .taken))
 
 copy-contents-from-requires : tie.Need-copy-contents-from-requires
 copy-contents-from-requires c κs =
@@ -85,7 +85,7 @@ copy-spec =
     (tie.spec
     look-requires
     look-requires-2
-    lower-requires
+    earlier-requires
     refused-requires
     same-length
     returns

@@ -1,4 +1,4 @@
--- The frame that was looked at and the place that was seen: of their refusals the lower, or what `move_into` leaves.
+-- The frame that was looked at and the place that was seen: of their refusals the one that is tried first, or what `move_into` leaves.
 use Prim.Native.Nat.{ℕ, _+_, _*_, _/_, _%_, _≤_}
 use mathlib.Core.Path.{_≡_, sym, _∙_}
 use native.Mathlib.Omega.{arith}
@@ -13,7 +13,7 @@ use Rattle.allocator.proofs.Standing.{sane-table, standing}
 use Rattle.exam.specs.Making.{world}
 use Rattle.exam.proofs.Making.{whole-table}
 use Rattle.copies.specs.Copies.{placeSeen}
-use Rattle.copies.proofs.Copying.{lower-none, spans-of}
+use Rattle.copies.proofs.Copying.{earlier-none, spans-of}
 use Rattle.copies.proofs.Placing.{pcopy-made, pcopy-refused, place-bytes, place-ends, seen-placed}
 use Rattle.copies.proofs.pcopy.Statement.{statement}
 use Rattle.copies.proofs.pcopy.Tie as tie
@@ -25,7 +25,7 @@ start d = d .before .before .before .before .before
 abbrev looked : tie.After-see → tie.After-look
 looked d = d .before .before
 
-abbrev seen : tie.After-lower → tie.After-see
+abbrev seen : tie.After-earlier → tie.After-see
 seen l = l .before .before
 
 abbrev tested : tie.After-place → tie.Else1
@@ -50,7 +50,7 @@ none : (e : tie.Else1) → let d = seen (e .before) in (looked d .look .result .
 none e =
     let l = e .before in
     let d = seen l in
-    lower-none (looked d .look .result .number) (refusal d) (sym (rw (l .before .place-refusal .ensures) at (l .lower .ensures)) ∙ e .if1 .left)
+    earlier-none (looked d .look .result .number) (refusal d) (sym (rw (l .before .place-refusal .ensures) at (l .earlier .ensures)) ∙ e .if1 .left)
 
 -- the place lies in the loan
 ends
@@ -78,8 +78,8 @@ place-refusal-requires c κs =
     let b = start (looked c) in
     (b .pre .0 .0, seen-placed (b .pre .0 .1) (b .args .source .0) (sees c) (fit-in (b .args .words .now)))
 
-lower-requires : tie.Need-lower-requires
-lower-requires c κs = search needs
+earlier-requires : tie.Need-earlier-requires
+earlier-requires c κs = search needs
 
 refused-requires : tie.Need-refused-requires
 refused-requires c κs = search needs
@@ -93,8 +93,8 @@ returns c k q s H =
     let d = seen l in
     let Y = d .see .ensures (s .allocator) (whole-table H) in
     rw (c .refused .ensures)
-    (pcopy-refused H (start (looked d) .args .source .0) Y (looked d .look .ensures) (l .lower .result)
-    (rw (l .before .place-refusal .ensures) at (l .lower .ensures)) (c .before .if1 .taken))
+    (pcopy-refused H (start (looked d) .args .source .0) Y (looked d .look .ensures) (l .earlier .result)
+    (rw (l .before .place-refusal .ensures) at (l .earlier .ensures)) (c .before .if1 .taken))
 
 board-in-requires : tie.Need-board-in-requires
 board-in-requires c κs = search needs
@@ -158,7 +158,7 @@ pcopy-spec =
     look-requires
     see-requires
     place-refusal-requires
-    lower-requires
+    earlier-requires
     refused-requires
     same-length
     returns

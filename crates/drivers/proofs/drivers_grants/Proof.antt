@@ -1,4 +1,5 @@
 -- Each turn is that of the world as the last left it, and the loans keep their lengths.
+use Rattle.words.specs.Words.{stateWords}
 use borrow.Author.Needs.{needs}
 use Prim.Native.Nat.{_-_, _<_, _^_}
 use mathlib.Core.Path.{_≡_}
@@ -12,7 +13,7 @@ use Rattle.drivers.proofs.drivers_grants.Tie as tie
 
 abbrev Inv-loop : tie.InvT-loop
 Inv-loop records₀ memory₀ queue start bytes times words₀ counters₀ i₀ records memory words counters i =
-    (times < 2 ^ 64) × (length words ≡ 92) × (length records ≡ length records₀) × (length memory ≡ length memory₀)
+    (times < 2 ^ 64) × (length words ≡ stateWords) × (length records ≡ length records₀) × (length memory ≡ length memory₀)
     × Onward grantAndFree times (worldOf (stateWith counters₀ words₀) records₀ memory₀ queue) (worldOf (stateWith counters words) records memory queue) i
 
 abbrev μ-loop : tie.MeasureT-loop

@@ -10,7 +10,7 @@ use Rattle.definition.specs.declared.Row.{Row}
 use Rattle.definition.specs.World.{noLinks, noRow}
 use Rattle.record.specs.Records.{withBytes}
 use Rattle.record.proofs.Bytes.{with-length}
-use Rattle.words.specs.Words.{InUse, NarrowRow, keptOf, rowOf, rowsIn}
+use Rattle.words.specs.Words.{Long, InUse, NarrowRow, keptOf, rowOf, rowsIn}
 use Rattle.words.proofs.Words.{length-kept, used-written, rows-written}
 use Rattle.words.proofs.Owned.{row-narrow}
 use Rattle.leaves.proofs.keep.Statement.{statement}
@@ -31,7 +31,7 @@ alone-narrow : (row : Row) → NarrowRow row → (i : ℕ) → i < 8 → NarrowR
 alone-narrow row n zero h = n
 alone-narrow row n (suc i) h = rw (getD-replicate 7 i noRow noRow (omega arith)) unused-narrow
 
-module _ (ws : List ℕ) (row : Row) (h : 92 ≤ length ws) (n : NarrowRow row) where
+module _ (ws : List ℕ) (row : Row) (h : Long ws) (n : NarrowRow row) where
   abbrev none : Pass
   none = record { rounds = 0; freed = 0 }
 

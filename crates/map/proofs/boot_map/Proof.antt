@@ -43,6 +43,7 @@ use Rattle.definition.specs.declared.Counters.{Counters}
 use Rattle.definition.specs.declared.MemoryRegion.{MemoryRegion}
 use Rattle.definition.specs.Board.{Fit}
 use Rattle.definition.specs.World.{World}
+use Rattle.words.specs.Words.{Long}
 use Rattle.definition.proofs.Board as B
 use Rattle.definition.proofs.Board.Laws as B′
 use Rattle.definition.proofs.Counters as T
@@ -192,7 +193,7 @@ module _ {M : Type 1} (𝓤 : URA M) (H : Heap 𝓤) (A : Atoms 𝓤) (W : Given
   abbrev to-boot : Gathered → Val → Boot 𝓤 H A mem run .Ghost
   to-boot g v = ((κs, (q₀, (q₂, (q₃, (q₄, tt)))), tt, (board, (g, (counters, (words, (records, (memory, (queue, tt))))))), (v₁ ∷ [], (v ∷ [], (v₂ ∷ [], (v₃ ∷ [], at .1 .1 .1 .1))))), tt)
 
-  goes-boot : Fit board × (92 ≤ length (now words)) → (g : Gathered) (v : Val) → ent 𝓤 (⋆ 𝓤 H A (T₄ ∷ ‵ (All g v) ∷ [])) (Boot 𝓤 H A mem run .pre (to-boot g v))
+  goes-boot : Fit board × Long (now words) → (g : Gathered) (v : Val) → ent 𝓤 (⋆ 𝓤 H A (T₄ ∷ ‵ (All g v) ∷ [])) (Boot 𝓤 H A mem run .pre (to-boot g v))
   goes-boot h g v = qed W (T₄ ∷ ‵ (All g v) ∷ []) ∵ says ! h $ join ! $ done !
 
   -- the memory and the queue are Copy: a copy of each is kept for the exit
@@ -230,7 +231,7 @@ module _ {M : Type 1} (𝓤 : URA M) (H : Heap 𝓤) (A : Atoms 𝓤) (W : Given
       move ! (2 ∷ []) $ split ! $ move ! (1 ∷ 2 ∷ []) $ fjoin ! $ move ! (1 ∷ 0 ∷ []) $ fjoin ! $ move ! (3 ∷ 0 ∷ []) $ fjoin ! $ move ! (1 ∷ 0 ∷ []) $ fjoin ! $ move ! (1 ∷ 0 ∷ []) $ fjoin ! $ nothing ! $ fjoin ! $ nothing ! $ fjoin ! $ frame ! $ done !
 
   module _ (C : Calls 𝓤 H) (Λ : Loops 𝓤 H) (fm : FmC 𝓤 H (W .laws) C) (known-gather : Triple 𝓤 (C #map·gather) (Gather 𝓤 H A mem run)) (known-boot : Triple 𝓤 (C #map·boot-gathered) (Boot 𝓤 H A mem run))
-      (is₁ : Is B.the-row board (v₁ ∷ [])) (is₂ : Is T.the-row counters (v₂ ∷ [])) (g₃ : Room u64 (length (words .now))) (g₄ : Room R.the-row (length (map .now))) (g₅ : Room u8 (length (records .now))) (g₆ : Room u8 (length (memory .now))) (g₇ : Room u64 (length (queue .now))) (h : Fit board × (92 ≤ length (now words))) where
+      (is₁ : Is B.the-row board (v₁ ∷ [])) (is₂ : Is T.the-row counters (v₂ ∷ [])) (g₃ : Room u64 (length (words .now))) (g₄ : Room R.the-row (length (map .now))) (g₅ : Room u8 (length (records .now))) (g₆ : Room u8 (length (memory .now))) (g₇ : Room u64 (length (queue .now))) (h : Fit board × Long (now words)) where
     module _ (l₀ l₁ l₂ l₃ l₄ l₅ l₆ l₇ l₈ l₉ l₁₀ l₁₁ l₁₂ : ℕ) where
       abbrev En : Env 𝓤 H
       En = (O′.mir, l₀) ∷ (B′.mir, l₁) ∷ (T′.mir, l₂) ∷ (τ₃, l₃) ∷ (τ₄, l₄) ∷ (τ₅, l₅) ∷ (τ₆, l₆) ∷ (τ₇, l₇) ∷ (S′.mir, l₈) ∷ (ref64, l₉) ∷ (sliceTy ref64, l₁₀) ∷ (ref8, l₁₁) ∷ (sliceTy ref8, l₁₂) ∷ []
@@ -301,7 +302,7 @@ module _ {M : Type 1} (𝓤 : URA M) (H : Heap 𝓤) (A : Atoms 𝓤) (W : Given
   boot-walks : Walks 𝓤 H A f.ended stayed (WpFn 𝓤 H (𝓣 .C) (𝓣 .Λ) code.function) (f.clauses 𝓤 H A mem run)
   boot-walks = walked 𝓤 H A f.ended stayed (f.clauses 𝓤 H A mem run) (WpFn 𝓤 H (𝓣 .C) (𝓣 .Λ) code.function) (λ κs. (LL.vals B.the-type B′.the-laws, (LL.vals T.the-type T′.the-laws, (slice-vals, (slice-vals, (slice-vals, (slice-vals, (slice-vals, tt))))))))
       (λ κs. (LL.tells B.the-type B′.the-laws, (LL.tells T.the-type T′.the-laws, (mut-slice-tells (named 0) (κs .0) u64, (shr-slice-tells (named 1) (κs .1 .0) R.the-row, (mut-slice-tells (named 2) (κs .1 .1 .0) u8, (shr-slice-tells (named 3) (κs .1 .1 .1 .0) u8, (shr-slice-tells (named 4) (κs .1 .1 .1 .1 .0) u64, tt))))))))
-      (λ κs qs bounds a _ are. needs 𝓤 (Fit (a .0) × (92 ≤ length (now (a .1 .1 .0)))) _ (λ h. walk 𝓤 H A W mem run (κs .0) (κs .1 .0) (κs .1 .1 .0) (κs .1 .1 .1 .0) (κs .1 .1 .1 .1 .0) (qs .0) (qs .1 .0) (qs .1 .1 .0) (qs .1 .1 .1 .0) (qs .1 .1 .1 .1 .0)
+      (λ κs qs bounds a _ are. needs 𝓤 (Fit (a .0) × Long (now (a .1 .1 .0))) _ (λ h. walk 𝓤 H A W mem run (κs .0) (κs .1 .0) (κs .1 .1 .0) (κs .1 .1 .1 .0) (κs .1 .1 .1 .1 .0) (qs .0) (qs .1 .0) (qs .1 .1 .0) (qs .1 .1 .1 .0) (qs .1 .1 .1 .1 .0)
       (a .0) (a .1 .0) (a .1 .1 .0) (a .1 .1 .1 .0) (a .1 .1 .1 .1 .0) (a .1 .1 .1 .1 .1 .0) (a .1 .1 .1 .1 .1 .1 .0) (𝓣 .C) (𝓣 .Λ) (fmOf 𝓤 H (W .laws) 𝓣) known-gather known-boot
       (are .0) (are .1 .0) (are .1 .1 .0 .0 .1) (are .1 .1 .1 .0 .0 .1) (are .1 .1 .1 .1 .0 .0 .1) (are .1 .1 .1 .1 .1 .0 .0 .1) (are .1 .1 .1 .1 .1 .1 .0 .0 .1) h))
 

@@ -12,7 +12,7 @@ use Rattle.definition.specs.Board.{Board}
 use Rattle.definition.specs.Tracker.{shouldReclaim}
 use Rattle.definition.specs.World.{recordAt}
 use Rattle.record.specs.Records.{pagesIn}
-use Rattle.words.specs.Words.{boardIn, passIn}
+use Rattle.words.specs.Words.{boardIn, Long, passIn}
 use Rattle.words.proofs.Words.{beside-then, fit-in}
 use Rattle.exam.specs.Promise.{stateWith}
 use Rattle.exam.proofs.Making.{bytes-small}
@@ -79,7 +79,7 @@ frees-here
 frees-here x = rw (board (passed (tested x)) .board-in .ensures .0) at (x .reclaim-up-to .ensures .0)
 
 -- the words are as many as they were
-words-here : (x : tie.After-reclaim-up-to) → 92 ≤ length (x .reclaim-up-to .last .1 .0)
+words-here : (x : tie.After-reclaim-up-to) → Long (x .reclaim-up-to .last .1 .0)
 words-here x = omega (arith, start (passed (tested x)) .pre .0 .0, x .reclaim-up-to .kept .1 .0)
 
 board-in-requires : tie.Need-board-in-requires

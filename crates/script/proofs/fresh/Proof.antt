@@ -4,12 +4,12 @@ use borrow.Author.Needs.{needs}
 use lib.ListN.{replicate}
 use Rattle.definition.specs.Boot.{countersAtBoot}
 use Rattle.exam.specs.Promise.{stateWith}
-use Rattle.words.specs.Words.{rowsFrom}
+use Rattle.words.specs.Words.{stateWords, rowsFrom}
 use Rattle.script.specs.Running.{unbooted}
 use Rattle.script.proofs.fresh.Tie as tie
 use Rattle.script.proofs.fresh.Statement.{statement}
 
-zeros : stateWith (countersAtBoot 0) (replicate 92 0) ≡ unbooted
+zeros : stateWith (countersAtBoot 0) (replicate stateWords 0) ≡ unbooted
 unfolding rowsFrom
 zeros = refl
 

@@ -1,5 +1,5 @@
--- A bad line before a boot; after it, the line of a refusal or the report's text, which its array holds.
-use Prim.Native.Nat.{ℕ, _≤_}
+-- A bad line before a boot; after it, the report's text, which its array holds.
+use Prim.Native.Nat.{_≤_}
 use mathlib.Core.List.{List}
 use mathlib.Core.Path.{_≡_, sym, _∙_}
 use mathlib.Core.Bool.{false}
@@ -15,10 +15,8 @@ use Rattle.counts.proofs.Report as P
 use Rattle.definition.specs.Calls.{Stats}
 use Rattle.definition.specs.Script.{Ask}
 use Rattle.definition.specs.Text.{bytesOf}
-use Rattle.words.proofs.Words.{board-is}
 use Rattle.script.specs.Running.{programBoard}
-use Rattle.script.proofs.Turning.{does, turned-refused, turned-stats}
-use Rattle.script.proofs.Answers.{stats-tells}
+use Rattle.script.proofs.Turning.{does, turned-stats}
 use Rattle.script.proofs.stats_now.Tie as tie
 use Rattle.script.proofs.stats_now.Statement.{statement}
 
@@ -32,16 +30,13 @@ pub record Short (r : Report) : Type 0 where
   pub part : length (take (r .len) (r .text)) ≡ r .len
   pub most : r .len ≤ 368
 
--- the words, whose board is the standard one
-abbrev lent : tie.After-stats → List ℕ
-lent c = c .before .before .before .before .before .before .before .before .args .words .now
-
 short : (c : tie.After-stats) → Short (c .stats .result)
 short c =
     let r = c .stats .result in
-    let h = stats-tells programBoard (bytesOf "stats") _ r (rw (board-is (lent c)) at (c .stats .ensures)) .short in
     let k : length (r .text) ≡ 368 = report-long r _ (c .stats .ok) in
-    record { inside = h; part = length-take-le (r .len) (r .text) h; most = omega arith }
+    let m : r .len ≤ 368 = c .stats .ensures .1 in
+    let h : r .len ≤ length (r .text) = omega arith in
+    record { inside = h; part = length-take-le (r .len) (r .text) h; most = m }
 
 bad-requires : tie.Need-bad-requires
 bad-requires c κs = search needs
@@ -52,47 +47,30 @@ same-length c = search needs
 returns : tie.Need-returns
 returns c =
     let B = c .before .before .bad in
-    (does programBoard (Ask Stats) (bytesOf "stats") false (not-true _ (c .before .before .before .before .if1 .taken)) (B .ensures .0 _ _), B .ensures .1)
+    let early = not-true _ (c .before .before .before .before .if1 .taken) in
+    (λ ws l sure small. does programBoard (Ask Stats) (bytesOf "stats") false early (B .ensures .0 ws l), B .ensures .1)
 
 stats-requires : tie.Need-stats-requires
-stats-requires c κs = search needs
+stats-requires c κs = c .before .before .before .pre .0 (not-false _ (c .if1 .left))
 
-refused-requires : tie.Need-refused-requires
-refused-requires c κs = search needs
+array-share-prefix-text : tie.Need-array-share-prefix-text
+array-share-prefix-text c = short (c .before .before) .inside
 
-put-line-requires : tie.Need-put-line-requires
-put-line-requires c κs = search needs
+slice-aggregate-put-text : tie.Need-slice-aggregate-put-text
+slice-aggregate-put-text c = sym (short (c .before .before .before) .part)
+
+put-text-requires : tie.Need-put-text-requires
+put-text-requires c κs = let h = short (c .before .before .before) in omega (arith, h .part, h .most)
 
 same-length-2 : tie.Need-same-length-2
 same-length-2 c = search needs
 
 returns-2 : tie.Need-returns-2
 returns-2 c =
-    let p = c .before .before in
-    let q = p .before .before .before .before .before in
-    let t = p .before .before .before in
-    let w = rw (p .before .refused .ensures) at (p .put-line .ensures .0) in
-    (turned-refused programBoard (bytesOf "stats") (not-false _ (q .before .if1 .left)) (rw (board-is (lent q)) at (q .stats .ensures)) (t .if2 .taken) w, (omega arith, omega arith))
-
-array-share-prefix-text : tie.Need-array-share-prefix-text
-array-share-prefix-text c = short (c .before .before .before .before) .inside
-
-slice-aggregate-put-text : tie.Need-slice-aggregate-put-text
-slice-aggregate-put-text c = sym (short (c .before .before .before .before .before) .part)
-
-put-text-requires : tie.Need-put-text-requires
-put-text-requires c κs = let h = short (c .before .before .before .before .before) in omega (arith, h .part, h .most)
-
-same-length-3 : tie.Need-same-length-3
-same-length-3 c = search needs
-
-returns-3 : tie.Need-returns-3
-returns-3 c =
     let p = c .before .before .put-text .ensures in
-    let t = c .before .before .before .before .before .before in
-    let q = t .before .before in
+    let q = c .before .before .before .before .before .before in
     let h = short q in (
-      turned-stats programBoard (bytesOf "stats") (not-false _ (q .before .if1 .left)) (rw (board-is (lent q)) at (q .stats .ensures)) (t .if2 .left) p,
+      turned-stats programBoard (not-false _ (q .before .if1 .left)) (q .stats .ensures .0) p,
       (omega (arith, p .after, h .part, h .most), omega arith),
     )
 
@@ -104,12 +82,8 @@ stats-now-spec =
     same-length
     returns
     stats-requires
-    refused-requires
-    put-line-requires
-    same-length-2
-    returns-2
     array-share-prefix-text
     slice-aggregate-put-text
     put-text-requires
-    same-length-3
-    returns-3)
+    same-length-2
+    returns-2)

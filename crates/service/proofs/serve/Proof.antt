@@ -5,7 +5,7 @@ use native.Mathlib.Omega.{arith}
 use borrow.Author.Needs.{needs}
 use borrow.Author.Tests.{not-true, not-false}
 use Rattle.service.specs.Serving.{Lent, isLent}
-use Rattle.service.proofs.Serving.{in-words, lent-long, serves-torn}
+use Rattle.service.proofs.Serving.{in-words, lent-words, serves-torn}
 use Rattle.service.proofs.serve.Statement.{statement}
 use Rattle.service.proofs.serve.Tie as tie
 
@@ -44,7 +44,7 @@ returns c =
 
 counters-in-requires : tie.Need-counters-in-requires
 counters-in-requires c κs =
-    let e = c .before in lent-long (loans (start (e .before))) (lent e)
+    let e = c .before in lent-words (loans (start (e .before))) (lent e)
 
 serve-with-requires : tie.Need-serve-with-requires
 serve-with-requires c κs = search needs
@@ -53,7 +53,7 @@ put-counters-requires : tie.Need-put-counters-requires
 put-counters-requires c κs =
     let x = c .before .before .before .before .before .before .before .before .before .before .before .before in
     let e = x .before .before .before .before .before .before .before .before in
-    omega (arith, x .serve-with .kept .1 .0, lent-long (loans (start (e .before))) (lent e))
+    omega (arith, x .serve-with .kept .1 .0, lent-words (loans (start (e .before))) (lent e))
 
 same-length-3 : tie.Need-same-length-3
 same-length-3 c = search needs

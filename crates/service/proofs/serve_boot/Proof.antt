@@ -3,6 +3,7 @@ use mathlib.Core.Path.{refl, _∙_}
 use borrow.Author.Needs.{needs}
 use borrow.Author.Tests.{lt-leb}
 use lib.ListN.{length}
+use Rattle.words.specs.Words.{stateWords}
 use Rattle.service.specs.Serving.{Lent}
 use Rattle.service.proofs.Serving.{boot-in-words, boots-short}
 use Rattle.service.proofs.serve_boot.Statement.{statement}
@@ -25,7 +26,7 @@ returns : tie.Need-returns
 returns c =
     λ ms e f.
     let s = c .before .before .before .before .before .before .before in
-    boots-short ms (loans s) (rw (lt-leb 101 (length (s .args .words .now)) (c .before .if1 .taken)) refl) (c .short-boot .ensures ms e f)
+    boots-short ms (loans s) (rw (lt-leb stateWords (length (s .args .words .now)) (c .before .if1 .taken)) refl) (c .short-boot .ensures ms e f)
 
 counters-in-requires : tie.Need-counters-in-requires
 counters-in-requires c κs = search needs

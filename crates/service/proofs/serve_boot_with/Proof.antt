@@ -4,7 +4,7 @@ use mathlib.Core.Path.{_≡_, sym, _∙_}
 use borrow.Author.Needs.{needs}
 use borrow.Author.Tests.{not-true, not-false}
 use Rattle.definition.proofs.Boards.{standard-fit}
-use Rattle.service.specs.Serving.{Lent, isRoomyKept}
+use Rattle.service.specs.Serving.{Lent, isRoomy}
 use Rattle.service.proofs.Serving.{boots, boots-with-short, roomy-room, roomy-words}
 use Rattle.service.proofs.serve_boot_with.Statement.{statement}
 use Rattle.service.proofs.serve_boot_with.Tie as tie
@@ -23,7 +23,7 @@ loans s =
       answer = s .args .answer .now;
     }
 
-roomy : (c : tie.Else1) → isRoomyKept (loans (start (c .before))) ≡ true
+roomy : (c : tie.Else1) → isRoomy (loans (start (c .before))) ≡ true
 roomy c = sym (c .before .is-roomy .ensures) ∙ not-false (c .before .is-roomy .result) (c .if1 .left)
 
 is-roomy-requires : tie.Need-is-roomy-requires

@@ -6,7 +6,7 @@ use borrow.Author.Tests.{not-true, not-false}
 use Rattle.words.specs.Words.{countersIn}
 use Rattle.words.proofs.Words.{beside-same}
 use Rattle.service.specs.Serving.{Lent, isLent}
-use Rattle.service.proofs.Serving.{kept-in-words, lent-kept, lent-long, lent-room, lent-words, serves-torn, serves-with}
+use Rattle.service.proofs.Serving.{kept-in-words, lent-words, lent-room, serves-torn, serves-with}
 use Rattle.service.proofs.serve_find.Statement.{statement}
 use Rattle.service.proofs.serve_find.Tie as tie
 
@@ -42,19 +42,19 @@ returns c =
 
 counters-in-requires : tie.Need-counters-in-requires
 counters-in-requires c κs =
-    lent-long (loans (start (c .before))) (lent c)
+    lent-words (loans (start (c .before))) (lent c)
 
 find-requires : tie.Need-find-requires
 find-requires c κs =
     let e = c .before in
     let l = loans (start (e .before)) in
-    lent-words l (lent-kept l (lent e))
+    lent-words l (lent e)
 
 tell-requires : tie.Need-tell-requires
 tell-requires c κs =
     let e = c .before .before .before in
     let l = loans (start (e .before)) in
-    lent-room l (lent-kept l (lent e))
+    lent-room l (lent e)
 
 same-length-2 : tie.Need-same-length-2
 same-length-2 c = search needs
@@ -67,7 +67,7 @@ returns-2 c =
     let e = k .before in
     let l = loans (start (e .before)) in
     kept-in-words _ l (lent e)
-    (serves-with l (countersIn (l .words)) (rw (k .counters-in .ensures) at (f .find .ensures)) (t .tell .ensures .1) (t .tell .ensures .0) (lent-kept l (lent e)) refl beside-same)
+    (serves-with l (countersIn (l .words)) (rw (k .counters-in .ensures) at (f .find .ensures)) (t .tell .ensures .1) (t .tell .ensures .0) (lent e) refl beside-same)
 
 pub serve-find-spec : {M : Type 1} → statement M
 serve-find-spec =

@@ -6,7 +6,7 @@ use borrow.Author.Needs.{needs}
 use borrow.Author.Tests.{not-true, not-false}
 use Rattle.words.specs.Words.{countersIn}
 use Rattle.service.specs.Serving.{Lent, isLent}
-use Rattle.service.proofs.Serving.{lent-kept, lent-long, lent-room, lent-words, made-in-words, serves-torn, serves-with}
+use Rattle.service.proofs.Serving.{lent-words, lent-room, made-in-words, serves-torn, serves-with}
 use Rattle.service.proofs.serve_free.Statement.{statement}
 use Rattle.service.proofs.serve_free.Tie as tie
 
@@ -45,25 +45,25 @@ returns c =
 
 counters-in-requires : tie.Need-counters-in-requires
 counters-in-requires c κs =
-    let e = c .before in lent-long (loans (start (e .before))) (lent e)
+    let e = c .before in lent-words (loans (start (e .before))) (lent e)
 
 free-requires : tie.Need-free-requires
 free-requires c κs =
     let e = c .before .before .before .before in
     let l = loans (start (e .before)) in
-    lent-words l (lent-kept l (lent e))
+    lent-words l (lent e)
 
 put-counters-requires : tie.Need-put-counters-requires
 put-counters-requires c κs =
     let x = c .before .before .before .before .before .before in
     let e = x .before .before .before .before .before in
-    omega (arith, x .free .kept .1 .0, lent-long (loans (start (e .before))) (lent e))
+    omega (arith, x .free .kept .1 .0, lent-words (loans (start (e .before))) (lent e))
 
 tell-requires : tie.Need-tell-requires
 tell-requires c κs =
     let e = c .before .before .before .before .before .before .before .before .before .before .before .before .before .before .before in
     let l = loans (start (e .before)) in
-    lent-room l (lent-kept l (lent e))
+    lent-room l (lent e)
 
 same-length-3 : tie.Need-same-length-3
 same-length-3 c = search needs
@@ -83,7 +83,7 @@ returns-2 c =
     let e = k .before .before in
     let l = loans (start (e .before)) in
     made-in-words _ l (lent e)
-    (serves-with l (countersIn (l .words)) (rw (k .counters-in .ensures) at (x .free .ensures .0)) (t .tell .ensures .1) (t .tell .ensures .0) (lent-kept l (lent e)) (x .free .kept .1 .0) (x .free .ensures .1))
+    (serves-with l (countersIn (l .words)) (rw (k .counters-in .ensures) at (x .free .ensures .0)) (t .tell .ensures .1) (t .tell .ensures .0) (lent e) (x .free .kept .1 .0) (x .free .ensures .1))
     ∙ rw (p .put-counters .ensures) refl
 
 pub serve-free-spec : {M : Type 1} → statement M

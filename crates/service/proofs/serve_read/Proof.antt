@@ -4,7 +4,7 @@ use mathlib.Core.Path.{_≡_, ap, sym, _∙_}
 use borrow.Author.Needs.{needs}
 use borrow.Author.Tests.{not-true, not-false}
 use Rattle.service.specs.Serving.{Lent, Served, isLent, worldIn}
-use Rattle.service.proofs.Serving.{lent-long, places-in-words, places-refused, serves-torn}
+use Rattle.service.proofs.Serving.{lent-words, places-in-words, places-refused, serves-torn}
 use Rattle.service.proofs.serve_read.Statement.{statement}
 use Rattle.service.proofs.serve_read.Tie as tie
 
@@ -42,7 +42,7 @@ returns c =
 
 counters-in-requires : tie.Need-counters-in-requires
 counters-in-requires c κs =
-    lent-long (loans (start (c .before))) (lent c)
+    lent-words (loans (start (c .before))) (lent c)
 
 serve-read-with-requires : tie.Need-serve-read-with-requires
 serve-read-with-requires c κs = search needs

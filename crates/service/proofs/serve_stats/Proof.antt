@@ -4,7 +4,7 @@ use mathlib.Core.Path.{_≡_, sym, _∙_}
 use borrow.Author.Needs.{needs}
 use borrow.Author.Tests.{not-true, not-false}
 use Rattle.service.specs.Serving.{Lent, isLent, worldIn}
-use Rattle.service.proofs.Serving.{lent-long, reports-in-words, reports-torn, serves-torn}
+use Rattle.service.proofs.Serving.{lent-words, reports-in-words, reports-torn, serves-torn}
 use Rattle.service.proofs.serve_stats.Statement.{statement}
 use Rattle.service.proofs.serve_stats.Tie as tie
 
@@ -41,7 +41,7 @@ returns c =
 
 counters-in-requires : tie.Need-counters-in-requires
 counters-in-requires c κs =
-    lent-long (loans (start (c .before))) (lent c)
+    lent-words (loans (start (c .before))) (lent c)
 
 serve-stats-with-requires : tie.Need-serve-stats-with-requires
 serve-stats-with-requires c κs = search needs

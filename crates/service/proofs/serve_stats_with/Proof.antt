@@ -11,13 +11,13 @@ use mir.Val.{Val}
 use denote.Laws.{Is}
 use Rattle.counts.specs.declared.Report.{Report}
 use Rattle.counts.proofs.Report as P
-use Rattle.service.specs.Serving.{Lent, isLentKept, worldWith}
+use Rattle.service.specs.Serving.{Lent, isLent, worldWith}
 use Rattle.service.proofs.Serving.{lent-room, lent-words, report-short, reports, reports-short, reports-torn, serves-with-torn}
 use Rattle.service.proofs.serve_stats_with.Statement.{statement}
 use Rattle.service.proofs.serve_stats_with.Tie as tie
 
 -- the loans as they were given, and that they are a state's
-abbrev start : tie.After-is-lent-kept → tie.Start
+abbrev start : tie.After-is-lent → tie.Start
 start d = d .before .before .before .before .before .before .before .before .before
 
 abbrev loans : tie.Start → Lent
@@ -30,8 +30,8 @@ loans s =
       answer = s .args .answer .now;
     }
 
-lent : (c : tie.Else2) → isLentKept (loans (start (c .before))) ≡ true
-lent c = sym (c .before .is-lent-kept .ensures) ∙ not-false (c .before .is-lent-kept .result) (c .if2 .left)
+lent : (c : tie.Else2) → isLent (loans (start (c .before))) ≡ true
+lent c = sym (c .before .is-lent .ensures) ∙ not-false (c .before .is-lent .result) (c .if2 .left)
 
 -- the report's text is its third field, and what is owned of an array says its length
 report-long : (r : Report) (vs : List Val) → Is P.the-row r vs → length (r .text) ≡ 368
@@ -43,10 +43,10 @@ part c = let r = c .stats .result in length-take-le (r .len) (r .text) (report-s
 returns : tie.Need-returns
 returns c =
     let s = c .before .before .before .before .before .before .before in
-    reports-short (isLentKept (loans s)) (worldWith (s .args .counters) (loans s)) (s .args .text .now) (c .if1 .taken)
+    reports-short (isLent (loans s)) (worldWith (s .args .counters) (loans s)) (s .args .text .now) (c .if1 .taken)
 
-is-lent-kept-requires : tie.Need-is-lent-kept-requires
-is-lent-kept-requires c κs = search needs
+is-lent-requires : tie.Need-is-lent-requires
+is-lent-requires c κs = search needs
 
 same-length : tie.Need-same-length
 same-length c = search needs
@@ -54,9 +54,9 @@ same-length c = search needs
 returns-2 : tie.Need-returns-2
 returns-2 c =
     let s = start (c .before) in
-    let e = sym (c .before .is-lent-kept .ensures) ∙ not-true (c .before .is-lent-kept .result) (c .if2 .taken) in
+    let e = sym (c .before .is-lent .ensures) ∙ not-true (c .before .is-lent .result) (c .if2 .taken) in
     let k = s .args .counters in
-    reports-torn (isLentKept (loans s)) (worldWith k (loans s)) (s .args .text .now) e (serves-with-torn _ (loans s) k e)
+    reports-torn (isLent (loans s)) (worldWith k (loans s)) (s .args .text .now) e (serves-with-torn _ (loans s) k e)
 
 stats-requires : tie.Need-stats-requires
 stats-requires c κs =
@@ -102,7 +102,7 @@ serve-stats-with-spec =
     tie.close
     (tie.spec
     returns
-    is-lent-kept-requires
+    is-lent-requires
     same-length
     returns-2
     stats-requires

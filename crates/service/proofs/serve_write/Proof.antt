@@ -4,7 +4,7 @@ use mathlib.Core.Path.{_≡_, sym, _∙_}
 use borrow.Author.Needs.{needs}
 use borrow.Author.Tests.{not-true, not-false}
 use Rattle.service.specs.Serving.{Lent, isLent}
-use Rattle.service.proofs.Serving.{kept-in-words, lent-long, serves-torn}
+use Rattle.service.proofs.Serving.{kept-in-words, lent-words, serves-torn}
 use Rattle.service.proofs.serve_write.Statement.{statement}
 use Rattle.service.proofs.serve_write.Tie as tie
 
@@ -40,7 +40,7 @@ returns c =
 
 counters-in-requires : tie.Need-counters-in-requires
 counters-in-requires c κs =
-    lent-long (loans (start (c .before))) (lent c)
+    lent-words (loans (start (c .before))) (lent c)
 
 serve-write-with-requires : tie.Need-serve-write-with-requires
 serve-write-with-requires c κs = search needs

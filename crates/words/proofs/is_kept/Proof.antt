@@ -3,11 +3,12 @@ use mathlib.Core.Path.{refl}
 use borrow.Author.Needs.{needs}
 use borrow.Author.Tests.{eq-eqb, le-leb, lt-leb, ne-eqb}
 use lib.ListN.{length}
+use Rattle.words.specs.Words.{version, stateWords}
 use Rattle.words.proofs.is_kept.Statement.{statement}
 use Rattle.words.proofs.is_kept.Tie as tie
 
 returns : tie.Need-returns
-returns c = rw (lt-leb 92 (length (c .before .before .args .words .now)) (c .if1 .taken)) refl
+returns c = rw (lt-leb stateWords (length (c .before .before .args .words .now)) (c .if1 .taken)) refl
 
 shared-slice-read-low-half : tie.Need-shared-slice-read-low-half
 shared-slice-read-low-half c = search needs
@@ -18,8 +19,8 @@ low-half-requires c κs = search needs
 returns-2 : tie.Need-returns-2
 returns-2 c =
     let h = c .before .low-half in
-    let enough = le-leb 92 (length (c .before .before .before .before .before .args .words .now)) (c .before .before .before .if1 .left) in
-    rw (enough, ← h .ensures, ne-eqb (h .result) 1 (c .if2 .taken)) refl
+    let enough = le-leb stateWords (length (c .before .before .before .before .before .args .words .now)) (c .before .before .before .if1 .left) in
+    rw (enough, ← h .ensures, ne-eqb (h .result) version (c .if2 .taken)) refl
 
 used-in-requires : tie.Need-used-in-requires
 used-in-requires c κs = search needs
@@ -27,8 +28,8 @@ used-in-requires c κs = search needs
 returns-3 : tie.Need-returns-3
 returns-3 c =
     let h = c .before .before .low-half in
-    let enough = le-leb 92 (length (c .before .before .before .before .before .before .args .words .now)) (c .before .before .before .before .if1 .left) in
-    rw (enough, ← h .ensures, eq-eqb (h .result) 1 (c .before .if2 .left), ← c .used-in .ensures .0) refl
+    let enough = le-leb stateWords (length (c .before .before .before .before .before .before .args .words .now)) (c .before .before .before .before .if1 .left) in
+    rw (enough, ← h .ensures, eq-eqb (h .result) version (c .before .if2 .left), ← c .used-in .ensures .0) refl
 
 pub is-kept-spec : {M : Type 1} → statement M
 is-kept-spec =

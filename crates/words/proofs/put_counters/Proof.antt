@@ -1,7 +1,7 @@
 -- `put_counters` meets its contract: its nine stores are one `withBytes`.
 use native.Mathlib.Omega.{arith}
 use lib.ListN.{length-set}
-use Rattle.words.specs.Words.{counterWords}
+use Rattle.words.specs.Words.{countersAt, counterWords}
 use Rattle.words.proofs.Stores.{stores}
 use borrow.Author.Needs.{needs}
 use Rattle.words.proofs.put_counters.Statement.{statement}
@@ -39,7 +39,7 @@ same-length c = search needs
 
 returns : tie.Need-returns
 unfolding counterWords
-returns c = stores (counterWords (c .args .counters)) (c .args .words .now) 92 (c .pre)
+returns c = stores (counterWords (c .args .counters)) (c .args .words .now) countersAt (omega arith)
 
 pub put-counters-spec : {M : Type 1} → statement M
 put-counters-spec =

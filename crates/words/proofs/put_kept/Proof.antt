@@ -6,7 +6,7 @@ use lib.ListN.{length, take, length-set}
 use lib.Seq.{take-all}
 use Rattle.record.specs.Records.{withBytes}
 use Rattle.record.proofs.Bytes.{with-none}
-use Rattle.words.specs.Words.{rowsWords}
+use Rattle.words.specs.Words.{Long, rowsWords}
 use Rattle.words.proofs.Owned.{rows-eight}
 use Rattle.words.proofs.Rows.{row-more, kept-stores}
 use borrow.Author.Needs.{needs}
@@ -15,7 +15,7 @@ use Rattle.words.proofs.put_kept.Tie as tie
 
 abbrev Inv-loop : tie.InvT-loop
 Inv-loop words₀ used queued pass rows i₀ words i =
-    (i ≤ 8) × (92 ≤ length words₀) × (length words ≡ length words₀) × (words ≡ withBytes words₀ 1 (rowsWords (take i rows)))
+    (i ≤ 8) × Long words₀ × (length words ≡ length words₀) × (words ≡ withBytes words₀ 1 (rowsWords (take i rows)))
 
 abbrev μ-loop : tie.MeasureT-loop
 μ-loop words₀ used queued pass rows i₀ words i = 8 - i

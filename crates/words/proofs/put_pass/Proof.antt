@@ -1,4 +1,6 @@
 -- `put_pass` meets its contract: its two stores change the pass alone.
+use native.Mathlib.Omega.{arith}
+use lib.ListN.{length-set}
 use borrow.Author.Needs.{needs}
 use Rattle.words.proofs.Beside.{pass-beside}
 use Rattle.words.proofs.put_pass.Statement.{statement}
@@ -8,7 +10,7 @@ slice-write-words : tie.Need-slice-write-words
 slice-write-words c = search needs
 
 slice-write-words-2 : tie.Need-slice-write-words-2
-slice-write-words-2 c = search needs
+slice-write-words-2 c = simp length-set (omega arith)
 
 same-length : tie.Need-same-length
 same-length c = search needs

@@ -1,6 +1,6 @@
 //! The calls by number, on counters of their own.
 
-use jilakkor::{CountedStore, Counters, Error, Op, KEPT_WORDS, STATS_BYTES};
+use jilakkor::{CountedStore, Counters, Error, Op, STATS_BYTES};
 use script::case::MARGIN;
 
 use super::{example, exported::prepared, same, Checked, EXAMPLE_PAGES};
@@ -47,6 +47,9 @@ type Answered = (Op, &'static [u64], Result<[u64; 2], Error>);
 const FRAME: u64 = 0x10F000;
 const OTHER: u64 = 0x10E000;
 
+/// Where the words' own counters start.
+const COUNTERS: usize = 92;
+
 const CALLS: [Answered; 17] = [
     (Op::Alloc, &[4096, 4096, 2], Ok([FRAME, 4096])),
     (Op::Take, &[1, 1], Ok([OTHER, 4096])),
@@ -70,8 +73,8 @@ const CALLS: [Answered; 17] = [
 fn through_the_crate() -> Checked {
     let mut lot = Lot::new(EXAMPLE_PAGES, 1);
     let mut counters = lot.boot(&example())?.stats();
-    // The words behind are not its own.
-    lot.words.truncate(lot.words.len() - (jilakkor::WORDS - KEPT_WORDS));
+    // The words' own counters are nobody's.
+    lot.words[MARGIN + COUNTERS..][..9].fill(7);
     let Lent { words, records, memory, queue, .. } = lot.lent();
     let mut store = CountedStore::resume(&mut counters, words, records, memory, queue)?;
     for (op, numbers, expected) in CALLS {
@@ -96,7 +99,6 @@ fn through_the_crate() -> Checked {
 /// A store that was never in the other form.
 fn booted() -> Checked {
     let mut lot = Lot::new(EXAMPLE_PAGES, 1);
-    lot.words.truncate(lot.words.len() - (jilakkor::WORDS - KEPT_WORDS));
     let mut counters = Counters { idle: 77, ..Counters::default() };
     let Lent { words, records, memory, queue, .. } = lot.lent();
     let map = example();
@@ -127,7 +129,7 @@ fn booted() -> Checked {
 
 /// Whatever is lent.
 fn no_such_op() -> Checked {
-    for (op, version) in [(19, 1), (19, 2), (1 << 32, 1), (u64::MAX, 1)] {
+    for (op, version) in [(19, 2), (19, 1), (1 << 32, 2), (u64::MAX, 2)] {
         let (mut lot, mut counters) = prepared()?;
         lot.words[MARGIN] = version;
         let (before, counted) = (lot.clone(), counters);
@@ -141,7 +143,7 @@ fn no_such_op() -> Checked {
 /// Missing numbers count as 0, and the words' own counters are not read.
 fn numbers() -> Checked {
     let (mut lot, mut counters) = prepared()?;
-    lot.words[MARGIN + KEPT_WORDS..].fill(7);
+    lot.words[MARGIN + COUNTERS..].fill(7);
     let mut call = |op: Op, numbers: &[u64]| {
         let returned = ffi::call(&mut counters, lot.lent(), op as u64, numbers, &mut []);
         (returned, lot.answered())
@@ -198,15 +200,18 @@ fn maps() -> Checked {
         let (mut lot, mut counters) = prepared()?;
         let (before, counted) = (lot.clone(), counters);
         let Lent { words, records, memory, queue, answer } = lot.lent();
-        let lent = Lent { words: &mut words[..91], records, memory, queue, answer };
+        let lent = Lent { words: &mut words[..511], records, memory, queue, answer };
         let returned = ffi::call(&mut counters, lent, Op::Boot as u64, numbers, &mut []);
         same("a map", returned, number)?;
         same("a map", lot.difference(&before), None)?;
         same("a map", counters, counted)?;
     }
-    let (mut lot, mut counters) = prepared()?;
-    let Lent { words, records, memory, queue, answer } = lot.lent();
-    let lent = Lent { words: &mut words[..91], records, memory, queue, answer };
-    let usable = [0x100000, 0x10000, 0];
-    same("few words", ffi::call(&mut counters, lent, Op::Boot as u64, &usable, &mut []), 5)
+    for few in [0, 92, 101, 511] {
+        let (mut lot, mut counters) = prepared()?;
+        let Lent { words, records, memory, queue, answer } = lot.lent();
+        let lent = Lent { words: &mut words[..few], records, memory, queue, answer };
+        let usable = [0x100000, 0x10000, 0];
+        same("few words", ffi::call(&mut counters, lent, Op::Boot as u64, &usable, &mut []), 5)?;
+    }
+    Ok(())
 }

@@ -19,13 +19,8 @@ pub const BOOT: Exported = ("boot", |lent, _| {
     ffi::boot(&map, lent)
 });
 
-pub const CALL: Exported = ("call", |lent, counters| {
-    let Lent { words, records, memory, queue, answer } = lent;
-    // Without its counters, where it has them.
-    let kept = words.len().min(92);
-    let words = &mut words[..kept];
-    ffi::call(counters, Lent { words, records, memory, queue, answer }, 3, &[FRAME], &mut [])
-});
+pub const CALL: Exported =
+    ("call", |lent, counters| ffi::call(counters, lent, 3, &[FRAME], &mut []));
 
 /// All others.
 pub const CALLS: [Exported; 19] = [

@@ -1,6 +1,7 @@
 //! The loans of every exported function: too short, too long, of another version,
 //! torn. Nothing that was lent changes where a call is refused.
 
+use jilakkor::WORDS;
 use script::{case::MARGIN, random::Random};
 
 use super::{
@@ -48,10 +49,11 @@ fn cut<T>(loan: &mut Vec<T>, missing: usize) {
 }
 
 fn short() -> Checked {
-    let cuts: [fn(&mut Lot); 8] = [
+    let cuts: [fn(&mut Lot); 9] = [
         |lot| cut(&mut lot.words, 1),
-        |lot| cut(&mut lot.words, 10),
-        |lot| cut(&mut lot.words, 101),
+        |lot| cut(&mut lot.words, WORDS - 101),
+        |lot| cut(&mut lot.words, WORDS - 92),
+        |lot| cut(&mut lot.words, WORDS),
         |lot| cut(&mut lot.answer, 1),
         |lot| cut(&mut lot.answer, 2),
         |lot| cut(&mut lot.records, 1),
@@ -60,12 +62,8 @@ fn short() -> Checked {
     ];
     for (place, change) in cuts.into_iter().enumerate() {
         each(|exported, number| {
-            // `jilakkor_audit` has no answer, and `jilakkor_call` makes do with 92 words.
-            let unused = match exported.0 {
-                "audit" => [3, 4].contains(&place),
-                "call" => place == 0,
-                _ => false,
-            };
+            // `jilakkor_audit` has no answer.
+            let unused = exported.0 == "audit" && [4, 5].contains(&place);
             on_changed(exported, if unused { 0 } else { number }, &change)
         })?;
     }
@@ -73,7 +71,7 @@ fn short() -> Checked {
 }
 
 fn versions() -> Checked {
-    for version in [0, 2, 1 << 32 | 2, 9 << 32 | 1, u64::MAX] {
+    for version in [0, 1, 3, 1 << 32 | 1, 9 << 32 | 2, u64::MAX] {
         let change = |lot: &mut Lot| lot.words[MARGIN] = version;
         each(|exported, _| {
             let number = if exported.0 == "boot" { 0 } else { 6 };
@@ -102,12 +100,12 @@ fn torn() -> Checked {
 
 /// Every word of the state, one bit changed. Those that may be anything are the
 /// words of rows that are not in use, the queue's count and the pass's rounds, for
-/// which there is room, and the counters of what was granted, freed, reclaimed and
-/// lent.
+/// which there is room, the counters of what was granted, freed, reclaimed and
+/// lent, and all behind the counters.
 fn every_word() -> Checked {
     let used = (prepared()?.0.words[MARGIN] >> 32) as usize;
-    for place in 0..101 {
-        let unused = (1 + 11 * used..89).contains(&place);
+    for place in 0..WORDS {
+        let unused = (1 + 11 * used..89).contains(&place) || place > 100;
         let any = unused || [89, 90, 96, 97, 98, 100].contains(&place);
         let number = if any { 0 } else { 6 };
         let change = |lot: &mut Lot| lot.words[MARGIN + place] ^= 1;
@@ -137,7 +135,7 @@ fn damaged() -> Checked {
     Ok(())
 }
 
-/// Changes a few bits of the records, or of the words but for the counters, which
+/// Changes a few bits of the records, or of the words before the counters, which
 /// `jilakkor_call` doesn't see.
 fn damage(random: &mut Random, lot: &mut Lot) {
     for _ in 0..random.within(1..=3) {
@@ -153,7 +151,7 @@ fn damage(random: &mut Random, lot: &mut Lot) {
 }
 
 /// Only the first two places of an answer are written, and the words behind the
-/// state's are left alone.
+/// counters and behind the state are left alone.
 fn long_answer() -> Checked {
     each(|(name, exported), _| {
         let (mut lot, mut counters) = prepared()?;

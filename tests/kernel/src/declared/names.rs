@@ -9,7 +9,6 @@ use crate::calls::OPS;
 pub fn sizes(words: &str, text: &str) -> Result<(), String> {
     let sizes = [
         ("version", jilakkor::VERSION, "JILAKKOR_VERSION"),
-        ("keptWords", jilakkor::KEPT_WORDS as u64, "JILAKKOR_KEPT_WORDS"),
         ("stateWords", jilakkor::WORDS as u64, "JILAKKOR_WORDS"),
     ];
     for (name, in_rust, in_c) in sizes {
