@@ -1,6 +1,6 @@
 -- What a call promises where the torn test was made before it: `Makes`. Of every store that the world holds, what the call leaves holds the store of definition's
--- `step`, and the answer is the step's. So a list of calls needs one test: what one call leaves is what the next asks for. A call is lent what it reads and
--- writes; what it is not lent is bound by its promise, and stays.
+-- `step`, and the answer is the step's, so that calls follow one another. A call is lent what it reads and writes; what it is not lent is bound by its promise,
+-- and stays.
 use Prim.Native.Nat.{ℕ, _+_, _*_, _≤_, _<_, _^_}
 use mathlib.Core.Bool.{false}
 use mathlib.Core.List.{List}
@@ -26,7 +26,7 @@ use Rattle.exam.specs.Promise.{Looks, stateWith, told, worldOf}
 abbrev pub world : Counters → (words records memory queue : List ℕ) → World
 world k ws rs m q = worldOf (stateWith k ws) rs m q
 
--- ---- what a call asks for: the torn test gives all of it, and every call leaves it so
+-- ---- what a call asks for: the torn test gives all of it
 
 -- words enough, and a sane table in them and the records
 abbrev pub TableIn : (words records : List ℕ) → Type 0
