@@ -1,6 +1,8 @@
 // Physical addresses, after address.rs: a type of their own, so that an address is never mistaken for a count of pages or of bytes. Bytes
 // are counted in u64, as an address is, and pages in usize. Where the Rust gives an error, for a sum past 64 bits, a `requires` stands
 // here: boot refuses every usable entry that ends past 2^40 before it moves an address.
+#![tactic(auto)]
+
 ghost use Rattle.std.specs.Prelude.{◌≡◌, ◌+◌, ◌-◌, ◌*◌, ◌/◌, ◌%◌, ◌^◌, ◌≤◌, ◌<◌, eqb};
 
 // address.rs 25

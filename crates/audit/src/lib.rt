@@ -2,6 +2,7 @@
 // pass over the rows, other functions those of all rows together, of the counters and of the rest. `audit` is true exactly where every
 // sentence holds: on any rows, numbers and bytes whatever, reading nothing outside the loans. Boot asks four of them of the rows that it
 // keeps.
+#![tactic(auto)]
 ghost use Rattle.std.specs.Prelude.{true, false, not, ◌&&◌, ◌≡◌, ◌+◌, ◌≤◌, ◌<◌, length, drop};
 ghost use Rattle.definition.specs.Board.{Fit};
 ghost use Rattle.definition.specs.Basics.{all, any};

@@ -1,6 +1,7 @@
 // The contents of held frames, read and copied, after frame.rs's copy_contents_from and copy_contents_from_physaddr and the added read.
 // Each call is lent what it reads and writes and promises definition's `step` (exam/specs/Making.antt); the words and counters stay as
 // they are.
+#![tactic(auto)]
 ghost use Rattle.std.specs.Prelude.{◌≡◌, ◌&&◌, ◌+◌, ◌≤◌, eqb, length};
 ghost use Rattle.definition.specs.Board.{Fit};
 ghost use Rattle.definition.specs.Contents.{zero_range, copy_contents_from};

@@ -2,6 +2,7 @@
 // `output_of` on the program's loans. A script has at most 262,144 bytes and 8,191 lines. Where it has more, or can't be read, one line on
 // standard error says so and nothing is printed; where the answers can't be written whole, a line on standard error says so too. A program
 // of Rattle has no exit status but 0 to tell it by.
+#![tactic(auto)]
 use program::Input;
 
 fn complain(line: &[u8]) {

@@ -1,4 +1,5 @@
 // What the programs share: all of standard input, read to its end, and a script run on the loans of 01's program.
+#![tactic(auto)]
 ghost use Rattle.std.specs.Prelude.{◌≤◌, ◌<◌, ◌≡◌, length};
 ghost use Rattle.program.specs.Once.{RanOnce, Below};
 

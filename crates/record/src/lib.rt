@@ -2,6 +2,7 @@
 // other crate sees bytes of records, and none takes the marks or the number of the level apart. Callers go by the `records` clause of a
 // contract, which speaks of the records as a function of the page; the `bytes` clause fixes every byte of the loan, those past the last
 // whole record too.
+#![tactic(auto)]
 ghost use Rattle.std.specs.Prelude.{true, false, ◌≡◌, ◌++◌, ◌+◌, ◌*◌, ◌/◌, ◌^◌, ◌<◌, ◌≤◌, ltb, length, replicate};
 ghost use Rattle.definition.specs.Basics.{upd, all, range};
 ghost use Rattle.definition.specs.Frame.{levels};

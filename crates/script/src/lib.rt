@@ -1,5 +1,6 @@
 // The run of a script: each line is read, done and answered, and the answers follow one another (01, "The script program"). `jilakkor_run`
 // is exported for C and Rust, and the program `jilakkor` calls it.
+#![tactic(auto)]
 ghost use Rattle.std.specs.Prelude.{true, ◌≡◌, ◌+◌, ◌≤◌, ◌<◌, ◌^◌, length, get_or, replicate};
 ghost use Rattle.definition.specs.Script.{BootNow, Ask as Asks, line_of, room};
 ghost use Rattle.exam.specs.Making.{Few};

@@ -2,6 +2,7 @@
 // many differ. The file has for each script a line `script,LINES`, that many lines, a line `answers,BYTES` and that many bytes; the numbers
 // are decimal, without leading zeros. At most 1,048,576 bytes, and 8,191 lines to a script. Standard error says where the file can't be
 // read or is longer; a program of Rattle has no exit status to say it by.
+#![tactic(auto)]
 ghost use Rattle.std.specs.Prelude.{◌+◌, ◌≤◌, ◌<◌, true, false, not, ◌≡◌, length};
 ghost use Rattle.definition.specs.Basics.{bit};
 ghost use Rattle.definition.specs.Script.{room, same_bytes};

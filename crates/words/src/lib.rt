@@ -1,6 +1,7 @@
 // The state of a store as 512 words of 64 bits, in a lent slice: a row, the queue's count, the pass or the counters are read where they
 // stand, and written there. Any words of the right number and version are some state; whether it is a sound one is the audit's to say. What
 // each word is stands in specs/Words.antt.
+#![tactic(auto)]
 ghost use Rattle.std.specs.Prelude.{◌&&◌, ◌≡◌, ◌+◌, ◌*◌, ◌%◌, ◌/◌, ◌≤◌, ◌<◌, length, drop};
 ghost use Rattle.definition.specs.Basics.{all};
 ghost use Rattle.definition.specs.Board.{Fit};
