@@ -27,7 +27,7 @@ use definition::Row;
 use region::FoundPage;
 
 // A page of a region: the region's row, the page number of its first managed page, and the page's own.
-#[derive(Drop)]
+#[derive(Clone, Copy)]
 pub struct Spot {
     pub index: usize,
     pub base: usize,
@@ -35,7 +35,7 @@ pub struct Spot {
 }
 
 // What stands at an address: whether a region manages it, and if so where, with the marks and the level of its page's record.
-#[derive(Drop)]
+#[derive(Clone, Copy)]
 pub struct Seen {
     pub managed: bool,
     pub spot: Spot,
@@ -167,7 +167,7 @@ pub fn set_marks(words: &[u64], records: &mut [u8], spot: Spot, zeroed: bool, ke
 }
 
 // The frame that a search over the regions found.
-#[derive(Drop)]
+#[derive(Clone, Copy)]
 pub struct Picked {
     pub found: bool,
     pub spot: Spot,

@@ -170,7 +170,7 @@ pub fn loans_long(board: Board, rows: [Row; 8], used: usize, records: usize, mem
 
 // What the rows up to one are found to be: how many are in use, their pages with the tables and without, and the pages that their regions
 // hold.
-#[derive(Drop)]
+#[derive(Clone, Copy)]
 struct Surveyed {
     ok: bool,
     used: usize,

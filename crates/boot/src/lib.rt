@@ -98,7 +98,7 @@ fn keep(board: Board, entry: MemoryRegion) -> Row
 }
 
 // The rows of the entries that a map keeps, and how many they are.
-#[derive(Drop)]
+#[derive(Clone, Copy)]
 struct Kept {
     rows: [Row; 8],
     used: usize,

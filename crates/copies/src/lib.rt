@@ -20,7 +20,7 @@ use exam::Answer;
 // ---- read
 
 // The refusal's number, or 0 and where the bytes that are read stand in the memory.
-#[derive(Drop)]
+#[derive(Clone, Copy)]
 pub struct Place {
     pub number: u32,
     pub at: usize,

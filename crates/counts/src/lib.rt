@@ -55,7 +55,7 @@ pub fn low(counters: Counters, words: &[u64]) -> Answer
 }
 
 // The statistics as text, or the refusal's number and no text: the first `len` bytes of `text` are it.
-#[derive(Drop)]
+#[derive(Clone, Copy)]
 pub struct Report {
     pub number: u32,
     pub len: usize,

@@ -8,7 +8,7 @@ ghost use Rattle.definition.specs.Refusal.{rank_of};
 use address::PhysAddr;
 
 // The numbers that a board fixes. They are kept in no other place of the code: what reads one is given a board.
-#[derive(Drop)]
+#[derive(Clone, Copy)]
 pub struct Board {
     // arch/aarch64/memory/frame.rs 5, FRAME_SIZE: the bytes of a page
     pub page: usize,
@@ -39,7 +39,7 @@ pub fn standard() -> Board
 }
 
 // memory/mod.rs 21: what an entry of the boot map is for.
-#[derive(Drop)]
+#[derive(Clone, Copy)]
 pub enum MemoryRegionKind {
     UsableRam,
     Reserved,
@@ -47,7 +47,7 @@ pub enum MemoryRegionKind {
 }
 
 // memory/mod.rs 28: an entry of the boot map.
-#[derive(Drop)]
+#[derive(Clone, Copy)]
 pub struct MemoryRegion {
     pub start: PhysAddr,
     pub length: usize,
@@ -55,7 +55,7 @@ pub struct MemoryRegion {
 }
 
 // 01, "The refusal sheet": its words, in the order of its numbers, 1 to 17. Which comes first where several apply is `rank_of`'s to say.
-#[derive(Drop)]
+#[derive(Clone, Copy)]
 pub enum Refusal {
     LongMap,
     FarAddress,
@@ -171,7 +171,7 @@ pub fn rank_of(number: u32) -> u32
 }
 
 // tracker.rs 376: what a grant asks for.
-#[derive(Drop)]
+#[derive(Clone, Copy)]
 pub struct FrameAllocFlags {
     pub zeroed: bool,
     pub kernel: bool,
@@ -179,7 +179,7 @@ pub struct FrameAllocFlags {
 }
 
 // 01, "What changes shape": the record of a managed page, four 32-bit numbers. A neighbour is 0 for none, else its page number plus 1.
-#[derive(Drop)]
+#[derive(Clone, Copy)]
 pub struct Record {
     pub marks: u32,
     pub level: u32,
@@ -188,7 +188,7 @@ pub struct Record {
 }
 
 // One list of free frames, numbered as neighbours are.
-#[derive(Drop)]
+#[derive(Clone, Copy)]
 pub struct Links {
     pub front: u32,
     pub back: u32,
@@ -196,7 +196,7 @@ pub struct Links {
 }
 
 // A kept region: its start rounded up, its pages with its tables, and its six lists, dirty and zeroed at each level.
-#[derive(Drop)]
+#[derive(Clone, Copy)]
 pub struct Row {
     pub start: PhysAddr,
     pub pages: usize,
@@ -205,7 +205,7 @@ pub struct Row {
 
 // tracker.rs 25: the nine counters of MemoryTracker, in its order. A kernel may lend them as they stand.
 #[repr(C)]
-#[derive(Drop)]
+#[derive(Clone, Copy)]
 pub struct Counters {
     pub kernel_used: usize,
     pub page_data: usize,
@@ -219,7 +219,7 @@ pub struct Counters {
 }
 
 // tracker.rs 417: the reclaim pass under way, its worked rounds and the frames that it freed so far.
-#[derive(Drop)]
+#[derive(Clone, Copy)]
 pub struct Pass {
     pub rounds: usize,
     pub freed: usize,

@@ -14,7 +14,7 @@ use allocator::Seen;
 use definition::{Board, Counters, NO_FRAME_START, NOT_HELD, OUTSIDE, PAST_THE_END};
 
 // The refusal's number, or 0 with an address and a count of bytes, as 01's script prints them.
-#[derive(Drop)]
+#[derive(Clone, Copy)]
 pub struct Answer {
     pub number: u32,
     pub address: u64,
@@ -22,7 +22,7 @@ pub struct Answer {
 }
 
 // The counters that a call leaves, and its answer.
-#[derive(Drop)]
+#[derive(Clone, Copy)]
 pub struct Outcome {
     pub counters: Counters,
     pub answer: Answer,
@@ -107,7 +107,7 @@ fn refusal(board: Board, seen: Seen, pa: PhysAddr, offset: u64, len: u64) -> u32
 }
 
 // What a call finds at an address: the refusal that it meets there, and what stands there.
-#[derive(Drop)]
+#[derive(Clone, Copy)]
 pub struct Exam {
     pub number: u32,
     pub seen: Seen,

@@ -58,7 +58,7 @@ fn number_of(refusal: Refusal) -> u32
 }
 
 // The refusal's number, or 0 with the level that the layout gets.
-#[derive(Drop)]
+#[derive(Clone, Copy)]
 pub struct Asked {
     pub number: u32,
     pub level: usize,
@@ -150,7 +150,7 @@ fn address_of(words: &[u64], spot: Spot) -> u64
 // ---- a grant
 
 // The counters that a grant leaves, and the frame that it found, with its address.
-#[derive(Drop)]
+#[derive(Clone, Copy)]
 pub struct Granted {
     pub counters: Counters,
     pub found: bool,

@@ -10,7 +10,7 @@ ghost use Rattle.level.specs.Level.{rank, level_at, serves, takes, found_level};
 
 use definition::{Board, Refusal};
 
-#[derive(Drop)]
+#[derive(Clone, Copy)]
 pub enum Level {
     Small,
     Large,
@@ -147,7 +147,7 @@ pub fn level_at(number: usize, left: usize) -> usize
     }
 }
 
-#[derive(Drop)]
+#[derive(Clone, Copy)]
 pub enum FoundLevel {
     At(Level),
     Refused(Refusal),

@@ -21,7 +21,7 @@ ghost use Rattle.lines.specs.Steps.{
 };
 
 // The ops that are calls of a store and answer by numbers.
-#[derive(Drop)]
+#[derive(Clone, Copy)]
 pub enum Ask {
     Alloc,
     Take,
@@ -41,7 +41,7 @@ pub enum Ask {
 }
 
 // What a line asks: `Bad` is a line that can't be read, `Stats` answers by a text.
-#[derive(Drop)]
+#[derive(Clone, Copy)]
 pub enum Op {
     Bad,
     Region,
@@ -51,7 +51,7 @@ pub enum Op {
 }
 
 // An op and its numbers, in their order; those that the op does not take are 0.
-#[derive(Drop)]
+#[derive(Clone, Copy)]
 pub struct Line {
     pub op: Op,
     pub numbers: [u64; 5],
@@ -77,7 +77,7 @@ fn find(s: &[u8], from: usize, sep: u8) -> usize
 // The largest number of a script.
 const MOST: u64 = 18446744073709551615;
 
-#[derive(Drop)]
+#[derive(Clone, Copy)]
 enum Number {
     Value(u64),
     Unreadable,
@@ -115,7 +115,7 @@ fn read_number(s: &[u8]) -> Number
 }
 
 // The numbers read so far in their order, and the last of them; `count` is 6 where there are too many, or one can't be read.
-#[derive(Drop)]
+#[derive(Clone, Copy)]
 struct Numbers {
     count: usize,
     last: u64,
@@ -199,7 +199,7 @@ fn same(a: &[u8], b: &[u8]) -> bool
 }
 
 // An op that a line may name: how many numbers it takes, and the most that the last of them may be.
-#[derive(Drop)]
+#[derive(Clone, Copy)]
 struct Named {
     op: Op,
     count: usize,
@@ -301,7 +301,7 @@ pub fn read_line(line: &[u8]) -> Line
 }
 
 // Where a line ends, and where the next one starts.
-#[derive(Drop)]
+#[derive(Clone, Copy)]
 pub struct Cursor {
     pub end: usize,
     pub next: usize,

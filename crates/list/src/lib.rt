@@ -75,7 +75,7 @@ pub fn remove(records: &mut [u8], list: Links, page: usize) -> Links
 }
 
 // What a pop answers: that the list is empty, or its last page and the list without it.
-#[derive(Drop)]
+#[derive(Clone, Copy)]
 pub enum Popped {
     Empty,
     Page(usize, Links),

@@ -13,7 +13,7 @@ use definition::{Board, Counters, MemoryRegion, MemoryRegionKind};
 use exam::Outcome;
 
 // The first eight entries of a map, and how many it has.
-#[derive(Drop)]
+#[derive(Clone, Copy)]
 pub struct Gathered {
     pub map: [MemoryRegion; 8],
     pub count: usize,

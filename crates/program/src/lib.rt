@@ -4,7 +4,7 @@ ghost use Rattle.std.specs.Prelude.{◌≤◌, ◌<◌, ◌≡◌, length};
 ghost use Rattle.program.specs.Once.{RanOnce, Below};
 
 // What came of reading standard input: so many bytes to its end, more than there was room for, or a read that failed.
-#[derive(Drop)]
+#[derive(Clone, Copy)]
 pub enum Input {
     Whole(usize),
     TooLong,

@@ -39,7 +39,7 @@ pub fn queue(words: &mut [u64], records: &[u8], queue: &mut [u64], pa: PhysAddr)
     exam::done(pa.raw(), exam::frame_bytes(board, exam.seen))
 }
 
-#[derive(Drop)]
+#[derive(Clone, Copy)]
 pub struct Reclaimed {
     pub counters: Counters,
     pub freed: usize,

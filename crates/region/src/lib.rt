@@ -60,14 +60,14 @@ use definition::{Board, Links, Record, Row};
 use list::Popped;
 
 // The page of a frame, or none: Option<FrameRef>.
-#[derive(Drop)]
+#[derive(Clone, Copy)]
 pub enum FoundPage {
     Nothing,
     At(usize),
 }
 
 // What a search found: Option<FrameRef> again, in a shape that a caller reads without a branch.
-#[derive(Drop)]
+#[derive(Clone, Copy)]
 pub struct Got {
     pub found: bool,
     pub page: usize,

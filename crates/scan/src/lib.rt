@@ -107,7 +107,7 @@ fn is_alone(records: &[u8], h: usize) -> bool
     later == 0
 }
 
-#[derive(Drop)]
+#[derive(Clone, Copy)]
 pub struct Scanned {
     pub ok: bool,
     pub page: usize,
@@ -353,7 +353,7 @@ fn listed_pages(row: Row) -> usize
 
 // ---- the region
 
-#[derive(Drop)]
+#[derive(Clone, Copy)]
 pub struct Whole {
     pub ok: bool,
     pub page: usize,

@@ -33,7 +33,7 @@ use lines::{Ask, Op};
 // ---- what is printed
 
 // A name with spaces behind it, and how many bytes it has.
-#[derive(Drop)]
+#[derive(Clone, Copy)]
 pub struct Name(pub [u8; 6], pub usize);
 
 fn ask_name(op: Ask) -> Name
@@ -99,7 +99,7 @@ fn put_line(out: &mut [u8], at: usize, op: Op, y: Answer) -> usize
 
 // What is kept from line to line beside the loans and the words: the first eight entries of the map and how many were read, whether a boot
 // was accepted, and the store's counters.
-#[derive(Drop)]
+#[derive(Clone, Copy)]
 pub struct Running {
     pub map: [MemoryRegion; 8],
     pub count: usize,
@@ -108,7 +108,7 @@ pub struct Running {
 }
 
 // What is kept after a line, and the place behind its text.
-#[derive(Drop)]
+#[derive(Clone, Copy)]
 pub struct Turn {
     pub running: Running,
     pub at: usize,

@@ -58,7 +58,7 @@ fn tell(answer: &mut [u64], y: Answer) -> u32
 // ---- the calls
 
 // The counters that a call left, and the refusal's number.
-#[derive(Drop)]
+#[derive(Clone, Copy)]
 pub struct Counted {
     pub counters: Counters,
     pub number: u32,

@@ -516,7 +516,7 @@ pub extern "C" fn jilakkor_stats(
 
 // An entry of the boot map as a kernel lends it: its kind is 0 for UsableRam; any other is no usable memory.
 #[repr(C)]
-#[derive(Drop)]
+#[derive(Clone, Copy)]
 pub struct Entry {
     pub start: u64,
     pub length: u64,
@@ -589,7 +589,7 @@ pub extern "C" fn jilakkor_boot(
 // ---- the lent counters
 
 // What a number asks for: a call that answers by numbers, one of the four others, or none.
-#[derive(Drop)]
+#[derive(Clone, Copy)]
 pub enum Asked {
     Known(Ask),
     Write,

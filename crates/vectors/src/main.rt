@@ -46,7 +46,7 @@ fn put_heading(line: &mut [u8], name: &[u8], n: u64) -> usize
 }
 
 // A heading, and the place behind it.
-#[derive(Drop)]
+#[derive(Clone, Copy)]
 struct Heading {
     found: bool,
     value: usize,
@@ -107,7 +107,7 @@ fn skip_lines(file: &[u8], at: usize, count: usize) -> usize
 }
 
 // Where a script and its answers lie in the file. Where the file is not framed so, `next` is the place where that shows.
-#[derive(Drop)]
+#[derive(Clone, Copy)]
 struct Places {
     framed: bool,
     lines: usize,
@@ -176,7 +176,7 @@ fn agrees(script: &[u8], expected: &[u8], answers: &mut [u8]) -> bool
 }
 
 // What was replayed so far, up to `at`. Where the file is not framed, `at` is the place where that shows.
-#[derive(Drop)]
+#[derive(Clone, Copy)]
 struct Tally {
     framed: bool,
     at: usize,
