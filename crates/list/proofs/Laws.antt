@@ -1,7 +1,7 @@
 -- Laws of lists of pages over any records: of their elements, of runs linked both ways, of lists. The crates above go by these: `linked_pages` and
 -- `linked_sound` pass between the pages that a caller names and those that the walk finds, and `linked_frame` keeps a list none of whose records
 -- changed.
-use Prim.Native.Nat.{ℕ, ◌-◌, ◌<◌}
+use Prim.Native.Nat.{ℕ, ◌+◌, ◌-◌, ◌<◌}
 use mathlib.Core.List.{List, [], ◌∷◌, ◌++◌}
 use mathlib.Core.Logic.{◌≢◌}
 use mathlib.Core.Path.{◌≡◌, refl, sym, ap, ◌∙◌, subst}
@@ -68,7 +68,7 @@ in_left xs ys h o = h (all_left xs ys o)
 pub in_snoc : {q p : ℕ} (xs : List ℕ) → In q (xs ++ (p ∷ [])) → q ≢ p → In q xs
 in_snoc xs h n o = h (all_append o (all_more n all_none))
 
-pub apart_sym : {xs : List ℕ} (ys : List ℕ) → Apart xs ys → Apart ys xs
+pub apart_sym : (ys : List ℕ) {xs : List ℕ} → Apart xs ys → Apart ys xs
 apart_sym ys all_none = all_every ys (λ y. all_none)
 apart_sym ys (all_more a rest) = all_zip (λ y b c. all_more (λ e. b (sym e)) c) a (apart_sym ys rest)
 
@@ -90,8 +90,8 @@ distinct_unsnoc (x ∷ xs) (distinct_more a d) =
 module _ {f : ℕ → Record} where
   pub seg_frame : {g : ℕ → Record} {e x : ℕ} {xs : List ℕ} {b z : ℕ} → All (λ (q : ℕ). g q ≡ f q) xs → Seg f e x xs b z → Seg g e x xs b z
   seg_frame all_none (seg_none u v) = seg_none u v
-  seg_frame (all_more a rest) (seg_more u v s) =
-      seg_more u (ap (λ (r : Record). r.earlier) a ∙ v) (rw (← a) at (seg_frame rest s))
+  seg_frame {g = g} {e = e} {x = x} {b = b} {z = z} (all_more {x = x'} {xs = xs} a rest) (seg_more u v s) =
+      seg_more u (ap (λ (r : Record). r.earlier) a ∙ v) (rw (← a) at (seg_frame {e = x' + 1} rest s))
 
   pub seg_append : {e x : ℕ} {xs ys : List ℕ} {b m d z : ℕ} → Seg f e x xs b m → Seg f b m ys d z → Seg f e x (xs ++ ys) d z
   seg_append (seg_none u v) t = rw (u, ← v) t

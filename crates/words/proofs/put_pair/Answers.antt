@@ -1,0 +1,16 @@
+-- `put_pair` meets its contract: its three stores are one `with_bytes`.
+use native.Mathlib.Omega.{arith}
+use lib.ListN.{length-set}
+use Rattle.words.proofs.Stores.{three_stores}
+use borrow.Author.Rules.{rules}
+use Rattle.words.proofs.put_pair.Goals as goal
+
+pub bounds-words-at-2 : goal.bounds-words-at-2
+bounds-words-at-2 c = simp length-set (omega arith)
+
+pub bounds-words-at-3 : goal.bounds-words-at-3
+bounds-words-at-3 c = simp length-set (omega arith)
+
+pub returns : goal.returns
+returns c =
+    rw (c.joined-3.ensures, c.joined-2.ensures, c.joined.ensures) (three_stores c.args.words.now c.args.at _ _ _ c.requires)

@@ -1,0 +1,30 @@
+-- `put_row_from` meets its contract: its two stores and its three pairs are one `with_bytes`.
+use mathlib.Core.Path.{refl, ◌∙◌}
+use native.Mathlib.Omega.{arith}
+use lib.ListN.{length-set}
+use Rattle.words.specs.Words.{row_words}
+use Rattle.words.proofs.Stores.{row_stores}
+use borrow.Author.Rules.{rules}
+use Rattle.words.proofs.put_row_from.Goals as goal
+
+pub bounds-words-at-2 : goal.bounds-words-at-2
+bounds-words-at-2 c = simp length-set (omega arith)
+
+pub put_pair-requires : goal.put_pair-requires
+put_pair-requires c = simp length-set (omega arith)
+
+pub put_pair-requires-2 : goal.put_pair-requires-2
+put_pair-requires-2 c = omega (arith, simp length-set at c.put_pair.auto.words)
+
+pub put_pair-requires-3 : goal.put_pair-requires-3
+put_pair-requires-3 c = omega (arith, c.put_pair-2.auto.words, simp length-set at c.put_pair.auto.words)
+
+pub shape_of-words : goal.shape_of-words
+shape_of-words c =
+    c.put_pair-3.auto.words ∙ c.put_pair-2.auto.words ∙ c.put_pair.auto.words ∙ simp length-set
+
+pub returns : goal.returns
+unfolding row_words
+returns c =
+    rw (c.put_pair-3.ensures, c.put_pair-2.ensures, c.put_pair.ensures, c.raw.ensures)
+    (row_stores c.args.words.now c.args.at _ _ _ _ _ refl refl refl c.requires)
