@@ -1,7 +1,10 @@
 pub mod Basics
 pub mod Boards
 pub mod Bytes
+pub mod Fuel
+pub mod Table
 pub mod Cases
+pub mod Departures
 pub mod Tests
 pub mod Passing
 pub mod Order

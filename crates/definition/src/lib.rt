@@ -1,6 +1,7 @@
 // The plain types that the definitions in specs/ and the code share: the numbers of a board, the boot map, the refusals, the records, the
 // rows and the counters. Nothing here computes but `standard` and `rank_of`; what the types mean stands in specs/.
 #![tactic(auto)]
+
 ghost use Rattle.std.specs.Prelude.{◌≡◌};
 ghost use Rattle.definition.specs.Board.{standard as standard_def};
 ghost use Rattle.definition.specs.Refusal.{rank_of};
