@@ -1,9 +1,9 @@
 -- What owning the rows tells of them, by their type alone: there are eight, each has six lists, and the numbers of a list are below 2^32.
 use Prim.Native.Nat.{ℕ, zero, suc, ◌<◌}
-use mathlib.Core.List.{List, [], ◌∷◌, map}
-use mathlib.Core.Path.{◌≡◌, sym, ◌∙◌}
+use mathlib.Core.List.{List, [], ◌∷◌}
+use mathlib.Core.Path.{◌≡◌}
 use native.Mathlib.Omega.{arith}
-use lib.ListN.{length, length-map, get_or}
+use lib.ListN.{length, get_or}
 use mir.Val.{Val}
 use denote.Laws.{Is}
 use denote.Shadow.{shadow}
@@ -19,7 +19,7 @@ pub rows_eight : (rows : List Row) (vs : List Val) → Is (Array R.the_row 8) ro
 rows_eight rows vs p = p.1.0.1
 
 each_links
-    : (ls : List Links) (vs : List Val) → shadow (each (L.the_field).row.Denot (L.the_field).row.own_val (map (L.the_field).into ls) vs)
+    : (ls : List Links) (vs : List Val) → shadow (each Links (L.the_row).own_val ls vs)
     → (k : ℕ) → k < length ls → NarrowLinks (get_or ls k no_links)
 each_links [] vs p k h = absurd (omega arith)
 each_links (l ∷ ls) [] p k h = absurd p
@@ -35,7 +35,7 @@ each_links (l ∷ ls) (v ∷ vs) p (suc k) h = each_links ls vs p.1 k (omega ari
 pub row_narrow : (row : Row) (vs : List Val) → Is R.the_row row vs → NarrowRow row
 row_narrow row vs p =
     let lists = p.1.1.1.1.0 in
-    let six : length row.lists ≡ 6 = sym (length-map row.lists (L.the_field).into) ∙ lists.1.0.1 in
+    let six : length row.lists ≡ 6 = lists.1.0.1 in
     record {
       six = six;
       narrow = λ k h. each_links row.lists lists.0 lists.1.1 k (omega arith);

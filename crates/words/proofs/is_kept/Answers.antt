@@ -11,12 +11,12 @@ returns-then-words-lt-STATE_WORDS c = rw (lt-leb state_words (length c.args.word
 
 pub returns-then-low_half-ne-VERSION : goal.returns-then-low_half-ne-VERSION
 returns-then-low_half-ne-VERSION c =
-    let h = c.low_half_lem in
+    let h = c.low_half in
     let enough = le-leb state_words (length c.args.words.now) c.if-words-lt-STATE_WORDS.false in
     rw (enough, ← h.ensures, ne_eqb h.result version c.if-low_half-ne-VERSION.true) refl
 
 pub returns : goal.returns
 returns c =
-    let h = c.low_half_lem in
+    let h = c.low_half in
     let enough = le-leb state_words (length c.args.words.now) c.if-words-lt-STATE_WORDS.false in
     rw (enough, ← h.ensures, eq-eqb h.result version c.if-low_half-ne-VERSION.false, ← c.used_in.ensures.0) refl

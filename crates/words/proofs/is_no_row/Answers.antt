@@ -11,10 +11,17 @@ use Rattle.definition.proofs.Tests.{range_last}
 use Rattle.words.specs.Words.{word_in}
 use Rattle.words.proofs.Unused.{is_zero, unused}
 use Rattle.words.proofs.is_no_row.Goals as goal
+use Rattle.words.proofs.is_no_row.Goals.{then-words-at-ne0, else-words-at-ne0}
 
 pub loop-k-init : goal.loop-k-init
 unfolding all range
 loop-k-init c = (omega arith, refl)
+
+pub returns : goal.returns
+returns c =
+    let k = c.loop-k in
+    let e : k.k ≡ 11 = omega arith in
+    (rw e at k.invariant.1) ∙ unused c.args.words.now c.args.at
 
 pub loop-k-preserved : goal.loop-k-preserved
 loop-k-preserved c =
@@ -24,14 +31,8 @@ loop-k-preserved c =
     let k = c.loop-k in
     let more = range_last (is_zero ws) at k.k in (
       search rules,
-      ⊎_elim
-          (λ w. rw (w.1, more, ne_eqb (word_in ws (at + k.k)) 0 (λ e. omega (arith, w.0.taken)), and-false) refl)
-          (λ w. rw (w.1, more, eq-eqb (word_in ws (at + k.k)) 0 (omega (arith, w.0.left)), and-true) k.invariant.1)
-          c.if-words-at-ne0.branch,
+      elim c.if-words-at-ne0.branch [
+        | then-words-at-ne0 w ↦ rw (w.none-is, more, ne_eqb (word_in ws (at + k.k)) 0 (λ e. omega (arith, w.if-words-at-ne0.true)), and-false) refl
+        | else-words-at-ne0 w ↦ rw (w.none-is, more, eq-eqb (word_in ws (at + k.k)) 0 (omega (arith, w.if-words-at-ne0.false)), and-true) k.invariant.1
+      ],
     )
-
-pub returns : goal.returns
-returns c =
-    let k = c.loop-k in
-    let e : k.k ≡ 11 = omega arith in
-    (rw e at k.invariant.1) ∙ unused c.args.words.now c.args.at

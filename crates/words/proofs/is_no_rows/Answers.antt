@@ -23,11 +23,11 @@ loop-at-init c =
       unused_from_lem c.args.words.now c.args.first,
     )
 
-pub returns-then-not-is_no_row : goal.returns-then-not-is_no_row
-returns-then-not-is_no_row c =
+pub returns : goal.returns
+returns c =
     let l = c.loop-at in
-    let e = unused_next c.args.words.now l.at l.invariant.1 (omega arith) (omega arith) c.is_no_row.ensures in
-    sym (sym l.invariant.5 ∙ e ∙ rw (not-true c.is_no_row.result c.if-not-is_no_row.true) refl)
+    let ws = c.args.words.now in
+    sym (unused_end ws l.at l.invariant.1 (λ m. let e = l.invariant.4 (omega arith) in omega arith)) ∙ l.invariant.5
 
 pub loop-at-preserved : goal.loop-at-preserved
 loop-at-preserved c =
@@ -38,11 +38,11 @@ loop-at-preserved c =
       l.invariant.2,
       l.invariant.3,
       l.invariant.4,
-      sym (e ∙ rw (not-false c.is_no_row.result c.if-not-is_no_row.false) refl) ∙ l.invariant.5,
+      sym (e ∙ rw c.if-not-is_no_row.false refl) ∙ l.invariant.5,
     )
 
-pub returns : goal.returns
-returns c =
+pub returns-then-not-is_no_row : goal.returns-then-not-is_no_row
+returns-then-not-is_no_row c =
     let l = c.loop-at in
-    let ws = c.args.words.now in
-    sym (unused_end ws l.at l.invariant.1 (λ m. let e = l.invariant.4 (omega arith) in omega arith)) ∙ l.invariant.5
+    let e = unused_next c.args.words.now l.at l.invariant.1 (omega arith) (omega arith) c.is_no_row.ensures in
+    sym (sym l.invariant.5 ∙ e ∙ rw c.if-not-is_no_row.true refl)

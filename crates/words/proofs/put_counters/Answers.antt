@@ -27,9 +27,6 @@ bounds-words-98 c = simp length-set (omega arith)
 pub bounds-words-99 : goal.bounds-words-99
 bounds-words-99 c = simp length-set (omega arith)
 
-pub bounds-words-100 : goal.bounds-words-100
-bounds-words-100 c = simp length-set (omega arith)
-
 pub returns : goal.returns
 unfolding counter_words
 returns c = stores (counter_words c.args.counters) c.args.words.now counters_at (omega arith)

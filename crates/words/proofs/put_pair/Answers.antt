@@ -8,9 +8,6 @@ use Rattle.words.proofs.put_pair.Goals as goal
 pub bounds-words-at-2 : goal.bounds-words-at-2
 bounds-words-at-2 c = simp length-set (omega arith)
 
-pub bounds-words-at-3 : goal.bounds-words-at-3
-bounds-words-at-3 c = simp length-set (omega arith)
-
 pub returns : goal.returns
 returns c =
     rw (c.joined-3.ensures, c.joined-2.ensures, c.joined.ensures) (three_stores c.args.words.now c.args.at _ _ _ c.requires)

@@ -5,8 +5,5 @@ use borrow.Author.Rules.{rules}
 use Rattle.words.proofs.Beside.{pass_beside}
 use Rattle.words.proofs.put_pass.Goals as goal
 
-pub bounds-words-91 : goal.bounds-words-91
-bounds-words-91 c = simp length-set (omega arith)
-
 pub returns : goal.returns
 returns c = pass_beside c.args.words.now c.args.pass c.requires

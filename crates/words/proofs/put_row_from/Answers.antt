@@ -16,13 +16,6 @@ put_pair-requires c = simp length-set (omega arith)
 pub put_pair-requires-2 : goal.put_pair-requires-2
 put_pair-requires-2 c = omega (arith, simp length-set at c.put_pair.auto.words)
 
-pub put_pair-requires-3 : goal.put_pair-requires-3
-put_pair-requires-3 c = omega (arith, c.put_pair-2.auto.words, simp length-set at c.put_pair.auto.words)
-
-pub shape_of-words : goal.shape_of-words
-shape_of-words c =
-    c.put_pair-3.auto.words ∙ c.put_pair-2.auto.words ∙ c.put_pair.auto.words ∙ simp length-set
-
 pub returns : goal.returns
 unfolding row_words
 returns c =

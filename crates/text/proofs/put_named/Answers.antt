@@ -1,0 +1,12 @@
+-- `text::put_named` meets its contract. The digits follow the text.
+use native.Mathlib.Omega.{arith}
+use Rattle.text.proofs.Writing.{wrote_then}
+use borrow.Author.Rules.{rules}
+use Rattle.text.proofs.put_named.Goals as goal
+
+pub returns : goal.returns
+returns c =
+    record {
+      wrote = wrote_then c.put_text-next.ensures c.put_number.ensures.wrote (omega arith);
+      upper_bound = omega arith;
+    }
