@@ -1,0 +1,75 @@
+-- The loop has laid out the pages below `at`; the rest is laid out as the definition would from there.
+use Prim.Native.Nat.{ℕ, ◌-◌, ◌≤◌}
+use mathlib.Core.List.{List}
+use mathlib.Core.Path.{◌≡◌, refl}
+use native.Mathlib.Omega.{arith}
+use borrow.Author.Rules.{rules}
+use lib.ListN.{length}
+use Rattle.definition.specs.Board.{Board}
+use Rattle.definition.specs.World.{record_at}
+use Rattle.definition.specs.declared.Row.{Row}
+use Rattle.record.specs.Records.{pages_in}
+use Rattle.level.proofs.Sizes.{size_positive}
+use Rattle.region.proofs.Laying.{best, Laid, laid_none, laid_asks, laid_step, Laid-done}
+use Rattle.region.proofs.organize.Goals as goal
+
+record Inv (board : Board) (records₀ : List ℕ) (first from count : ℕ) (r₀ : Row) (records : List ℕ) (r : Row) (at : ℕ) : Type 0 where
+  some : at ≤ count
+  same : length records ≡ length records₀
+  laid : Laid board (record_at records₀) first r₀ from count (record_at records) (pages_in records) r at
+
+pub loop-at-init : goal.loop-at-init
+loop-at-init c = record { some = omega arith; same = refl; laid = laid_none _ _ c.requires.sound_row c.requires.count_value.0 c.requires.blank }
+
+pub overflow_add-from : goal.overflow_add-from
+overflow_add-from c = omega arith
+
+pub overflow_sub-count : goal.overflow_sub-count
+overflow_sub-count c = omega arith
+
+pub overflow_add-first : goal.overflow_add-first
+overflow_add-first c = omega (arith, c.requires.sound_row.fits, c.requires.sound_row.small, c.requires.count_value.0, c.loop-at-test.true)
+
+pub push-r-requires : goal.push-r-requires
+push-r-requires c =
+    let k = c.loop-at in
+    let b = c.level_at-level in
+    laid_asks k.invariant.laid c.loop-at-test.true b.result (best _ _ _ b.ensures (omega arith)) c.requires.count_value.0
+
+pub pages_at-at-requires : goal.pages_at-at-requires
+pages_at-at-requires c = (best _ _ _ c.level_at-level.ensures (omega arith)).small
+
+pub overflow_add-at : goal.overflow_add-at
+overflow_add-at c =
+    let k = c.loop-at in
+    let b = c.level_at-level in
+    let B = best _ _ _ b.ensures (omega arith) in
+    rw c.pages_at-at.ensures (omega (arith, B.fits, c.requires.count_value.2))
+
+pub loop-at-smaller : goal.loop-at-smaller
+loop-at-smaller c =
+    let k = c.loop-at in
+    let b = c.level_at-level in
+    let B = best _ _ _ b.ensures (omega arith) in
+    rw c.pages_at-at.ensures (omega (arith, B.fits, size_positive b.result, c.loop-at-test.true))
+
+pub loop-at-preserved : goal.loop-at-preserved
+loop-at-preserved c =
+    let k = c.loop-at in
+    let b = c.level_at-level in
+    let B = best _ _ _ b.ensures (omega arith) in
+    let d = c.push-r in
+    rw c.pages_at-at.ensures
+    (record {
+      some = omega (arith, B.fits, c.loop-at-test.true);
+      same = omega (arith, d.auto.records, k.invariant.same);
+      laid = laid_step k.invariant.laid c.loop-at-test.true b.result B d.ensures;
+    })
+
+pub shape_of-records : goal.shape_of-records
+shape_of-records c = omega arith
+
+pub returns : goal.returns
+returns c =
+    let k = c.loop-at in
+    Laid-done k.invariant.laid (omega arith) c.requires.count_value.0 c.requires.count_value.1

@@ -1,0 +1,20 @@
+-- `all_walk` meets its contract. The loop's invariant: the lists of the levels passed walk.
+-- ---- of any test of the six, by both of a level
+-- ---- the loop
+-- whether the list of a number walks
+use Rattle.std.proofs.Common.{◌≡◌, ℕ, ◌+◌, ◌-◌, ◌*◌, ◌<◌, ◌≤◌, Bool, true, false, not, ◌&&◌, sym, refl, ap, ◌∙◌, arith, rules}
+use mathlib.Core.Bool.{false≢true}
+use borrow.Author.Tests.{not-false, not-true}
+use Rattle.definition.specs.Basics.{all, range}
+use Rattle.definition.specs.World.{record_at}
+use Rattle.definition.proofs.Tests.{and_left, and_right, and-true, range_in, range_last}
+use Rattle.words.specs.Words.{row_of, rows_in}
+use Rattle.scan.specs.Sheet.{list_at}
+use Rattle.scan.proofs.Members.{refuse}
+use Rattle.scan.proofs.all_walk.Given as goal
+
+abbrev pub invariant-loop-level : goal.invariant-loop-level
+invariant-loop-level l = (l.level ≤ 3) × (all (list_at (record_at l.records) l.base l.past (row_of (rows_in l.words) l.i).lists) (range 0 (2 * l.level)) ≡ true)
+
+abbrev pub decreases-loop-level : goal.decreases-loop-level
+decreases-loop-level l = 3 - l.level

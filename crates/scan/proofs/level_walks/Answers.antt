@@ -1,0 +1,51 @@
+-- `level_walks` meets its contract: an empty list walks, and of another `walk` says whether it does.
+-- ---- the list k of the row
+-- ---- the needs
+-- what the walk of the dirty list says of it
+-- behind it, the dirty list walks
+use Rattle.std.proofs.Common.{◌≡◌, ℕ, ◌+◌, ◌*◌, Bool, true, sym, refl, ◌∙◌, ⊎_elim, rules}
+use borrow.Author.Tests.{not-false, not-true}
+use Rattle.definition.specs.declared.Links.{Links}
+use Rattle.definition.specs.declared.Row.{Row}
+use Rattle.definition.specs.Torn.{Records, is_no_links}
+use Rattle.definition.specs.World.{record_at}
+use Rattle.definition.proofs.Tests.{and_left, and_right, and-true}
+use Rattle.words.specs.Words.{row_of, rows_in, list_in}
+use Rattle.scan.specs.Sheet.{list_at, walks_at}
+use Rattle.scan.proofs.Ends.{list_walks_lem, none_walks}
+use Rattle.scan.proofs.level_walks.Goals as goal
+use Rattle.scan.proofs.level_walks.Goals.{After-walk, Joined-not-is_none, Start, else-not-is_none, then-not-is_none}
+
+abbrev records : Start → Records
+records s = record_at s.args.records.now
+
+abbrev row : Start → Row
+row s = row_of (rows_in s.args.words.now) s.args.i
+
+abbrev walks : Start → ℕ → Bool
+walks s k = list_at (records s) s.args.base s.args.past (row s).lists k
+
+module _ (s : Start) (k : ℕ) (l : Links) (e : l ≡ list_in (row s) k) where
+  -- as `walk` answers
+  walked : (b : Bool) → b ≡ walks_at (records s) s.args.base s.args.past k l.count 0 l.front l.back → b ≡ walks s k
+  walked b w = w ∙ list_walks_lem (records s) s.args.base s.args.past (row s).lists k l e
+
+  empty : is_no_links l ≡ true → walks s k ≡ true
+  empty = none_walks (records s) s.args.base s.args.past (row s).lists k l e
+
+pub returns-then-is_bare : goal.returns-then-is_bare
+returns-then-is_bare c =
+    let k = 2 * c.args.level in
+    let n = sym c.is_bare.ensures ∙ c.if-is_bare.true in
+    sym
+    (and-true
+    (empty (goal.at.returns-then-is_bare c).Start k (list_in (row (goal.at.returns-then-is_bare c).Start) k) refl (and_left _ _ n))
+    (empty (goal.at.returns-then-is_bare c).Start (k + 1) (list_in (row (goal.at.returns-then-is_bare c).Start) (k + 1)) refl (and_right (is_no_links (list_in (row (goal.at.returns-then-is_bare c).Start) k)) _ n)))
+
+dirty : (c : After-walk) → 
+    
+    c.walk.result ≡ walks (goal.at.After-walk c).Start (2 * c.args.level)
+dirty c =
+    
+    
+    walked (goal.at.After-walk c).Start (2 * c.args.level) c.list_at-dirty.result c.list_at-dirty.ensures c.walk.result c.walk.ensures

@@ -1,0 +1,13 @@
+-- `listed_pages` meets its contract. The loop's invariant: the pages are those of the lists passed, at most 2^50 of each.
+-- what a turn adds
+use Rattle.std.proofs.Common.{◌≡◌, ◌+◌, ◌-◌, ◌*◌, ◌^◌, ◌≤◌, get_or, arith, rules}
+use Rattle.definition.specs.Basics.{sum, range}
+use Rattle.definition.specs.World.{no_links}
+use Rattle.scan.proofs.Pages.{sum_last, list_weight, weight_most}
+use Rattle.scan.proofs.listed_pages.Given as goal
+
+abbrev pub invariant-loop-k : goal.invariant-loop-k
+invariant-loop-k l = (l.k ≤ 6) × (l.pages ≡ sum (list_weight l.lists) (range 0 l.k)) × (l.pages ≤ 2 ^ 50 * l.k)
+
+abbrev pub decreases-loop-k : goal.decreases-loop-k
+decreases-loop-k l = 6 - l.k

@@ -1,0 +1,13 @@
+-- `past_free` meets its contract. The loop's invariant: up to `at` there are only unheld frames of one page.
+use Rattle.std.proofs.Common.{◌+◌, ◌-◌, ◌≤◌, arith, rules}
+use borrow.Author.Tests.{not-false}
+use Rattle.definition.specs.World.{record_at}
+use Rattle.scan.specs.Sheet.{Free}
+use Rattle.scan.proofs.Marks.{free_then}
+use Rattle.scan.proofs.past_free.Given as goal
+
+abbrev pub invariant-loop-at : goal.invariant-loop-at
+invariant-loop-at l = (l.first ≤ l.at) × (l.at ≤ l.past) × Free (record_at l.records) l.first l.at
+
+abbrev pub decreases-loop-at : goal.decreases-loop-at
+decreases-loop-at l = l.past - l.at
