@@ -1,6 +1,7 @@
 // The bytes of the lent memory: a range filled, written, copied, or lent as a part (frame.rs 430 to 541 without the frames and their
 // marks). Each contract is an equation on the whole loan: `with_bytes bs at xs` is bs but for the bytes of xs from `at` on.
 #![tactic(auto)]
+
 ghost use Rattle.std.specs.Prelude.{◌≡◌, ◌+◌, ◌<◌, ◌≤◌, length, take, drop, replicate};
 ghost use Rattle.record.specs.Records.{with_bytes};
 

@@ -1,6 +1,7 @@
 // The three levels of frames, after frame.rs: of 1, 512 and 262,144 pages (4 KiB, 2 MiB and 1 GiB of the Rust's), with the constants that
 // belong to each, and which level a layout or a place takes. Bytes are counted in u64, pages and levels in usize.
 #![tactic(auto)]
+
 ghost use Rattle.std.specs.Prelude.{not, ◌||◌, ◌≡◌, ◌-◌, ◌*◌, ◌/◌, ◌^◌, ◌<◌, ◌≤◌, ltb};
 ghost use Rattle.definition.specs.declared.FrameAllocFlags.{FrameAllocFlags};
 ghost use Rattle.definition.specs.Board.{Fit};

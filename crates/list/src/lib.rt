@@ -3,6 +3,7 @@
 // finds distinct pages that have a record and are linked both ways, as many as the count says. The audit establishes it, and each function
 // keeps it.
 #![tactic(auto)]
+
 ghost use Rattle.std.specs.Prelude.{◌≡◌, cond, [], ◌∷◌, ◌≢◌, ◌+◌, ◌-◌, ◌<◌, ◌^◌, eqb};
 ghost use Rattle.definition.specs.World.{record_at, pages_of};
 ghost use Rattle.record.specs.Records.{pages_in};

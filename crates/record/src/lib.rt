@@ -3,6 +3,7 @@
 // contract, which speaks of the records as a function of the page; the `bytes` clause fixes every byte of the loan, those past the last
 // whole record too.
 #![tactic(auto)]
+
 ghost use Rattle.std.specs.Prelude.{true, false, ◌≡◌, ◌++◌, ◌+◌, ◌*◌, ◌/◌, ◌^◌, ◌<◌, ◌≤◌, ltb, length, replicate};
 ghost use Rattle.definition.specs.Basics.{upd, all, range};
 ghost use Rattle.definition.specs.Frame.{levels};

@@ -2,6 +2,7 @@
 // reads nothing outside the loan on every input, and says exactly whether its clause of the sheet holds. `from` is the page frame number of
 // the region's first managed page, `base` that page's number in the records, `past` the number behind its last.
 #![tactic(auto)]
+
 ghost use Rattle.std.specs.Prelude.{◌≡◌, ◌+◌, ◌-◌, ◌*◌, ◌^◌, ◌<◌, ◌≤◌, true, false, ◌&&◌, ◌==◌};
 ghost use Rattle.definition.specs.Basics.{all, range};
 ghost use Rattle.definition.specs.World.{record_at};

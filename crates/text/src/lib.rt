@@ -1,6 +1,7 @@
 // Texts and decimal numbers, written into a lent slice from a place on. Each function answers the place behind what it wrote, so that
 // calls follow one another, and its contract fixes every byte of the slice (`Wrote`).
 #![tactic(auto)]
+
 ghost use Rattle.std.specs.Prelude.{◌≡◌, ◌++◌, ◌+◌, ◌≤◌, length, drop};
 ghost use Rattle.definition.specs.Text.{digits_of};
 ghost use Rattle.text.specs.Writing.{Wrote};

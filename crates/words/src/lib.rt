@@ -2,6 +2,7 @@
 // stand, and written there. Any words of the right number and version are some state; whether it is a sound one is the audit's to say. What
 // each word is stands in specs/Words.antt.
 #![tactic(auto)]
+
 ghost use Rattle.std.specs.Prelude.{◌&&◌, ◌≡◌, ◌+◌, ◌*◌, ◌%◌, ◌/◌, ◌≤◌, ◌<◌, length, drop};
 ghost use Rattle.definition.specs.Basics.{all};
 ghost use Rattle.definition.specs.Board.{Fit};

@@ -25,7 +25,6 @@ fine c flags = sym c.is_bad_layout.ensures ∙ c.if-is_bad_layout.false
 
 no_small : (c : Else-suffices) (m : ℕ) → m < 1 → Short (goal.at.Else-suffices c).Start m
 no_small c =
-    
     below_more (Short (goal.at.Else-suffices c).Start) 0 (below_none (Short (goal.at.Else-suffices c).Start)) (sym c.suffices.ensures ∙ c.if-suffices.false)
 
 no_large : (c : Else-suffices-2) (m : ℕ) → m < 2 → Short (goal.at.Else-suffices-2 c).Start m
@@ -39,27 +38,23 @@ returns-then-is_bad_layout c = λ flags. rw (sym c.is_bad_layout.ensures ∙ c.i
 pub returns-then-suffices : goal.returns-then-suffices
 returns-then-suffices c =
     λ flags.
-    
     sym (found_at c.args.board (layout (goal.at.returns-then-suffices c).Start flags) (fine (goal.at.returns-then-suffices c).Else-is_bad_layout flags) 0 (lit< tt) (sym c.suffices.ensures ∙ c.if-suffices.true)
     (below_none (Short (goal.at.returns-then-suffices c).Start)))
 
 pub returns-then-suffices-2 : goal.returns-then-suffices-2
 returns-then-suffices-2 c =
     λ flags.
-    
     sym (found_at c.args.board (layout (goal.at.returns-then-suffices-2 c).Start flags) (fine (goal.at.returns-then-suffices-2 c).Else-is_bad_layout flags) 1 (lit< tt)
     (sym c.suffices-2.ensures ∙ c.if-suffices-2.true) (no_small (goal.at.returns-then-suffices-2 c).Else-suffices))
 
 pub returns-then-suffices-3 : goal.returns-then-suffices-3
 returns-then-suffices-3 c =
     λ flags.
-    
     sym (found_at c.args.board (layout (goal.at.returns-then-suffices-3 c).Start flags) (fine (goal.at.returns-then-suffices-3 c).Else-is_bad_layout flags) 2 (lit< tt)
     (sym c.suffices-3.ensures ∙ c.if-suffices-3.true) (no_large (goal.at.returns-then-suffices-3 c).Else-suffices-2))
 
 pub returns : goal.returns
 returns c =
     λ flags.
-    
     sym (found_none c.args.board (layout (goal.at.returns c).Start flags) (fine (goal.at.returns c).Else-is_bad_layout flags)
     (sym c.suffices-3.ensures ∙ c.if-suffices-3.false))

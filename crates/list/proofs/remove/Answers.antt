@@ -31,9 +31,7 @@ pub returns : goal.returns
 returns c =
     let d = c.set_links in
     let a = c.earlier_at in
-    
     let m = c.later_at in
-    
     rw (
       c.either.ensures,
       c.either-2.ensures,

@@ -34,6 +34,24 @@ module _ (t : ℕ → Bool) (n : ℕ) (b : Bool) (e : b ≡ (t (2 * n) && t (2 *
       ∙ range_last t 0 (2 * n + 1)
       ∙ and-true (range_last t 0 (2 * n) ∙ and-true h (ap t first ∙ and_left _ _ both)) (ap t second ∙ and_right (t (2 * n)) _ both)
 
+pub loop-level-init : goal.loop-level-init
+unfolding all range
+loop-level-init c = (search rules, refl)
+
+abbrev walks : After-level_walks → ℕ → Bool
+walks c =
+    let a = c.args in
+    list_at (record_at a.records.now) a.base a.past (row_of (rows_in a.words.now) a.i).lists
+
+pub returns-then-not-level_walks : goal.returns-then-not-level_walks
+returns-then-not-level_walks c =
+    level_fails (walks (goal.at.returns-then-not-level_walks c).After-level_walks) c.loop-level.level c.level_walks.result c.level_walks.ensures (omega arith) (ap not c.if-not-level_walks.true)
+
+pub loop-level-preserved : goal.loop-level-preserved
+loop-level-preserved c =
+    let s = c.loop-level in
+    (search rules, level_more (walks (goal.at.loop-level-preserved c).After-level_walks) s.level c.level_walks.result c.level_walks.ensures (ap not c.if-not-level_walks.false) s.invariant.1)
+
 pub returns : goal.returns
 returns c =
     let s = c.loop-level in

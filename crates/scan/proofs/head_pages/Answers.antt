@@ -70,6 +70,15 @@ returns-then-not-is_named c =
     let n = ltb-false m.result named_marks (sym r.ensures ∙ c.if-not-is_named.true) in
     none (goal.at.returns-then-not-is_named c).Start (λ d. omega (arith, d.known, m.ensures))
 
+pub returns-then-level-eq0 : goal.returns-then-level-eq0
+returns-then-level-eq0 c =
+    let s = leveled (goal.at.returns-then-level-eq0 c).After-level_of-level in
+    let a = s.args in
+    let f = record_at a.records.now in
+    let e : level_in (found s).level ≡ 0 = sym (level_is (goal.at.returns-then-level-eq0 c).After-level_of-level) ∙ c.if-level-eq0.true in
+    let t = head_small f a.from a.base a.past a.h (admitted (goal.at.returns-then-level-eq0 c).Else-not-is_named) (known (goal.at.returns-then-level-eq0 c).Else-not-is_named) e s.requires.1 in
+    sym (ap size e) ∙ pages_some f a.from a.base a.past a.h t
+
 pub returns-then-level-ge3 : goal.returns-then-level-ge3
 returns-then-level-ge3 c = none (leveled (goal.at.returns-then-level-ge3 c).After-level_of-level) (λ d. omega (arith, d.level, level_is (goal.at.returns-then-level-ge3 c).After-level_of-level))
 
@@ -90,10 +99,7 @@ clear : (c : After-is_clear) → let a = (cleared c).args in
     c.is_clear.result ≡ head_at (record_at a.records.now) a.from a.base a.past a.h
 clear c =
     let a = (cleared c).args in
-    
     let q = size_is (goal.at.After-is_clear c).After-pages_at-pages in
-    
-    
     let g = rw q at c.if-from-h-ne0.false in
     c.is_clear.ensures
     ∙ rw q (sym (head_rest (record_at a.records.now) a.from a.base a.past a.h (admitted (goal.at.After-is_clear c).Else-not-is_named) (known (goal.at.After-is_clear c).Else-not-is_named) (omega (arith, level_is (goal.at.After-is_clear c).After-level_of-level)) g (omega arith)))

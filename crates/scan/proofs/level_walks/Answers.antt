@@ -14,7 +14,7 @@ use Rattle.words.specs.Words.{row_of, rows_in, list_in}
 use Rattle.scan.specs.Sheet.{list_at, walks_at}
 use Rattle.scan.proofs.Ends.{list_walks_lem, none_walks}
 use Rattle.scan.proofs.level_walks.Goals as goal
-use Rattle.scan.proofs.level_walks.Goals.{After-walk, Joined-not-is_none, Start, else-not-is_none, then-not-is_none}
+use Rattle.scan.proofs.level_walks.Goals.{After-walk, Joined-not-is_none, Start, else-not-is_none, then-not-is_none+else-not-walk}
 
 abbrev records : Start → Records
 records s = record_at s.args.records.now
@@ -42,10 +42,31 @@ returns-then-is_bare c =
     (empty (goal.at.returns-then-is_bare c).Start k (list_in (row (goal.at.returns-then-is_bare c).Start) k) refl (and_left _ _ n))
     (empty (goal.at.returns-then-is_bare c).Start (k + 1) (list_in (row (goal.at.returns-then-is_bare c).Start) (k + 1)) refl (and_right (is_no_links (list_in (row (goal.at.returns-then-is_bare c).Start) k)) _ n)))
 
-dirty : (c : After-walk) → 
-    
+dirty : (c : After-walk) →
     c.walk.result ≡ walks (goal.at.After-walk c).Start (2 * c.args.level)
 dirty c =
-    
-    
     walked (goal.at.After-walk c).Start (2 * c.args.level) c.list_at-dirty.result c.list_at-dirty.ensures c.walk.result c.walk.ensures
+
+pub returns-then-not-walk : goal.returns-then-not-walk
+returns-then-not-walk c = sym (rw (← dirty (goal.at.returns-then-not-walk c).After-walk, c.if-not-walk.true))
+
+dirty_walks : (c : Joined-not-is_none) → walks (goal.at.Joined-not-is_none c).Start (2 * c.args.level) ≡ true
+dirty_walks c =
+    let s = (goal.at.Joined-not-is_none c).Start in
+    let k = 2 * c.args.level in
+    elim c.if-not-is_none.branch [
+      | then-not-is_none+else-not-walk w ↦ sym (walked s k c.list_at-dirty.result c.list_at-dirty.ensures w.walk.result w.walk.ensures) ∙ w.if-not-walk.false
+      | else-not-is_none w ↦ empty s k c.list_at-dirty.result c.list_at-dirty.ensures (sym c.is_none.ensures ∙ w.if-not-is_none.false)
+    ]
+
+pub returns-then-is_none : goal.returns-then-is_none
+returns-then-is_none c =
+    sym
+    (and-true
+    (dirty_walks (goal.at.returns-then-is_none c).Joined-not-is_none)
+    (empty (goal.at.returns-then-is_none c).Start (2 * c.args.level + 1) c.list_at-zeroed.result c.list_at-zeroed.ensures (sym c.is_none-2.ensures ∙ c.if-is_none.true)))
+
+pub returns : goal.returns
+returns c =
+    rw (dirty_walks (goal.at.returns c).Joined-not-is_none)
+    (walked (goal.at.returns c).Start (2 * c.args.level + 1) c.list_at-zeroed.result c.list_at-zeroed.ensures c.walk-2.result c.walk-2.ensures)

@@ -22,6 +22,15 @@ all_walk-requires c =
       in_use = search rules;
     }
 
+pub returns-then-listed_pages-past : goal.returns-then-listed_pages-past
+returns-then-listed_pages-past c =
+    let a = c.args in
+    let p = c.requires in
+    by_lists (record_at a.records.now) a.row a.from a.base a.past c.scan-scanned.result c.scan-scanned.ensures p.base_le_past.0
+    c.if-ok.true
+    (sym c.listed_pages.ensures ∙ c.if-listed_pages-past.true) c.all_walk.result
+    (rw (← p.in_use.1) at c.all_walk.ensures)
+
 pub returns-else-listed_pages-past : goal.returns-else-listed_pages-past
 returns-else-listed_pages-past c =
     let a = c.args in
