@@ -1,6 +1,6 @@
 -- What a line of a script is read as: an op and its numbers. `Reads` says that definition's `read_line` asks the same of it; `NextLine` says where a line ends
 -- and where the next one starts.
-use Rattle.std.specs.Prelude.{ℕ, ◌-◌, ◌%◌, ◌≤◌, ◌<◌, List, [], ◌∷◌, ◌≡◌, length, get_or, take, drop}
+use Rattle.std.specs.Prelude.{ℕ, ◌-◌, ◌%◌, ◌≤◌, ◌<◌, List, ◌∷◌, ◌≡◌, length, get_or, take, drop}
 use Rattle.std.proofs.Math.Option.{Option, none, some}
 use Rattle.definition.specs.Text.{bytes_of}
 use Rattle.definition.specs.Calls.{Call}
@@ -26,7 +26,6 @@ use Rattle.lines.specs.declared.Ask.TheVariants.{
   Low,
 }
 use Rattle.lines.specs.declared.Op.{Op}
-use Rattle.lines.specs.declared.Op.TheVariants as Op
 use Rattle.lines.specs.declared.Line.{Line}
 
 -- ---- ops

@@ -1,6 +1,7 @@
 // A line of a script, read: which op it names, and its numbers (01, "The script program"). `read_line` promises that definition's
 // `read_line` asks the same.
 #![tactic(auto)]
+
 ghost use Rattle.std.specs.Prelude.{◌≡◌, cond, ◌+◌, ◌<◌, ◌≤◌, length, drop};
 ghost use Rattle.definition.specs.Script.{lines, fields, read_number, same_bytes};
 ghost use Rattle.lines.specs.Reading.{Reads, NextLine};

@@ -1,6 +1,7 @@
 // The nine counters of the store, after tracker.rs's MemoryTracker: grants and frees counted, whether memory is low, the pager's loan, and
 // the statistics as text. Counters go in and come out by value, where the Rust has atomics.
 #![tactic(auto)]
+
 ghost use Rattle.std.specs.Prelude.{◌≡◌, ◌+◌, ◌-◌, ◌^◌, ◌<◌, ◌≤◌, length};
 ghost use Rattle.definition.specs.Board.{Fit};
 ghost use Rattle.definition.specs.Tracker.{

@@ -1,6 +1,4 @@
 -- `find_level` meets its contract: the tests on the way to each answer are those that the laws of the first level ask for.
--- a level does not serve
--- what is known where each test failed
 use Prim.Native.Nat.{ℕ, ◌<◌}
 use mathlib.Core.Bool.{false}
 use mathlib.Core.Path.{◌≡◌, sym, ◌∙◌}
@@ -17,9 +15,11 @@ use Rattle.level.proofs.find_level.Goals.{Else-is_bad_layout, Else-suffices, Els
 abbrev layout : Start → FrameAllocFlags → Layout
 layout s flags = record { size = s.args.size; align = s.args.align; flags = flags }
 
+-- a level does not serve
 abbrev Short : Start → ℕ → Type 0
 Short s l = serves (bytes_of_level s.args.board l) s.args.size s.args.align ≡ false
 
+-- what is known where each test failed
 fine : (c : Else-is_bad_layout) (flags : FrameAllocFlags) → bad_layout (layout (goal.at.Else-is_bad_layout c).Start flags) ≡ false
 fine c flags = sym c.is_bad_layout.ensures ∙ c.if-is_bad_layout.false
 

@@ -1,11 +1,8 @@
 -- `count_lines` meets its contract. The loop's invariant: the lines counted and those left are all of them.
 use Prim.Native.Nat.{◌+◌, ◌-◌, ◌≤◌}
 use mathlib.Core.Path.{◌≡◌}
-use native.Mathlib.Omega.{arith}
-use borrow.Author.Rules.{rules}
 use lib.ListN.{length, drop}
 use Rattle.definition.specs.Script.{lines}
-use Rattle.lines.proofs.Lines.{one_less, none_left}
 use Rattle.lines.proofs.count_lines.Given as goal
 
 abbrev pub invariant-loop-at : goal.invariant-loop-at

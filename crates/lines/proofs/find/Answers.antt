@@ -1,5 +1,4 @@
 -- `find` meets its contract. The loop's invariant: no separator was passed, so that the gap from `from` ends where the gap from i does.
-use Prim.Native.Nat.{◌+◌, ◌-◌, ◌≤◌}
 use mathlib.Core.Path.{◌≡◌, refl}
 use native.Mathlib.Omega.{arith}
 use borrow.Author.Rules.{rules}

@@ -1,12 +1,8 @@
 -- `find` meets its contract. The loop's invariant: no separator was passed, so that the gap from `from` ends where the gap from i does.
 use Prim.Native.Nat.{◌+◌, ◌-◌, ◌≤◌}
-use mathlib.Core.Path.{◌≡◌, refl}
-use native.Mathlib.Omega.{arith}
-use borrow.Author.Rules.{rules}
+use mathlib.Core.Path.{◌≡◌}
 use lib.ListN.{length, drop}
-use lib.Seq.{drop-length}
 use Rattle.lines.specs.Steps.{gap}
-use Rattle.lines.proofs.Parting.{gap_here, gap_more, gap_none}
 use Rattle.lines.proofs.find.Given as goal
 
 abbrev pub invariant-loop-i : goal.invariant-loop-i

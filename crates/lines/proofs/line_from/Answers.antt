@@ -1,7 +1,6 @@
 -- `line_from` meets its contract: the two tests, and the line where both pass.
 use mathlib.Core.Path.{refl}
 use native.Mathlib.Omega.{arith}
-use borrow.Author.Rules.{rules}
 use borrow.Author.Tests.{eq-eqb, ne_eqb, le-leb, lt-leb}
 use Rattle.lines.proofs.line_from.Goals as goal
 

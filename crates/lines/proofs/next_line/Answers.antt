@@ -1,7 +1,6 @@
 -- `next_line` meets its contract: a line that a line feed ends, and the last one, which may lack it.
 use native.Mathlib.Omega.{arith}
 use Rattle.lines.proofs.Lines.{line_fed, line_last}
-use borrow.Author.Rules.{rules}
 use Rattle.lines.proofs.next_line.Goals as goal
 
 pub returns-then-end-s : goal.returns-then-end-s

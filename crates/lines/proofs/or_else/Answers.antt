@@ -1,6 +1,5 @@
 -- `or_else` meets its contract: the two outcomes of a comparison.
 use mathlib.Core.Path.{refl, sym, ◌∙◌}
-use borrow.Author.Rules.{rules}
 use Rattle.lines.proofs.or_else.Goals as goal
 
 pub returns-then-same : goal.returns-then-same

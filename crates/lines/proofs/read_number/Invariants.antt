@@ -1,12 +1,8 @@
 -- `read_number` meets its contract. The loop's invariant: the number that the slice spells is the one that goes on from the digits passed, worth v.
 use Prim.Native.Nat.{◌-◌, ◌≤◌, ◌<◌, ◌^◌}
-use mathlib.Core.Path.{◌≡◌, sym, ◌∙◌}
-use native.Mathlib.Omega.{arith}
-use borrow.Author.Rules.{rules}
+use mathlib.Core.Path.{◌≡◌}
 use lib.ListN.{length, drop}
-use lib.Seq.{drop-length}
 use Rattle.definition.specs.Script.{number_from, read_number}
-use Rattle.lines.proofs.Gathering.{more_at, bad_at, some_from, none_bad, from_end}
 use Rattle.lines.proofs.read_number.Given as goal
 
 abbrev pub invariant-loop-i : goal.invariant-loop-i

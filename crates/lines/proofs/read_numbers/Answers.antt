@@ -1,12 +1,8 @@
 -- `read_numbers` meets its contract. The loop's invariant: the numbers of all fields are those of the fields that are left, behind those in r.
-use Prim.Native.Nat.{◌-◌, ◌≤◌}
 use mathlib.Core.List.{[], ◌∷◌}
-use mathlib.Core.Path.{◌≡◌, refl, sym, ◌∙◌}
+use mathlib.Core.Path.{refl, sym, ◌∙◌}
 use native.Mathlib.Omega.{arith}
 use borrow.Author.Rules.{rules}
-use lib.ListN.{length, drop}
-use Rattle.definition.specs.Script.{fields}
-use Rattle.lines.specs.Steps.{gather, no_numbers}
 use Rattle.lines.proofs.Gathering.{gather_more, gather_last}
 use Rattle.lines.proofs.Parting.{first_at, last_field}
 use Rattle.lines.proofs.read_numbers.Goals as goal

@@ -1,10 +1,8 @@
 -- `same` meets its contract. The loop's invariant: what was passed is alike, so that the texts are the same where their rests are.
-use Prim.Native.Nat.{◌-◌, ◌≤◌}
 use mathlib.Core.Path.{◌≡◌, refl, sym, ◌∙◌}
 use native.Mathlib.Omega.{arith}
 use borrow.Author.Rules.{rules}
-use lib.ListN.{length, drop}
-use Rattle.definition.specs.Script.{same_bytes}
+use lib.ListN.{length}
 use Rattle.lines.proofs.Parting.{same_long, same_not, same_more, drops}
 use Rattle.lines.proofs.same.Goals as goal
 

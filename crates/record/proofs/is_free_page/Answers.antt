@@ -1,5 +1,4 @@
 -- `record::is_free_page` meets its contract: the four numbers are those of an unheld frame of one page, and there is no other.
--- one of the four
 use Prim.Native.Nat.{◌%◌, ◌<◌}
 use mathlib.Core.Bool.{true}
 use mathlib.Core.Path.{◌≡◌, sym}
@@ -13,6 +12,7 @@ use Rattle.record.proofs.Decoding.{free_facts, free_test}
 use Rattle.record.proofs.is_free_page.Goals as goal
 use Rattle.record.proofs.is_free_page.Goals.{After-kind_at-kind}
 
+-- one of the four
 free : (c : After-kind_at-kind) → let a = c.args in
     c.kind_at-kind.result % 4 ≡ 1 → c.kind_at-kind.result < 16 → true ≡ free_page (record_at a.records.now a.page)
 free c e l =

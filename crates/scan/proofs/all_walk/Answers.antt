@@ -1,7 +1,4 @@
 -- `all_walk` meets its contract. The loop's invariant: the lists of the levels passed walk.
--- ---- of any test of the six, by both of a level
--- ---- the loop
--- whether the list of a number walks
 use Rattle.std.proofs.Common.{◌≡◌, ℕ, ◌+◌, ◌-◌, ◌*◌, ◌<◌, ◌≤◌, Bool, true, false, not, ◌&&◌, sym, refl, ap, ◌∙◌, arith, rules}
 use mathlib.Core.Bool.{false≢true}
 use borrow.Author.Tests.{not-false, not-true}
@@ -14,6 +11,7 @@ use Rattle.scan.proofs.Members.{refuse}
 use Rattle.scan.proofs.all_walk.Goals as goal
 use Rattle.scan.proofs.all_walk.Goals.{After-level_walks}
 
+-- ---- of any test of the six, by both of a level
 module _ (t : ℕ → Bool) (n : ℕ) (b : Bool) (e : b ≡ (t (2 * n) && t (2 * n + 1))) where
   -- one fails
   level_fails : n < 3 → not b ≡ true → false ≡ all t (range 0 6)
@@ -38,6 +36,7 @@ pub loop-level-init : goal.loop-level-init
 unfolding all range
 loop-level-init c = (search rules, refl)
 
+-- whether the list of a number walks
 abbrev walks : After-level_walks → ℕ → Bool
 walks c =
     let a = c.args in

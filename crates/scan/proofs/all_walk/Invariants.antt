@@ -1,7 +1,4 @@
 -- `all_walk` meets its contract. The loop's invariant: the lists of the levels passed walk.
--- ---- of any test of the six, by both of a level
--- ---- the loop
--- whether the list of a number walks
 use Rattle.std.proofs.Common.{◌≡◌, ℕ, ◌+◌, ◌-◌, ◌*◌, ◌<◌, ◌≤◌, Bool, true, false, not, ◌&&◌, sym, refl, ap, ◌∙◌, arith, rules}
 use mathlib.Core.Bool.{false≢true}
 use borrow.Author.Tests.{not-false, not-true}

@@ -1,8 +1,4 @@
 -- `head_pages` meets its contract: each refusal contradicts one fact of a head, and past them all the zeros inside decide.
--- the record of the page
--- where the function began, from behind the tests of the marks, the level, and the zeros inside
--- a fact of a head that does not hold
--- all but the zeros inside is as it should be
 use Rattle.std.proofs.Common.{◌≡◌, ◌<◌, sym, ap, ◌∙◌, arith, rules, ltb-false, ltb-true, eqb-true}
 use borrow.Author.Tests.{eqb-false, not-true, not-false}
 use Rattle.definition.specs.declared.Record.{Record}
@@ -15,9 +11,11 @@ use Rattle.scan.proofs.Heads.{Head, head_facts, head_rest, head_small, pages_non
 use Rattle.scan.proofs.head_pages.Goals as goal
 use Rattle.scan.proofs.head_pages.Goals.{After-is_clear, After-level_of-level, After-pages_at-pages, Else-not-is_named, Start}
 
+-- the record of the page
 abbrev found : Start → Record
 found s = record_at s.args.records.now s.args.h
 
+-- where the function began, from behind the tests of the marks, the level, and the zeros inside
 abbrev marked : Else-not-is_named → Start
 marked c = (goal.at.Else-not-is_named c).Start
 
@@ -30,6 +28,7 @@ sized c = leveled (goal.at.After-pages_at-pages c).After-level_of-level
 abbrev cleared : After-is_clear → Start
 cleared c = sized (goal.at.After-is_clear c).After-pages_at-pages
 
+-- a fact of a head that does not hold
 none : (s : Start) → let a = s.args in (Head (record_at a.records.now) a.from a.base a.past a.h → ⊥)
     → 0 ≡ head_pages (record_at a.records.now) a.from a.base a.past a.h
 none s n =
@@ -95,6 +94,7 @@ pub overflow_sub-pages : goal.overflow_sub-pages
 overflow_sub-pages c =
     omega (arith, size_positive (level_in (found (sized (goal.at.overflow_sub-pages c).After-pages_at-pages)).level), size_is (goal.at.overflow_sub-pages c).After-pages_at-pages)
 
+-- all but the zeros inside is as it should be
 clear : (c : After-is_clear) → let a = (cleared c).args in
     c.is_clear.result ≡ head_at (record_at a.records.now) a.from a.base a.past a.h
 clear c =

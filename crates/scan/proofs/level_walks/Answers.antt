@@ -1,8 +1,4 @@
 -- `level_walks` meets its contract: an empty list walks, and of another `walk` says whether it does.
--- ---- the list k of the row
--- ---- the needs
--- what the walk of the dirty list says of it
--- behind it, the dirty list walks
 use Rattle.std.proofs.Common.{◌≡◌, ℕ, ◌+◌, ◌*◌, Bool, true, sym, refl, ◌∙◌, ⊎_elim, rules}
 use borrow.Author.Tests.{not-false, not-true}
 use Rattle.definition.specs.declared.Links.{Links}
@@ -16,6 +12,7 @@ use Rattle.scan.proofs.Ends.{list_walks_lem, none_walks}
 use Rattle.scan.proofs.level_walks.Goals as goal
 use Rattle.scan.proofs.level_walks.Goals.{After-walk, Joined-not-is_none, Start, else-not-is_none, then-not-is_none+else-not-walk}
 
+-- ---- the list k of the row
 abbrev records : Start → Records
 records s = record_at s.args.records.now
 
@@ -42,6 +39,7 @@ returns-then-is_bare c =
     (empty (goal.at.returns-then-is_bare c).Start k (list_in (row (goal.at.returns-then-is_bare c).Start) k) refl (and_left _ _ n))
     (empty (goal.at.returns-then-is_bare c).Start (k + 1) (list_in (row (goal.at.returns-then-is_bare c).Start) (k + 1)) refl (and_right (is_no_links (list_in (row (goal.at.returns-then-is_bare c).Start) k)) _ n)))
 
+-- what the walk of the dirty list says of it
 dirty : (c : After-walk) →
     c.walk.result ≡ walks (goal.at.After-walk c).Start (2 * c.args.level)
 dirty c =
@@ -50,6 +48,7 @@ dirty c =
 pub returns-then-not-walk : goal.returns-then-not-walk
 returns-then-not-walk c = sym (rw (← dirty (goal.at.returns-then-not-walk c).After-walk, c.if-not-walk.true))
 
+-- behind it, the dirty list walks
 dirty_walks : (c : Joined-not-is_none) → walks (goal.at.Joined-not-is_none c).Start (2 * c.args.level) ≡ true
 dirty_walks c =
     let s = (goal.at.Joined-not-is_none c).Start in

@@ -1,5 +1,4 @@
 -- `listed_pages` meets its contract. The loop's invariant: the pages are those of the lists passed, at most 2^50 of each.
--- what a turn adds
 use Rattle.std.proofs.Common.{◌≡◌, ◌+◌, ◌-◌, ◌*◌, ◌^◌, ◌≤◌, get_or, arith, rules}
 use Rattle.definition.specs.Basics.{sum, range}
 use Rattle.definition.specs.World.{no_links}
@@ -11,6 +10,7 @@ pub loop-k-init : goal.loop-k-init
 unfolding sum range
 loop-k-init c = (search rules, search rules, search rules)
 
+-- what a turn adds
 weight : (c : After-struct_known-1) → let lists = c.args.row.lists in
     let k = c.loop-k.k in
     (c.pages_at.result * (get_or lists k no_links).count ≡ list_weight lists k) × (list_weight lists k ≤ 2 ^ 50)

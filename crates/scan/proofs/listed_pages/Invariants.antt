@@ -1,5 +1,4 @@
 -- `listed_pages` meets its contract. The loop's invariant: the pages are those of the lists passed, at most 2^50 of each.
--- what a turn adds
 use Rattle.std.proofs.Common.{◌≡◌, ◌+◌, ◌-◌, ◌*◌, ◌^◌, ◌≤◌, get_or, arith, rules}
 use Rattle.definition.specs.Basics.{sum, range}
 use Rattle.definition.specs.World.{no_links}

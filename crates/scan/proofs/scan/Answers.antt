@@ -1,7 +1,4 @@
 -- `scan` meets its contract. The loop's invariant is `Scanning`: what is left decides as the whole does.
--- a head that passed
--- its pages
--- a turn, once it is known what the head adds
 use Rattle.std.proofs.Common.{◌≡◌, ◌+◌, ◌-◌, ◌<◌, ◌≤◌, true, false, sym, ◌∙◌, ⊎_elim, arith, rules}
 use borrow.Author.Tests.{not-true, not-false}
 use Rattle.definition.specs.World.{record_at}
@@ -14,6 +11,7 @@ use Rattle.scan.proofs.Scanning.{Scanning, scan_start, scan_turn, scan_free, sca
 use Rattle.scan.proofs.scan.Goals as goal
 use Rattle.scan.proofs.scan.Goals.{After-past_free-at-else-is_free_page, Else-pages-eq0}
 
+-- a head that passed
 is_head_lem : (c : Else-pages-eq0) →
     let a = c.args in
     head_at (record_at a.records.now) a.from a.base a.past c.loop-at.at ≡ true
@@ -22,6 +20,7 @@ is_head_lem c =
     some_pages (record_at a.records.now) a.from a.base a.past c.loop-at.at
     (λ z. c.if-pages-eq0.false (c.head_pages-pages.ensures ∙ z))
 
+-- its pages
 room : (c : Else-pages-eq0) →
     let a = c.args in
     let at = c.loop-at.at in
@@ -87,6 +86,7 @@ past_free-at-requires-else-is_free_page c = let r = room (goal.at.past_free-at-r
 pub loop-at-smaller : goal.loop-at-smaller
 loop-at-smaller c = let r = room (goal.at.loop-at-smaller c).Else-pages-eq0 in omega (arith, c.past_free-at-else-is_free_page.ensures.0)
 
+-- a turn, once it is known what the head adds
 turn : (c : After-past_free-at-else-is_free_page) →
     let a = c.args in
     let s = c.loop-at in

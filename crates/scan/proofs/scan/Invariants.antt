@@ -1,7 +1,4 @@
 -- `scan` meets its contract. The loop's invariant is `Scanning`: what is left decides as the whole does.
--- a head that passed
--- its pages
--- a turn, once it is known what the head adds
 use Rattle.std.proofs.Common.{◌≡◌, ◌+◌, ◌-◌, ◌<◌, ◌≤◌, true, false, sym, ◌∙◌, ⊎_elim, arith, rules}
 use borrow.Author.Tests.{not-true, not-false}
 use Rattle.definition.specs.World.{record_at}

@@ -1,8 +1,4 @@
 -- `walk` meets its contract. The loop's invariant: what is left of the walk, between its two ends, decides as the whole does.
--- each test, by the number of the list, is that of the sheet
--- a node off each end
--- the one node that is left
--- the two ends meet
 use Rattle.std.proofs.Common.{◌≡◌, ◌-◌, ◌<◌, ◌&&◌, eqb, sym, ◌∙◌, ⊎_elim, arith, rules, eq-eqb, ne_eqb}
 use borrow.Author.Tests.{not-true, not-false}
 use Rattle.definition.specs.World.{record_at}
@@ -19,6 +15,7 @@ loop-left-init c =
     let a = c.args in
     (search rules, search rules, walks_between (record_at a.records.now) a.base a.past a.k a.count 0 a.front a.back)
 
+-- each test, by the number of the list, is that of the sheet
 front : (c : After-is_node)
     → let a = c.args in
     let s = c.loop-left in
@@ -29,6 +26,7 @@ front c =
     c.is_node.ensures
     ∙ kind_node (record_at a.records.now) a.base a.past a.k c.requires.marked c.list_kind-kind.result s.prev s.at c.list_kind-kind.ensures.0
 
+-- a node off each end
 step : (c : In-loop-left)
     → let a = c.args in
     let s = c.loop-left in
@@ -107,6 +105,7 @@ loop-left-preserved c = (
       ),
 )
 
+-- the one node that is left
 one : (c : Then-left-eq1)
     → let a = c.args in
     let s = c.loop-left in
@@ -145,6 +144,7 @@ overflow_sub-at-then-left-eq1 c = let d = one_on c in omega arith
 pub later-at-requires-then-left-eq1 : goal.later-at-requires-then-left-eq1
 later-at-requires-then-left-eq1 c = let d = one_on c in omega arith
 
+-- the two ends meet
 meet : (c : Joined-left-eq1)
     → let a = c.args in
     let s = c.loop-left in

@@ -1,8 +1,4 @@
 -- `walk` meets its contract. The loop's invariant: what is left of the walk, between its two ends, decides as the whole does.
--- each test, by the number of the list, is that of the sheet
--- a node off each end
--- the one node that is left
--- the two ends meet
 use Rattle.std.proofs.Common.{◌≡◌, ◌-◌, ◌<◌, ◌&&◌, eqb, sym, ◌∙◌, ⊎_elim, arith, rules, eq-eqb, ne_eqb}
 use borrow.Author.Tests.{not-true, not-false}
 use Rattle.definition.specs.World.{record_at}

@@ -1,5 +1,4 @@
 -- `tracker::kern_cond` meets its contract. A quotient rounded down is below a number where the dividend is below the product.
-use Rattle.std.proofs.Common.{rules}
 use Rattle.tracker.proofs.Low.{below_times}
 use Rattle.tracker.proofs.kern_cond.Goals as goal
 

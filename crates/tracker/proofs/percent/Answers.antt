@@ -1,5 +1,5 @@
 -- `tracker::percent` meets its contract. The proof goes by whether the total is 0.
-use Rattle.std.proofs.Common.{rules, eq-eqb, ne_eqb}
+use Rattle.std.proofs.Common.{eq-eqb, ne_eqb}
 use Rattle.tracker.proofs.percent.Goals as goal
 
 pub returns-then-total-eq0 : goal.returns-then-total-eq0

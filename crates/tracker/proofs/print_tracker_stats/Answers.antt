@@ -1,5 +1,5 @@
 -- `tracker::print_tracker_stats` meets its contract. Its lines follow one another, and are the statistics.
-use Rattle.std.proofs.Common.{arith, rules}
+use Rattle.std.proofs.Common.{arith}
 use Rattle.definition.specs.Text.{bytes_of}
 use Rattle.text.proofs.Writing.{wrote_then, wrote_as}
 use Rattle.tracker.proofs.Stats.{stats_lines}

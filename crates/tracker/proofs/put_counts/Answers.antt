@@ -1,5 +1,5 @@
 -- `tracker::put_counts` meets its contract. Its texts follow one another, and are the line of the counts.
-use Rattle.std.proofs.Common.{arith, rules}
+use Rattle.std.proofs.Common.{arith}
 use Rattle.definition.specs.Text.{bytes_of}
 use Rattle.text.proofs.Writing.{wrote_then}
 use Rattle.tracker.specs.Stats.{counts_line}

@@ -1,5 +1,5 @@
 -- `tracker::should_reclaim` meets its contract. The second test decides where the first says no.
-use Rattle.std.proofs.Common.{sym, rules}
+use Rattle.std.proofs.Common.{sym}
 use Rattle.tracker.proofs.should_reclaim.Goals as goal
 
 pub returns-then-page_cond : goal.returns-then-page_cond
