@@ -104,7 +104,7 @@ module _ (board : Board) where
 -- ---- the regions that they stand for
 
 module _ {board : Board} where
-  pub stand_length : {f : ℕ → Record} {n base : ℕ} {fs : Frames} {rows : List Row} {rs : List AllocationRegion} → StandRows board f n fs base rows rs → length rs ≡ length rows
+  pub stand_length : {f : ℕ → Record} {n : ℕ} {fs : Frames} {base : ℕ} {rows : List Row} {rs : List AllocationRegion} → StandRows board f n fs base rows rs → length rs ≡ length rows
   stand_length stand_none = refl
   stand_length (stand_more S Ss) = ap suc (stand_length Ss)
 

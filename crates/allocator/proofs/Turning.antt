@@ -30,7 +30,7 @@ use Rattle.allocator.specs.Spots.{HeldAt, InRows, Sees, free_at, mark_at, number
 
 module _ {board : Board} where
   pub stands_at
-      : {f : ℕ → Record} {n base : ℕ} {fs : Frames} {rows : List Row} {rs : List AllocationRegion} → StandRows board f n fs base rows rs → (i : ℕ) → i < length rows
+      : {f : ℕ → Record} {n : ℕ} {fs : Frames} {base : ℕ} {rows : List Row} {rs : List AllocationRegion} → StandRows board f n fs base rows rs → (i : ℕ) → i < length rows
       → StandsRow board f n (base_at board base rows i) (row_at rows i) fs (region_at rs i)
   unfolding base_at
   stands_at stand_none i h = absurd (omega arith)

@@ -2,7 +2,7 @@
 use Prim.Native.Nat.{ℕ}
 use mathlib.Core.Path.{◌≡◌, sym, ap, ◌∙◌}
 use Rattle.definition.specs.Board.{Board}
-use Rattle.definition.specs.Frame.{Levels, free}
+use Rattle.definition.specs.Frame.{Levels}
 use Rattle.definition.specs.World.{frame_of}
 use Rattle.definition.specs.declared.Record.{Record}
 use Rattle.definition.specs.declared.Row.{Row}

@@ -38,14 +38,14 @@ module _ {f : ℕ → Record} where
   seg_links : {e x : ℕ} {xs : List ℕ} {b : ℕ} → Distinct xs → Seg f e x xs b 0 → All (λ (q : ℕ). Same f e xs q) xs
   unfolding earlier_in later_in
   seg_links distinct_none (seg_none u v) = all_none
-  seg_links (distinct_more o d) (seg_more {p = p} {xs = xs} u v s) =
+  seg_links {e = e} {x = x} {b = b} (distinct_more {x = p} {xs = xs} o d) (seg_more u v s) =
       all_more {x = p} (record { earlier = rw (eq-eqb p p refl) v; later = rw (eq-eqb p p refl) (seg_front s) })
-      (all_zip {Q = λ (q : ℕ). Same f (p + 1) xs q} (λ q m a. record { earlier = rw (ne_eqb p q m) a.earlier; later = rw (ne_eqb p q m) a.later }) o (seg_links d s))
+      (all_zip {Q = λ (q : ℕ). Same f (p + 1) xs q} (λ q m a. record { earlier = rw (ne_eqb p q m) a.earlier; later = rw (ne_eqb p q m) a.later }) o (seg_links {e = p + 1} d s))
 
-none_earlier : (e q : ℕ) {xs : List ℕ} → Out q xs → earlier_in e q xs ≡ 0
+none_earlier : (q e : ℕ) {xs : List ℕ} → Out q xs → earlier_in e q xs ≡ 0
 unfolding earlier_in
-none_earlier e q all_none = refl
-none_earlier e q (all_more {x = x} m o) = rw (ne_eqb x q (λ d. m (sym d))) (none_earlier (x + 1) q o)
+none_earlier q e all_none = refl
+none_earlier q e (all_more {x = x} m o) = rw (ne_eqb x q (λ d. m (sym d))) (none_earlier q (x + 1) o)
 
 none_later : (q : ℕ) {xs : List ℕ} → Out q xs → later_in q xs ≡ 0
 unfolding later_in
@@ -81,7 +81,7 @@ module _ {board : Board} where
         alone : Out q (s.free k) → Same f 0 (s.free k) q
         alone o =
             let a = R.loose q i (λ j. outs o j (ℕ_discrete j k)) in
-            record { earlier = a.earlier ∙ sym (none_earlier 0 q o); later = a.later ∙ sym (none_later q o) }
+            record { earlier = a.earlier ∙ sym (none_earlier q 0 o); later = a.later ∙ sym (none_later q o) }
 
         go : Dec (Out q (s.free k)) → Dec (k < 6) → Same f 0 (s.free k) q
         go (yes o) d = alone o

@@ -1,12 +1,12 @@
 -- A frame that was found is held.
-use Prim.Native.Nat.{ℕ, ◌+◌, ◌-◌, ◌*◌, ◌≤◌, ◌<◌}
+use Prim.Native.Nat.{ℕ, ◌+◌, ◌-◌, ◌*◌, ◌<◌}
 use mathlib.Core.Bool.{Bool, true, false}
 use mathlib.Core.Option.{none, some}
 use mathlib.Core.Path.{◌≡◌, refl, sym, ap, ◌∙◌}
 use native.Mathlib.Omega.{arith}
 use Rattle.definition.specs.Board.{Board}
 use Rattle.definition.specs.Basics.{everywhere, bit}
-use Rattle.definition.specs.Frame.{Found, Levels, allocate, changed, do_allocate, kept, set_allocated, with_allocated}
+use Rattle.definition.specs.Frame.{Found, Levels, allocate, changed, do_allocate, set_allocated, with_allocated}
 use Rattle.definition.specs.World.{allocated_in, level_of, marks_of}
 use Rattle.definition.specs.declared.Record.{Record}
 use Rattle.definition.specs.declared.Row.{Row}

@@ -8,7 +8,7 @@ use native.Mathlib.Numerals.{add-one}
 use native.Mathlib.Omega.{arith}
 use Rattle.definition.specs.Board.{Board}
 use Rattle.definition.specs.Basics.{upd}
-use Rattle.definition.specs.Frame.{Frame, Levels, free, is_allocated, kept, size, split_and_keep}
+use Rattle.definition.specs.Frame.{Frame, Levels, is_allocated, kept, size, split_and_keep}
 use Rattle.definition.specs.World.{level_of, marks_of, slot_of}
 use Rattle.definition.specs.declared.Record.{Record}
 use Rattle.definition.specs.declared.Row.{Row}

@@ -10,7 +10,7 @@ use native.Mathlib.Omega.{arith}
 use Rattle.definition.specs.Board.{Board}
 use Rattle.definition.proofs.Basics.{upd_all, upd_other, upd_same}
 use Rattle.definition.specs.Basics.{everywhere, upd}
-use Rattle.definition.specs.Frame.{Found, Frame, Levels, allocate, do_allocate, free, freed, kept, set_allocated}
+use Rattle.definition.specs.Frame.{Found, Frame, Levels, allocate, do_allocate, free, freed, set_allocated}
 use Rattle.definition.specs.World.{level_of, slot_of}
 use Rattle.definition.specs.declared.Record.{Record}
 use Rattle.definition.specs.declared.Row.{Row}

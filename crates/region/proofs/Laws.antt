@@ -12,7 +12,7 @@ use lib.Seq.{get_or-set_same, get_or-set_other, set-get_or, set-set}
 use Rattle.definition.specs.Board.{Board}
 use Rattle.definition.proofs.Basics.{upd_all, upd_other, upd_same}
 use Rattle.definition.specs.Basics.{everywhere, Popped, or_this, pop_last, pop_back, upd}
-use Rattle.definition.specs.Frame.{Found, Frame, Levels, free, level_allocate, nothing, or_else, pop_from, popped, slot}
+use Rattle.definition.specs.Frame.{Found, Frame, Levels, level_allocate, nothing, or_else, pop_from, popped, slot}
 use Rattle.definition.specs.World.{frame_of, level_of, marks_of, no_links, pages_of, slot_of, walk}
 use Rattle.definition.specs.declared.Links.{Links}
 use Rattle.definition.specs.declared.Record.{Record}

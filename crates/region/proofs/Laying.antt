@@ -11,7 +11,7 @@ use lib.ListN.{get_or}
 use borrow.Author.Tests.{eq-eqb, ne_eqb}
 use Rattle.definition.specs.Board.{Board}
 use Rattle.definition.proofs.Basics.{upd_other, upd_same}
-use Rattle.definition.specs.Frame.{Frame, Levels, admit_one, free, highest, organize, size}
+use Rattle.definition.specs.Frame.{Frame, Levels, admit_one, highest, organize, size}
 use Rattle.definition.specs.World.{frame_of, level_of, no_links, slot_of}
 use Rattle.definition.specs.declared.Record.{Record}
 use Rattle.definition.specs.declared.Row.{Row}

@@ -11,7 +11,7 @@ use native.Mathlib.Omega.{arith}
 use Rattle.definition.specs.Board.{Board}
 use Rattle.definition.proofs.Basics.{upd_all, upd_other, upd_same}
 use Rattle.definition.specs.Basics.{everywhere, upd}
-use Rattle.definition.specs.Frame.{Found, Frame, Levels, children, do_allocate, free, is_zeroed, kept, level_allocate, nothing, or_else, pop_from, size, slot, split, then_split}
+use Rattle.definition.specs.Frame.{Found, Frame, Levels, children, do_allocate, is_zeroed, kept, level_allocate, nothing, or_else, pop_from, size, slot, split, then_split}
 use Rattle.definition.specs.World.{level_of, slot_of}
 use Rattle.definition.specs.declared.Record.{Record}
 use Rattle.definition.specs.declared.Row.{Row}

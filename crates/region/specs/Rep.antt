@@ -1,7 +1,7 @@
 -- What the records and the row of one region stand for: the frames and lists of definition's `Levels`, here by page number, as the records have them.
 -- `Rep` ties the two, `Whole` says that the frames tile the region and that each free one is listed; both are what a call finds once the
 -- audit has passed. The post-conditions `Becomes` and `Answers` fix every record of the region and its row, and leave all other records as they were.
-use Rattle.std.specs.Prelude.{ℕ, ◌+◌, ◌-◌, ◌*◌, ◌/◌, ◌%◌, ◌≤◌, ◌<◌, ◌^◌, Bool, true, false, cond, List, [], ◌∷◌, ◌≡◌, ◌≢◌, get_or, set, length, replicate}
+use Rattle.std.specs.Prelude.{ℕ, ◌+◌, ◌-◌, ◌*◌, ◌/◌, ◌%◌, ◌≤◌, ◌<◌, ◌^◌, Bool, true, false, cond, List, [], ◌∷◌, ◌≡◌, ◌≢◌, get_or, length, replicate}
 use Rattle.std.proofs.Math.Option.{Option, none, some}
 use Rattle.address.specs.declared.PhysAddr.{PhysAddr}
 use Rattle.definition.specs.declared.Record.{Record}

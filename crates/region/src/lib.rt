@@ -6,6 +6,7 @@
 // it is left in what runs. `do_allocate` and what it calls are given none: it calls itself, and would copy the board each time. They ask
 // for some board, and promise the same of every one.
 #![tactic(auto)]
+
 ghost use Rattle.std.specs.Prelude.{false, [], ◌∷◌, ◌≡◌, ℕ, ◌+◌, ◌-◌, ◌*◌, ◌/◌, ◌%◌, ◌≤◌, ◌<◌, ◌^◌};
 ghost use Rattle.definition.specs.Board.{Fit};
 ghost use Rattle.definition.specs.Allocator.{table_pages};

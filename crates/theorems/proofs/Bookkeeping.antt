@@ -85,7 +85,7 @@ module _ {board : Board} (fit : Fit board) where
 
   all_answered : {map : List MemoryRegion} {w v : World} {x : State} → Holds board map w v x → (cs : List Call) → Along board v cs
   all_answered H [] = along_none
-  all_answered H (c ∷ cs) = along_more (call_answered H c) (all_answered (call_holds fit H c) cs)
+  all_answered {map = map} {w = w} {v = v} {x = x} H (c ∷ cs) = along_more (call_answered H c) (all_answered {v = (Torn.call board v c).world} (call_holds fit H c) cs)
 
 -- ---- the demand
 

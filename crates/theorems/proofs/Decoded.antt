@@ -96,8 +96,8 @@ module _ {board : Board} (fit : Fit board) where
       → decode_rows board f base (encode_rows board base rs) ≡ rs
   unfolding decode_rows encode_rows
   regions_back all_none sheets_none = refl
-  regions_back {f} (all_more K more) (sheets_more {base = base} S rest) =
-      ap₂ (λ (x : AllocationRegion) (y : List AllocationRegion). x ∷ y) (region_back K f base S) (regions_back more rest)
+  regions_back {f = f} {fs = fs} {base = base} (all_more {x = x} {xs = xs} K more) (sheets_more S rest) =
+      ap₂ (λ (x : AllocationRegion) (y : List AllocationRegion). x ∷ y) (region_back K f base S) (regions_back {base = base + managed board x} more rest)
 
 -- ---- the frames
 
@@ -111,7 +111,7 @@ module _ {board : Board} where
       → frame_at f (number_in board base rs p) ≡ cond (is_managed board rs p) (fs p) none
   unfolding number_in is_managed any
   frames_read all_none written_none p = refl
-  frames_read {f} {fs} (all_more K more) (written_more {base = base} {r = r} {rs = rs} w rest) p = go (contains board r p) refl (frames_read more rest p)
+  frames_read {f} {fs} (all_more K more) (written_more {base = base} {r = r} {rs = rs} w rest) p = go (contains board r p) refl (frames_read {base = base + managed board r} more rest p)
     where
       go : (t : Bool) → contains board r p ≡ t
           → frame_at f (number_in board (base + managed board r) rs p) ≡ cond (is_managed board rs p) (fs p) none

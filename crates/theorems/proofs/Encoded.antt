@@ -51,7 +51,7 @@ module _ {board : Board} where
 module _ {board : Board} (fit : Fit board) where
   all_sheets : {f : ℕ → Record} {fs : Frames} {base : ℕ} {rs : List AllocationRegion} → All (Kept board fs) rs → Written board f fs base rs → Sheets board f fs base rs
   all_sheets all_none written_none = sheets_none
-  all_sheets {f} (all_more K more) (written_more {base = base} {r = r} w rest) = sheets_more (sheet_of fit f base r K w) (all_sheets more rest)
+  all_sheets {f} (all_more K more) (written_more {base = base} {r = r} w rest) = sheets_more (sheet_of fit f base r K w) (all_sheets {base = base + managed board r} more rest)
 
 module _ (board : Board) where
   -- the rows that are written for them

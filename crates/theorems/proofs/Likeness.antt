@@ -63,8 +63,8 @@ module _ {board : Board} (fit : Fit board) where
   ground_same : {map : List MemoryRegion} {w v : World} {x : State} → Holds board map w v x → (cs : List Call) → ground_all board v cs ≡ ground_along board x.store cs
   unfolding ground_all ground_along next
   ground_same H [] = refl
-  ground_same H (c ∷ cs) =
-      ap₂ (λ (a b : Bool). a && b) (ap (λ (s : Store). common_ground board s c) (holds_decode fit H)) (ground_same (call_holds fit H c) cs)
+  ground_same {map = map} {w = w} {v = v} {x = x} H (c ∷ cs) =
+      ap₂ (λ (a b : Bool). a && b) (ap (λ (s : Store). common_ground board s c) (holds_decode fit H)) (ground_same {v = (Torn.call board v c).world} (call_holds fit H c) cs)
 
 -- ---- the demand
 

@@ -215,13 +215,13 @@ module _ {board : Board} (fit : Fit board) where
     pub all_hold : {v : World} {x : State} → Holds board map w v x → (cs : List Call) → Holds board map w (world_after board v cs) (after board x cs)
     unfolding world_after after
     all_hold H [] = H
-    all_hold H (c ∷ cs) = all_hold (call_holds fit H c) cs
+    all_hold {v = v} {x = x} H (c ∷ cs) = all_hold {v = (call board v c).world} (call_holds fit H c) cs
 
     pub all_answers : {v : World} {x : State} → Holds board map w v x → (cs : List Call) → answers_of board v cs ≡ (run board x.store cs).answers
     unfolding answers_of run next
     all_answers H [] = refl
-    all_answers {x = x} H (c ∷ cs) =
-        ap₂ (λ (y : Answer) (ys : List Answer). y ∷ ys) (ap (λ l. l.answer) (call_is fit H c)) (all_answers (call_holds fit H c) cs)
+    all_answers {v = v} {x = x} H (c ∷ cs) =
+        ap₂ (λ (y : Answer) (ys : List Answer). y ∷ ys) (ap (λ l. l.answer) (call_is fit H c)) (all_answers {v = (call board v c).world} (call_holds fit H c) cs)
 
     pub all_booked : {v : World} {x : State} → Holds board map w v x → (cs : List Call)
         → book_after board x.book cs (answers_of board v cs) ≡ (after board x cs).book
@@ -230,7 +230,7 @@ module _ {board : Board} (fit : Fit board) where
     all_booked {v} {x} H (c ∷ cs) =
         ap (λ (y : Answer). book_after board (note_answer board x.book c y) cs (answers_of board (call board v c).world cs))
         (ap (λ l. l.answer) (call_is fit H c))
-        ∙ all_booked (call_holds fit H c) cs
+        ∙ all_booked {v = (call board v c).world} (call_holds fit H c) cs
 
 module _ (board : Board) where
   pub stores_same : (x : State) (cs : List Call) → (after board x cs).store ≡ (run board x.store cs).store

@@ -109,9 +109,9 @@ module _ {board : Board} (fit : Fit board) where
   lines_same : {w : World} {r : Running} {q : RunningOn} → Same board w r q → (ls : List (List ℕ)) → AlikeAll board w r q ls
   unfolding run_lines lines_on
   lines_same S [] = record { running = S; text = refl }
-  lines_same S (l ∷ ls) =
+  lines_same {w = w} {r = r} {q = q} S (l ∷ ls) =
       let t = turn_same fit S (read_line l) in
-      let rest = lines_same t.running ls in
+      let rest = lines_same {r = (turn board w r (read_line l)).running} t.running ls in
       record { running = rest.running; text = ap₂ (λ (x y : List ℕ). x ++ y) t.text rest.text }
 
 -- ---- what it comes to

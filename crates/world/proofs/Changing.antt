@@ -130,8 +130,8 @@ module _ {board : Board} where
         : {t t2 : Levels} → Carried board (from_of board row) base row.pages t u t2 → {base2 : ℕ} {rows : List Row} {rs : List AllocationRegion}
         → base + managed board row.pages ≤ base2 → Each (λ (x : Row). Parted board row x) rows → StandRows board f n t.frames base2 rows rs → StandRows board g n t2.frames base2 rows rs
     stands_rest C h each_none stand_none = stand_none
-    stands_rest C h (each_more p ps) (stand_more {row = row2} S Ss) =
-        stand_more (stands_beside B row2 (behind row2 h) C p S) (stands_rest C (omega arith) ps Ss)
+    stands_rest {t = t} {t2 = t2} C {base2 = base2} h (each_more {row = row2} {rows = rows} p ps) (stand_more {r = r'} {rs = rs} S Ss) =
+        stand_more (stands_beside B row2 (behind row2 h) C p S) (stands_rest C {base2 = base2 + managed board row2.pages} (omega arith) ps Ss)
 
 -- ---- the row i changes
 
@@ -153,6 +153,8 @@ module _ {board : Board} where
   good_set (suc i) base (row ∷ rows) h (Good-more G Gs) B W =
       Good-more (good_beside B row (before B row (base_low board (base + managed board row.pages) rows i)) G)
       (good_set i (base + managed board row.pages) rows (omega arith) Gs B W)
+  good_set {f = f} {g = g} {n = n} {r = r} {u = u} zero base [] h _ B W = elim h [ ]
+  good_set {f = f} {g = g} {n = n} {r = r} {u = u} (suc i) base [] h _ B W = elim h [ ]
 
   same_after
       : {f g : ℕ → Record} {n base : ℕ} {row r : Row} {u t : Levels} → Becomes board f base row g n r u → Shifted board (from_of board row) base row.pages u t
@@ -182,3 +184,7 @@ module _ {board : Board} where
   Stands-set (suc i) base (row ∷ rows) (x ∷ rs) h (disjoint_more p ps) (stand_more S Ss) B C =
       stand_more (stands_beside B row (before B row (base_low board (base + managed board row.pages) rows i)) C (λ q a b. each_at _ p i (omega arith) q b a) S)
       (Stands-set i (base + managed board row.pages) rows rs (omega arith) ps Ss B C)
+  Stands-set {f = f} {g = g} {n = n} {r = r} {fs = fs} {u = u} {t2 = t2} zero base [] rs h _ _ B C = elim h [ ]
+  Stands-set {f = f} {g = g} {n = n} {r = r} {fs = fs} {u = u} {t2 = t2} zero base (row ∷ rows) [] h _ x17 B C = elim x17 [ ]
+  Stands-set {f = f} {g = g} {n = n} {r = r} {fs = fs} {u = u} {t2 = t2} (suc i) base [] rs h _ _ B C = elim h [ ]
+  Stands-set {f = f} {g = g} {n = n} {r = r} {fs = fs} {u = u} {t2 = t2} (suc i) base (row ∷ rows) [] h _ x18 B C = elim x18 [ ]

@@ -1,5 +1,4 @@
 -- The page's own record is on no walk of the list, so that the list is as it was when the page is pushed.
-use borrow.Author.Rules.{rules}
 use Rattle.list.proofs.Laws.{linked_pages, linked_sound}
 use Rattle.region.specs.Rep.{free_record}
 use Rattle.region.proofs.Laws.{linked_past}

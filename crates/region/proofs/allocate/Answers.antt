@@ -1,6 +1,5 @@
 -- The frame that was found has ALLOCATED set, and the region stays whole.
 use mathlib.Core.Option.{none}
-use borrow.Author.Rules.{rules}
 use borrow.Author.Tests.{not-true, not-false}
 use Rattle.definition.specs.Basics.{everywhere}
 use Rattle.definition.specs.Frame.{Found, allocate}
@@ -19,20 +18,16 @@ abbrev row : Start → Row
 row s = row_of (rows_in s.args.words.now) s.args.index
 
 abbrev answer : Start → Found
-answer s = allocate everywhere s.args.level (state_of (record_at s.args.records.now) (row s)) s.args.try-zero s.args.only_zero
+answer s = allocate everywhere s.args.level (state_of (record_at s.args.records.now) (row s)) s.args.try_zero s.args.only_zero
 
 whole : (s : Start) → Whole s.args.board (answer s).levels none (from_of s.args.board (row s)) s.args.first (row s).pages
-whole s = whole_allocate s.args.level s.args.try-zero s.args.only_zero (rep_kept s.requires.sound_at.1) s.requires.whole_at.0 s.requires.whole_at.1
+whole s = whole_allocate s.args.level s.args.try_zero s.args.only_zero (rep_kept s.requires.sound_at.1) s.requires.whole_at.0 s.requires.whole_at.1
 
 granted
-    : (c : Else-not-got) → 
-    
-    let e = c.do_allocate-got.new in
-    Grants c.args.board (record_at c.args.records.now) c.args.first (row (goal.at.Else-not-got c).Start) (record_at e.0) (pages_in e.0) (searched e.1.1.0 c.args.index c.do_allocate-got.result) (answer (goal.at.Else-not-got c).Start)
+    : (c : Else-not-got) → let e = c.do_allocate-got.new in
+    Grants c.args.board (record_at c.args.records.now) c.args.first (row (goal.at.Else-not-got c).Start) (record_at e.records) (pages_in e.records) (searched e.words c.args.index c.do_allocate-got.result) (answer (goal.at.Else-not-got c).Start)
 granted c =
-    
-    
-    grants c.args.try-zero c.args.only_zero c.requires.sound_at.1 c.requires.whole_at.0 c.requires.whole_at.1 (c.do_allocate-got.ensures c.args.board c.requires.sound_at c.requires.whole_at.0).0 (c.if-not-got.false)
+    grants c.args.try_zero c.args.only_zero c.requires.sound_at.1 c.requires.whole_at.0 c.requires.whole_at.1 (c.do_allocate-got.ensures c.args.board c.requires.sound_at c.requires.whole_at.0).0 (not-false _ c.if-not-got.false)
 
 pub do_allocate-got-requires : goal.do_allocate-got-requires
 do_allocate-got-requires c = (c.args.board, c.requires.sound_at, c.requires.whole_at.0)
@@ -40,26 +35,25 @@ do_allocate-got-requires c = (c.args.board, c.requires.sound_at, c.requires.whol
 pub returns-then-not-got : goal.returns-then-not-got
 returns-then-not-got c =
     let e = c.do_allocate-got.ensures c.args.board c.requires.sound_at c.requires.whole_at.0 in
-    let g = not_granted c.args.try-zero c.args.only_zero c.requires.sound_at.1 c.requires.whole_at.0 c.requires.whole_at.1 e.0 (c.if-not-got.true) in record {
+    let g = not_granted c.args.try_zero c.args.only_zero c.requires.sound_at.1 c.requires.whole_at.0 c.requires.whole_at.1 e.0 (not-true _ c.if-not-got.true) in record {
       finds_at = (g, e.1);
       whole_at_2 = row_whole g.became (whole (goal.at.returns-then-not-got c).Start);
     }
 
 pub marks-marks-requires : goal.marks-marks-requires
-marks-marks-requires c = (granted (goal.at.marks-marks-requires c).After-struct_known-1).inside
+marks-marks-requires c = (granted (goal.at.marks-marks-requires c).Else-not-got).inside
 
 pub set_allocated-held-requires : goal.set_allocated-held-requires
-set_allocated-held-requires c = rw c.marks-marks.ensures (granted (goal.at.set_allocated-held-requires c).After-struct_known-1).free
+set_allocated-held-requires c = rw c.marks-marks.ensures (granted (goal.at.set_allocated-held-requires c).Else-not-got).free
 
 pub set_marks-requires : goal.set_marks-requires
-set_marks-requires c = (granted (goal.at.set_marks-requires c).After-struct_known-1).inside
+set_marks-requires c = (granted (goal.at.set_marks-requires c).Else-not-got).inside
 
 pub returns : goal.returns
 returns c =
     let m = c.set_marks in
-    
-    let g = (granted (goal.at.returns c).After-struct_known-1).answers in
-    rw (m.ensures.whole_row_2, m.auto.board, c.set_allocated-held.ensures, c.marks-marks.ensures) record {
+    let g = (granted (goal.at.returns c).Else-not-got).answers in
+    rw (m.ensures.records, m.auto.records, c.set_allocated-held.ensures, c.marks-marks.ensures) record {
       finds_at = (g, (c.do_allocate-got.ensures c.args.board c.requires.sound_at c.requires.whole_at.0).1);
-      whole_at_2 = row_whole g.became (whole c);
+      whole_at_2 = row_whole g.became (whole (goal.at.returns c).Start);
     }

@@ -1,5 +1,4 @@
 -- The three ways out are the three cases of the definition's test.
-use borrow.Author.Rules.{rules}
 use mathlib.Core.Path.{sym}
 use native.Mathlib.Omega.{arith}
 use Rattle.region.proofs.Addresses.{lookup_below, lookup_past, lookup_in, lookup_fits, number_few, page_some, tables_few}

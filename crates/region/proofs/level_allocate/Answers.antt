@@ -1,7 +1,5 @@
 -- The search of one level is a pop of the one list asked for, or of the dirty one and then the zeroed one.
--- where the dirty list has none, all is as it was, and the next pop can be asked
 use native.Mathlib.Omega.{arith}
-use borrow.Author.Rules.{rules}
 use Rattle.definition.specs.Board.{Board}
 use Rattle.definition.specs.Frame.{Levels, level_allocate}
 use Rattle.definition.specs.World.{record_at}
@@ -24,16 +22,13 @@ returns-then-only_zero c =
 pub returns-then-dirty : goal.returns-then-dirty
 returns-then-dirty c =
     λ board S. let e = c.pop-dirty.ensures board S in
-    (rw c.if-only_zero.false (level_page (levels (goal.at.returns-then-dirty c).Start) c.args.level e.0 c.args.try-zero c.if-dirty.true), e.1)
+    (rw c.if-only_zero.false (level_page (levels (goal.at.returns-then-dirty c).Start) c.args.level e.0 c.args.try_zero c.if-dirty.true), e.1)
 
+-- where the dirty list has none, all is as it was, and the next pop can be asked
 after
-    : (b : Else-dirty) → 
-    
-    (board : Board) → SoundAt board b.args.records.now b.args.first b.args.words.now b.args.index
+    : (b : Else-dirty) → (board : Board) → SoundAt board b.args.records.now b.args.first b.args.words.now b.args.index
     → SoundAt board b.pop-dirty.new.records b.args.first b.pop-dirty.new.words b.args.index
 after b board S =
-    
-    
     let e = b.pop-dirty.ensures board S in
     (in_use_then b.pop-dirty.auto.words e.1.rest S.0, rep_sound (after_none (levels (goal.at.Else-dirty b).Start) b.args.level e.0 b.if-dirty.false).rep)
 

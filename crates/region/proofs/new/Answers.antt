@@ -1,5 +1,4 @@
 -- The cleared records and the empty row are a sound region in which no frame starts.
-use borrow.Author.Rules.{rules}
 use mathlib.Core.Path.{refl}
 use native.Mathlib.Omega.{arith}
 use Rattle.definition.specs.World.{record_at}
@@ -22,7 +21,6 @@ pub organize-requires : goal.organize-requires
 organize-requires c =
     let k = c.clear in
     let t = c.table_pages-tables.ensures in
-    
     let e = count_is c.args.board c.args.start c.args.pages t in
     let d = begins_at c.args.board c.args.start c.args.pages t _ c.page_number.ensures in
     let n = number_few c.requires.fit c.args.start.0 (omega (arith, c.well_formed, c.ranges)) in
@@ -36,13 +34,11 @@ organize-requires c =
 pub returns : goal.returns
 returns c =
     let o = c.organize in
-    
     let k = c.clear in
     let t = c.table_pages-tables.ensures in
-    
     let e = count_is c.args.board c.args.start c.args.pages t in
     let d = begins_at c.args.board c.args.start c.args.pages t _ c.page_number.ensures in
     let l = rw c.empty_row-row.ensures at o.ensures in record {
-      becomes = begun c.args.board (record_at c.args.records.now) _ c.args.first c.args.start c.args.pages c.requires.pages_bound_2.0 c.requires.pages_bound_2.1 (rw (k.ensures.records, e, d) at l.0);
-      whole_row = l.1;
+      becomes = begun c.args.board (record_at c.args.records.now) _ c.args.first c.args.start c.args.pages c.requires.pages_bound_2.0 c.requires.pages_bound_2.1 (rw (k.ensures.records, e, d) at l.becomes);
+      whole_row = l.whole_row;
     }

@@ -1,22 +1,9 @@
 -- The loop has laid out the pages below `at`; the rest is laid out as the definition would from there.
-use Prim.Native.Nat.{ℕ, ◌-◌, ◌≤◌}
-use mathlib.Core.List.{List}
-use mathlib.Core.Path.{◌≡◌, refl}
+use mathlib.Core.Path.{refl}
 use native.Mathlib.Omega.{arith}
-use borrow.Author.Rules.{rules}
-use lib.ListN.{length}
-use Rattle.definition.specs.Board.{Board}
-use Rattle.definition.specs.World.{record_at}
-use Rattle.definition.specs.declared.Row.{Row}
-use Rattle.record.specs.Records.{pages_in}
 use Rattle.level.proofs.Sizes.{size_positive}
-use Rattle.region.proofs.Laying.{best, Laid, laid_none, laid_asks, laid_step, Laid-done}
+use Rattle.region.proofs.Laying.{best, laid_none, laid_asks, laid_step, Laid-done}
 use Rattle.region.proofs.organize.Goals as goal
-
-record Inv (board : Board) (records₀ : List ℕ) (first from count : ℕ) (r₀ : Row) (records : List ℕ) (r : Row) (at : ℕ) : Type 0 where
-  some : at ≤ count
-  same : length records ≡ length records₀
-  laid : Laid board (record_at records₀) first r₀ from count (record_at records) (pages_in records) r at
 
 pub loop-at-init : goal.loop-at-init
 loop-at-init c = record { some = omega arith; same = refl; laid = laid_none _ _ c.requires.sound_row c.requires.count_value.0 c.requires.blank }
@@ -34,7 +21,8 @@ pub push-r-requires : goal.push-r-requires
 push-r-requires c =
     let k = c.loop-at in
     let b = c.level_at-level in
-    laid_asks k.invariant.laid c.loop-at-test.true b.result (best _ _ _ b.ensures (omega arith)) c.requires.count_value.0
+    let z = laid_asks k.invariant.laid c.loop-at-test.true b.result (best _ _ _ b.ensures (omega arith)) c.requires.count_value.0 in
+    record { sound_row = z.0; level_bound = z.1.0; by_index = z.1.1 }
 
 pub pages_at-at-requires : goal.pages_at-at-requires
 pages_at-at-requires c = (best _ _ _ c.level_at-level.ensures (omega arith)).small
@@ -72,4 +60,5 @@ shape_of-records c = omega arith
 pub returns : goal.returns
 returns c =
     let k = c.loop-at in
-    Laid-done k.invariant.laid (omega arith) c.requires.count_value.0 c.requires.count_value.1
+    let z = Laid-done k.invariant.laid (omega arith) c.requires.count_value.0 c.requires.count_value.1 in
+    record { becomes = z.0; whole_row = z.1 }

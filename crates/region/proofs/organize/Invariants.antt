@@ -1,20 +1,17 @@
--- The loop has laid out the pages below `at`; the rest is laid out as the definition would from there.
-use Prim.Native.Nat.{ℕ, ◌-◌, ◌≤◌}
-use mathlib.Core.List.{List}
-use mathlib.Core.Path.{◌≡◌, refl}
-use native.Mathlib.Omega.{arith}
-use borrow.Author.Rules.{rules}
-use lib.ListN.{length}
-use Rattle.definition.specs.Board.{Board}
+-- The loop has laid out the pages below `at`.
+use Rattle.std.proofs.Common.{◌≡◌, ◌-◌, ◌≤◌, length}
 use Rattle.definition.specs.World.{record_at}
-use Rattle.definition.specs.declared.Row.{Row}
 use Rattle.record.specs.Records.{pages_in}
-use Rattle.level.proofs.Sizes.{size_positive}
-use Rattle.region.proofs.Laying.{best, Laid, laid_none, laid_asks, laid_step, Laid-done}
+use Rattle.region.proofs.Laying.{Laid}
 use Rattle.region.proofs.organize.Given as goal
 
 abbrev pub invariant-loop-at : goal.invariant-loop-at
-invariant-loop-at l = Inv l.board l.initial.records l.first l.from l.count l.initial.r l.records l.r l.at
+invariant-loop-at l =
+    record {
+      some : l.at ≤ l.count;
+      same : length l.records ≡ length l.initial.records;
+      laid : Laid l.board (record_at l.initial.records) l.first l.initial.r l.from l.count (record_at l.records) (pages_in l.records) l.r l.at;
+    }
 
 abbrev pub decreases-loop-at : goal.decreases-loop-at
 decreases-loop-at l = l.count - l.at

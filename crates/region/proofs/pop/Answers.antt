@@ -1,5 +1,4 @@
 -- A pop is the definition's: of an empty list it leaves all as it was, else one list and one page change.
-use borrow.Author.Rules.{rules}
 use Rattle.definition.specs.World.{record_at}
 use Rattle.list.proofs.Laws.{linked_sound}
 use Rattle.list.specs.Linked.{Taken}
@@ -16,17 +15,14 @@ pop_back-requires c =
 pub returns-in-Empty : goal.returns-in-Empty
 returns-in-Empty c =
     let d = c.pop_back in
-    let e = rw (c.enum_told-1.given.1, c.list_at-l.ensures) at d.ensures in
+    let e = rw c.list_at-l.ensures at c.in-Empty.ensures in
     λ board S. (rw (e.1, d.auto.records) (pop_nothing S.1 c.requires.k_bound c.nothing.ensures e.0), row_beside_same)
 
 pub returns-in-Page : goal.returns-in-Page
 returns-in-Page c =
     let w = c.put_list in
-    let v = c.page-1.given in
-    
-    
-    
+    let v = c.in-Page in
     let a = c.args in
-    let t : Taken (record_at a.records.now) (list_in (row_of (rows_in a.words.now) a.index) a.k) v.0.0 (record_at c.pop_back.new.records) (pages_in a.records.now) v.0.1.0 =
-    rw (c.pop_back.auto.records, c.list_at-l.ensures) at (rw v.1 at c.pop_back.ensures) in
+    let t : Taken (record_at a.records.now) (list_in (row_of (rows_in a.words.now) a.index) a.k) v.page (record_at c.pop_back.new.records) (pages_in a.records.now) v.rest =
+    rw (c.pop_back.auto.records, c.list_at-l.ensures) at v.ensures in
     λ board S. (rw (w.ensures.row, c.pop_back.auto.records) (pop_page S.1 c.requires.k_bound t), w.ensures.rest)

@@ -1,7 +1,6 @@
 -- Both arms are the definition's cases.
 use mathlib.Core.Path.{refl}
 use native.Mathlib.Omega.{arith}
-use borrow.Author.Rules.{rules}
 use Rattle.region.proofs.slot.Goals as goal
 
 pub returns-then-zeroed : goal.returns-then-zeroed

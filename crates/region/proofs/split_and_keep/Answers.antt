@@ -1,12 +1,8 @@
 -- The loop has stored the children 1 to i; the store after it is child 0's.
--- the level is one below that of the frame, which has so many pages more
-use borrow.Author.Rules.{rules}
-use Prim.Native.Nat.{ℕ, ◌+◌, ◌-◌, ◌≤◌, ◌<◌}
-use mathlib.Core.List.{List}
+use Prim.Native.Nat.{◌+◌, ◌-◌, ◌<◌}
 use mathlib.Core.Path.{◌≡◌, refl, ap, ◌∙◌}
 use native.Mathlib.Numerals.{add-one}
 use native.Mathlib.Omega.{arith}
-use lib.ListN.{length}
 use Rattle.definition.specs.Frame.{size}
 use Rattle.definition.specs.World.{record_at}
 use Rattle.definition.specs.declared.Record.{Record}
@@ -17,11 +13,6 @@ use Rattle.region.proofs.Freeing.{held_page}
 use Rattle.region.proofs.Keeping.{row_whole}
 use Rattle.region.proofs.split_and_keep.Goals as goal
 use Rattle.region.proofs.split_and_keep.Goals.{Else-old-eq0}
-
-record Inv (records₀ : List ℕ) (page step : ℕ) (child : Record) (records : List ℕ) (i : ℕ) : Type 0 where
-  some : i ≤ 511
-  same : length records ≡ length records₀
-  stored : record_at records ≡ many i (record_at records₀) page step child
 
 pub load-r-requires : goal.load-r-requires
 load-r-requires c = held_page c.requires.sound_row c.requires.held
@@ -35,9 +26,9 @@ returns-then-old-eq0 c =
       whole_row_2 = c.requires.whole_row;
     }
 
-small : (c : Else-old-eq0 invariant_loop decreases_loop) → c.level_of-old.result - 1 < 2
+-- the level is one below that of the frame, which has so many pages more
+small : (c : Else-old-eq0) → c.level_of-old.result - 1 < 2
 small c =
-    
     let o = c.level_of-old.ensures ∙ ap (λ (r : Record). r.level) c.load-r.ensures in
     let F = held_frame_lem c.requires.held in
     let l = (record_at c.args.records.now c.args.page).level - 1 in
@@ -46,7 +37,7 @@ small c =
     omega (arith, S.small, o)
 
 pub pages_at-step-requires : goal.pages_at-step-requires
-pages_at-step-requires c = omega (arith, small c)
+pages_at-step-requires c = omega (arith, small (goal.at.pages_at-step-requires c).Else-old-eq0)
 
 pub level_word-word-requires : goal.level_word-word-requires
 level_word-word-requires c = omega (arith, small (goal.at.level_word-word-requires c).Else-old-eq0)

@@ -1,5 +1,4 @@
 -- The page frame number of a page of the region, times the page size.
-use borrow.Author.Rules.{rules}
 use mathlib.Core.Path.{refl}
 use native.Mathlib.Omega.{arith}
 use Rattle.region.proofs.Addresses.{address_ends, from_is, number_ends, number_few, page_some, pages_few, tables_few}

@@ -1,5 +1,4 @@
 -- The tables' bytes are fewer than 2 ^ 46.
-use borrow.Author.Rules.{rules}
 use native.Mathlib.Omega.{arith}
 use Rattle.definition.proofs.Boards.{page_least, page_most}
 use Rattle.region.proofs.Addresses.{tables_room}
