@@ -3,6 +3,7 @@
 // sentence holds: on any rows, numbers and bytes whatever, reading nothing outside the loans. Boot asks four of them of the rows that it
 // keeps.
 #![tactic(auto)]
+
 ghost use Rattle.std.specs.Prelude.{true, false, not, ◌&&◌, ◌≡◌, ◌+◌, ◌≤◌, ◌<◌, length, drop};
 ghost use Rattle.definition.specs.Board.{Fit};
 ghost use Rattle.definition.specs.Basics.{all, any};

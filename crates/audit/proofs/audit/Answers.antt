@@ -1,7 +1,7 @@
 -- `audit` meets its contract. Its tests together are the sheet, as `Sheets` says, and what each has passed is what the next requires.
 use Prim.Native.Nat.{◌*◌, ◌/◌, ◌≤◌}
 use mathlib.Core.Bool.{true, not}
-use mathlib.Core.Path.{◌≡◌, sym, ◌∙◌}
+use mathlib.Core.Path.{ap, ◌≡◌, sym, ◌∙◌}
 use native.Mathlib.Nat.{mul-le-mul}
 use native.Mathlib.Omega.{arith}
 use borrow.Author.Rules.{rules}
@@ -74,7 +74,7 @@ apart-requires c =
 
 pub returns-then-not-apart : goal.returns-then-not-apart
 returns-then-not-apart c =
-    torn_apart (board (goal.at.returns-then-not-apart c).Start) (given (goal.at.returns-then-not-apart c).Start) (words_shaped (board (goal.at.returns-then-not-apart c).Start) c.args.words.now) (stops c.apart.ensures c.if-not-apart.true)
+    torn_apart (board (goal.at.returns-then-not-apart c).Start) (given (goal.at.returns-then-not-apart c).Start) (words_shaped (board (goal.at.returns-then-not-apart c).Start) c.args.words.now) (stops c.apart.ensures (ap not c.if-not-apart.true))
 
 pub overflow_mul-board : goal.overflow_mul-board
 overflow_mul-board c =
@@ -92,15 +92,13 @@ counted-requires c =
     omega (arith, h.manages, h.holds)
 
 -- few pages, none shared, and memory for those managed
-passed : (c : Else-memory_len-board) → 
-    
+passed : (c : Else-memory_len-board) →
     let rs = regions_of (board (goal.at.Else-memory_len-board c).Start) (rows_in c.args.words.now) in
     (total rs ≤ 1048576) × (not (overlap (board (goal.at.Else-memory_len-board c).Start) rs) ≡ true) × ((board (goal.at.Else-memory_len-board c).Start).page * managed_pages (board (goal.at.Else-memory_len-board c).Start) rs ≤ c.args.memory_len)
 passed c =
-    
     let h = found (goal.at.Else-memory_len-board c).Else-not-seen in (
       omega (arith, h.total, c.if-seen-gt1048576.false),
-      goes c.apart.ensures c.if-not-apart.false,
+      goes c.apart.ensures (ap not c.if-not-apart.false),
       rw (c.board_in-board.ensures.0, h.manages) at c.if-memory_len-board.false,
     )
 
@@ -108,7 +106,7 @@ pub returns-then-not-counted : goal.returns-then-not-counted
 returns-then-not-counted c =
     let p = passed (goal.at.returns-then-not-counted c).Else-memory_len-board in
     let seen = c.survey-seen.result in
-    let t = stops {t = counts_as c.args.counters seen} c.counted.ensures c.if-not-counted.true in
+    let t = stops {t = counts_as c.args.counters seen} c.counted.ensures (ap not c.if-not-counted.true) in
     torn_counts (board (goal.at.returns-then-not-counted c).Start) (given (goal.at.returns-then-not-counted c).Start) (words_shaped (board (goal.at.returns-then-not-counted c).Start) c.args.words.now) (surveyed (goal.at.returns-then-not-counted c).Else-not-seen) p.0 p.1 p.2 seen (found (goal.at.returns-then-not-counted c).Else-not-seen) t
 
 pub within-requires : goal.within-requires
@@ -119,6 +117,6 @@ pub returns : goal.returns
 returns c =
     let p = passed (goal.at.returns c).Else-memory_len-board in
     let seen = c.survey-seen.result in
-    let t = goes {t = counts_as c.args.counters seen} c.counted.ensures c.if-not-counted.false in
+    let t = goes {t = counts_as c.args.counters seen} c.counted.ensures (ap not c.if-not-counted.false) in
     rest_decides (board (goal.at.returns c).Start) (given (goal.at.returns c).Start) (words_shaped (board (goal.at.returns c).Start) c.args.words.now) (surveyed (goal.at.returns c).Else-not-seen) p.0 p.1 p.2 seen (found (goal.at.returns c).Else-not-seen) t c.within.result
     (rw (c.board_in-board.ensures.0, c.queued_in.ensures, c.pass_in.ensures) at c.within.ensures)

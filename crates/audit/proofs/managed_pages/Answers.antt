@@ -16,17 +16,16 @@ pub loop-i-init : goal.loop-i-init
 loop-i-init c = (search rules, omega (arith, managed_all c.args.board c.args.rows))
 
 -- the row of a turn
-row : (c : In-loop-i) → 
+row : (c : In-loop-i) →
     Turn c.args.board c.args.rows c.requires.used_value.1 c.loop-i.i
 row c =
-    
     turn c.args.board c.args.rows c.requires.used_value.1 c.args.used c.loop-i.i _ c.well_formed.1.0 c.requires.used_value.0 c.loop-i-test.true
 
 -- the pages passed, its own and those of the rows behind it are all
 sums : (c : In-loop-i) → let a = c.args in
     let k = c.loop-i in
-    k.pages + managed_row a.board (row_at a.t2 k.i) + left_of (managed_row a.board) a.t2 (k.i + 1) ≡ managed_pages a.board (regions_of a.board a.t2)
-sums c = let a = c.args in omega (arith, left_more (managed_row a.board) a.t2 c.loop-i.i (row c).here)
+    k.pages + managed_row a.board (row_at a.rows k.i) + left_of (managed_row a.board) a.rows (k.i + 1) ≡ managed_pages a.board (regions_of a.board a.rows)
+sums c = let a = c.args in omega (arith, left_more (managed_row a.board) a.rows c.loop-i.i (row c).here)
 
 pub offset_bounds-rows-i : goal.offset_bounds-rows-i
 offset_bounds-rows-i c = let t = row c in omega arith

@@ -41,11 +41,10 @@ returns-then-most-pages-2 c =
     refuse (λ e. omega (arith, ends_by c.requires (booted c.args.board c.args.row e), c.page_number.ensures))
 
 -- the row ends by 2^40
-ends : (c : Else-most-pages-2) → 
+ends : (c : Else-most-pages-2) →
     let P = c.args.board.page in
     P * (c.args.row.start.0 / P + c.args.row.pages) ≤ highest_address
 ends c =
-    
     let P = c.args.board.page in
     let few : c.args.row.start.0 / P + c.args.row.pages ≤ highest_address / P = omega (arith, c.page_number.ensures) in
     omega (arith, pages_order P few, address_is P highest_address)

@@ -41,8 +41,8 @@ returns-then-shares c =
     sym
     (l.invariant.2
     ∙ any_off
-    (shares a.board (bare_region a.board (row_at a.t2 a.i)))
-    (regions_on a.board (used_at a.t2 l.j (omega arith)))
+    (shares a.board (bare_region a.board (row_at a.rows a.i)))
+    (regions_on a.board (used_at a.rows l.j (omega arith)))
     (sym c.shares.ensures ∙ c.if-shares.true))
 
 pub loop-j-preserved : goal.loop-j-preserved
@@ -53,8 +53,8 @@ loop-j-preserved c =
       search rules,
       l.invariant.2
           ∙ any_on
-          (shares a.board (bare_region a.board (row_at a.t2 a.i)))
-          (regions_on a.board (used_at a.t2 l.j (omega arith)))
+          (shares a.board (bare_region a.board (row_at a.rows a.i)))
+          (regions_on a.board (used_at a.rows l.j (omega arith)))
           (sym c.shares.ensures ∙ c.if-shares.false),
     )
 
@@ -66,5 +66,5 @@ returns c =
     sym
     (l.invariant.2
     ∙ ap
-    (λ rows. any (shares a.board (bare_region a.board (row_at a.t2 a.i))) (bare_regions a.board rows))
-    (drop_past (used_rows a.t2) l.j (omega arith)))
+    (λ rows. any (shares a.board (bare_region a.board (row_at a.rows a.i))) (bare_regions a.board rows))
+    (drop_past (used_rows a.rows) l.j (omega arith)))

@@ -27,7 +27,7 @@ returns-then-pages_at-eq0 c =
     (sym c.pages_at.ensures ∙ c.if-pages_at-eq0.true) c.is_no_rows.result c.is_no_rows.ensures
 
 -- the row has pages
-has_pages : (c : Else-pages_at-eq0) → 
+has_pages : (c : Else-pages_at-eq0) →
     (row_at (rows_in c.args.words.now) c.loop-seen.seen.used).pages ≡ 0 → ⊥
 has_pages c = rw c.pages_at.ensures at c.if-pages_at-eq0.false
 

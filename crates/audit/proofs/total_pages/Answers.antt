@@ -35,7 +35,7 @@ pub returns : goal.returns
 unfolding sum bare_regions
 returns c =
     let a = c.args in
-    let rows = a.t2 in
+    let rows = a.rows in
     let l = c.loop-i in
     let z = ap (λ rs. total (bare_regions a.board rs)) (drop_past (used_rows rows) l.i (omega arith)) in
     omega (arith, z, l.invariant.3 a.board)

@@ -52,17 +52,16 @@ numbers : (c : Else-not-row_as_boot) → Booted (board (goal.at.Else-not-row_as_
 numbers c = booted (board (goal.at.Else-not-row_as_boot c).After-row_at-row) c.row_at-row.result (is_booted c)
 
 -- where its pages end
-ends : (c : After-table_pages-tables) → 
+ends : (c : After-table_pages-tables) →
     let a = c.args in
     a.seen.managed + (c.row_at-row.result.pages - c.table_pages-tables.result) ≡ a.seen.managed + managed_row (board (goal.at.After-table_pages-tables c).After-row_at-row) c.row_at-row.result
 ends c = rw c.table_pages-tables.ensures
 
 -- the loan has its records
-room : (c : Else-records-past) → 
+room : (c : Else-records-past) →
     let a = c.args in
     leb (a.seen.managed + managed_row (board (goal.at.Else-records-past c).After-row_at-row) c.row_at-row.result) (length a.records.now / 16) ≡ true
 room c =
-    
     let a = c.args in
     le-leb (a.seen.managed + managed_row (board (goal.at.Else-records-past c).After-row_at-row) c.row_at-row.result) (length a.records.now / 16)
     (omega (arith, ends (goal.at.Else-records-past c).After-table_pages-tables, c.if-records-past.false))
@@ -119,13 +118,11 @@ region_whole-whole-requires c =
     }
 
 -- the region, whose first managed page is behind those that were seen
-region : (c : After-region_whole-whole) → 
+region : (c : After-region_whole-whole) →
     let a = c.args in
     Audited (board (goal.at.After-region_whole-whole c).After-row_at-row) (record_at a.records.now) (placed_at a.seen.managed c.row_at-row.result) c.region_whole-whole.result
 region c =
-    
     let a = c.args in
-    
     audited_row (board (goal.at.After-region_whole-whole c).After-row_at-row) (record_at a.records.now) (placed_at a.seen.managed c.row_at-row.result) (c.page_number.result + c.table_pages-tables.result)
     (a.seen.managed + (c.row_at-row.result.pages - c.table_pages-tables.result)) c.region_whole-whole.result
     (rw (c.page_number.ensures, c.table_pages-tables.ensures)) (ends (goal.at.After-region_whole-whole c).After-table_pages-tables) c.region_whole-whole.ensures
@@ -144,17 +141,13 @@ whole : (c : Else-not-whole) → c.region_whole-whole.result.ok ≡ true
 whole c = not-false _ c.if-not-whole.false
 
 -- the sums stay small
-small : (c : Else-not-whole) → 
-    
+small : (c : Else-not-whole) →
     let a = c.args in
     (a.seen.total + c.row_at-row.result.pages < 4294967296)
     × (a.seen.page + c.region_whole-whole.result.page < 4294967296)
     × (a.seen.kernel + c.region_whole-whole.result.kernel < 4294967296)
 small c =
-    
-    
-    
-    let pages = few_pages (fit (goal.at.Else-not-row_as_boot c).After-row_at-row) (numbers (goal.at.Else-not-whole c).Else-not-row_as_boot) in
+    let pages = few_pages (fit (goal.at.Else-not-whole c).After-row_at-row) (numbers (goal.at.Else-not-whole c).Else-not-row_as_boot) in
     let p = (region (goal.at.Else-not-whole c).After-region_whole-whole).pages (whole c) in
     let few = c.requires.0 in (
       omega (arith, few.totals, c.requires.2, pages),
