@@ -3,7 +3,7 @@
 
 usage: python3 tools/respell.py     at the top, once, right after the toolchain's port.py has been run on what had been written for the older Rattle
 
-A name that a file of specs/ or proofs/ declares, and that has a capital after its first letter or a dash in it, is written in snake case wherever it stands: in specs/,
+A name that a file of specs/ or proofs/ declares, and that has a small first letter and a capital after it, or a dash in it, is written in snake case wherever it stands: in specs/,
 in proofs/, in the clauses and comments of src/, in must-fail edits, and between backticks in pages. Where two names would fall together the definition's takes the
 plain form and the lemma's gets `_lem` behind it. Names of src/, of strings, and of what Rattle makes of a function's steps are left alone.
 """
@@ -13,7 +13,8 @@ import os
 import re
 
 WORD = re.compile(r"[A-Za-z_«][A-Za-z0-9_'»-]*")
-DECLARED = re.compile(r"^\s*(?:abbrev |unfoldable )?(?:pub )?(?:abbrev |unfoldable )?(?:\{ *)?([a-z_][\w'-]*)\s*(?::(?!:)|$)")
+CAPITAL = re.compile(r"[A-Z]\w*-[\w'-]*")
+DECLARED = re.compile(r"^\s*(?:abbrev |unfoldable )?(?:pub )?(?:abbrev |unfoldable )?(?:\{ *)?([a-z_][\w'-]*|[A-Z]\w*-[\w'-]*)\s*(?::(?!:)|$)")
 
 
 def files(*endings):
@@ -83,14 +84,17 @@ def turned(places, foreign):
     return new
 
 
-def respell(text, new, also, fields):
+def respell(text, new, also, fields, known):
     """Each word of the text. A word behind a dot is a field or a path's last part: a plain name there keeps its spelling."""
 
     def one(m):
         word = m.group(0)
+        behind = bool(m.start()) and text[m.start() - 1] == "."
+        if behind and CAPITAL.fullmatch(word) and snake(word) in known:
+            return snake(word)
         if word not in new or word not in also:
             return word
-        if m.start() and text[m.start() - 1] == ".":
+        if behind:
             return snake(word) if word in fields or re.search("[A-Z]", word) else word
         return new[word]
 
@@ -106,13 +110,14 @@ def main():
     local = {n for n in places if not re.search("[A-Z]", n) and all(of_a_function(p) for p in places[n])}
     wide = set(new) - narrow - local
     fields = {n for n in new if any(re.search(r"(?m)^\s+pub " + re.escape(n) + r" :", read(p)) for p in places[n])}
+    known = {snake(n) for n in places}
     for path in files(".antt", ".rt", ".edit", ".md"):
         text = read(path)
         here = wide | {n for n in narrow | local if path in places[n]}
         if path.endswith(".md"):
-            to = re.sub(r"`[^`\n]+`", lambda m: respell(m.group(0), new, wide, fields), text)
+            to = re.sub(r"`[^`\n]+`", lambda m: respell(m.group(0), new, wide, fields, known), text)
         else:
-            to = respell(text, new, here, fields)
+            to = respell(text, new, here, fields, known)
         if to != text:
             with open(path, "w", encoding="utf-8") as f:
                 f.write(to)

@@ -17,7 +17,7 @@ use Rattle.region.specs.Rep.{Inside, from_of, managed, state_of}
 use Rattle.region.proofs.Laws.{dec_inside}
 use Rattle.world.specs.Stands.{Disjoint, GoodRows, StandRows, base_at, row_at, shift}
 use Rattle.world.specs.Stands.Disjoint.{disjoint_none, disjoint_more}
-use Rattle.world.specs.Stands.GoodRows.{good_none, Good-more}
+use Rattle.world.specs.Stands.GoodRows.{good_none, good_more}
 use Rattle.world.specs.Stands.StandRows.{stand_none, stand_more}
 use Rattle.world.specs.Tables.{Sane, Table}
 use Rattle.world.proofs.Carrying.{shift_in}
@@ -64,7 +64,7 @@ module _ {board : Board} where
   rows_stand : {f : ℕ → Record} {n base : ℕ} {fs : Frames} {rows : List Row} → GoodRows board f n base rows → Framed board f fs base rows → StandRows board f n fs base rows (decode_rows board f base rows)
   unfolding decode_rows managed from_of state_of base_at
   rows_stand good_none F = stand_none
-  rows_stand {f} (Good-more {base = base} {row = row} G Gs) F =
+  rows_stand {f} (good_more {base = base} {row = row} G Gs) F =
       stand_more
       (record {
         sound = G.sound;

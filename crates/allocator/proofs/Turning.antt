@@ -18,7 +18,7 @@ use Rattle.region.specs.Rep.{Becomes, WholeRow, from_of, kept_levels, marked, ma
 use Rattle.world.specs.Stands.{Carried, Good, StandRows, StandsRow, base_at, region_at, row_at}
 use Rattle.world.specs.Stands.StandRows.{stand_none, stand_more}
 use Rattle.world.specs.Tables.{Sane, Table, Turned}
-use Rattle.world.proofs.Allocators.{Free-in}
+use Rattle.world.proofs.Allocators.{free_in_lem}
 use Rattle.world.proofs.Carrying.{carried_frame, carried_free, carried_keep, shift_in}
 use Rattle.world.proofs.Sheets.{good_at}
 use Rattle.world.proofs.Tables.{table_set, used_row}
@@ -97,7 +97,7 @@ module _ {board : Board} where
           → Turned board f rows g n (set rows s.index r) (free_at board (number_at board rows s) a)
       free_turns B W =
           let e = used_row rows s.index I.used in
-          rw (Free-in (used_rows rows) a.regions s.index (number_at board rows s) T.stands T.sane.apart I.used (rw e (shift_in s.page I.inside)))
+          rw (free_in_lem (used_rows rows) a.regions s.index (number_at board rows s) T.stands T.sane.apart I.used (rw e (shift_in s.page I.inside)))
           (turns B W (carried_free stands.same s.page I.inside))
 
       pub split_turns

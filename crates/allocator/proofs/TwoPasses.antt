@@ -45,10 +45,10 @@ pass_nothing l t o fs (r ∷ rs) e = go (allocate everywhere l (levels_of fs r) 
 -- ---- two passes
 
 module _ {board : Board} where
-  pub Turned-then
+  pub turned_then
       : {f g h : ℕ → Record} {n : ℕ} {rows rows2 rows3 : List Row} {a b : PhysicalFrameAllocator} → Turned board f rows g n rows2 a → Turned board g rows2 h n rows3 b
       → Turned board f rows h n rows3 b
-  Turned-then A B = record { table = B.table; spans = B.spans ∙ A.spans; outside = λ q k. B.outside q (rw A.spans k) ∙ A.outside q k }
+  turned_then A B = record { table = B.table; spans = B.spans ∙ A.spans; outside = λ q k. B.outside q (rw A.spans k) ∙ A.outside q k }
 
 first_is : (a b : Allocated) (p : ℕ) → a.page ≡ some p → or_second_pass a b ≡ a
 first_is a b p e = rw e refl
@@ -73,4 +73,4 @@ module _ {board : Board} where
         let A : Turned board f rows g n r.rows a = rw (pass_nothing l false z a.frames a.regions k) at (P a T).turned in
         let y = Q a A.table in
         rw (second_is (pass_by l false z a) (pass_by l true false a) k)
-        (record { turned = Turned-then A y.turned; none_found = y.none_found; page = y.page; spot = y.spot; held = y.held })
+        (record { turned = turned_then A y.turned; none_found = y.none_found; page = y.page; spot = y.spot; held = y.held })

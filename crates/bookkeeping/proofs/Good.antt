@@ -80,9 +80,9 @@ module _ (b : Board) where
       fine_over (λ q. ap (λ (l : List AllocationRegion). home b l q) (sym e) ∙ home_emptied b rs q)
       (λ p n i. omega (arith, room_lies b m p n i, ap (λ (l : List AllocationRegion). lies b l p n) (sym e), lies_emptied b rs p n)) (lies_parts b rs) refl h
 
-  Good-of
+  good_of
       : (m : List AllocationRegion) (s : Store) (k : Book) → Placed b m → Agree b m s k → Good b s k
-  Good-of m s k a h =
+  good_of m s k a h =
       record {
         regions = e ∙ sym h.regions;
         placed = record {
@@ -130,4 +130,4 @@ module _ {b : Board} (fit : Fit b) where
   good map records memory e bytes room calls =
       let x = after_calls b map bytes room calls in
       let h = agrees fit map records memory e bytes room calls in
-      Good-of b x.book.regions x.store x.book h.placed h.agree
+      good_of b x.book.regions x.store x.book h.placed h.agree

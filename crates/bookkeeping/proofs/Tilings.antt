@@ -47,16 +47,16 @@ pub record Among (r : AllocationRegion) (rs : List AllocationRegion) : Type 0 wh
   pub behind : List AllocationRegion
   pub whole : rs ≡ before ++ (r ∷ behind)
 
-All-from
+all_from
     : {P : AllocationRegion → Type 0} (pre rs : List AllocationRegion) → ((r : AllocationRegion) → Among r (pre ++ rs) → P r) → All P rs
-All-from pre [] h = all_none
-All-from {P} pre (r ∷ rs) h =
+all_from pre [] h = all_none
+all_from {P} pre (r ∷ rs) h =
     all_more {x = r} (h r (record { before = pre; behind = rs; whole = refl }))
-    (All-from (pre ++ (r ∷ [])) rs (λ t i. h t (subst (λ (l : List AllocationRegion). Among t l) (append_assoc pre (r ∷ []) rs) i)))
+    (all_from (pre ++ (r ∷ [])) rs (λ t i. h t (subst (λ (l : List AllocationRegion). Among t l) (append_assoc pre (r ∷ []) rs) i)))
 
 -- a fact of each region, from one of a region among the others
 pub all_among : {P : AllocationRegion → Type 0} (rs : List AllocationRegion) → ((r : AllocationRegion) → Among r rs → P r) → All P rs
-all_among rs h = All-from [] rs h
+all_among rs h = all_from [] rs h
 
 -- ---- the frame that covers a page
 

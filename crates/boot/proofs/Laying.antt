@@ -1,5 +1,5 @@
 -- The definition's layout of several regions. It lays out the last region first; since no two share a page, each region comes out as if it alone were laid out
--- (`Lay-at`), which is how the code meets it. `new_laid` says that `lay_rows` is definition's `new_allocator`.
+-- (`lay_at`), which is how the code meets it. `new_laid` says that `lay_rows` is definition's `new_allocator`.
 use Prim.Native.Nat.{ℕ, zero, suc, ◌+◌, ◌/◌, ◌≤◌, ◌<◌}
 use mathlib.Core.Bool.{Bool, true, false, cond, false≢true}
 use mathlib.Core.List.{List, [], ◌∷◌}
@@ -120,20 +120,20 @@ each_of (each_more a rest) (suc i) h = each_of rest i (omega arith)
 
 module _ {board : Board} where
   -- the region i, laid out from any state in which none of its frames starts
-  pub Lay-at
+  pub lay_at
       : (rows : List Row) → Disjoint board rows → (i : ℕ) → i < length rows → (base : ℕ) (s : Levels)
       → ((q : ℕ) → Inside board base (row_at rows i).pages q → s.frames q ≡ none) → ((k : ℕ) → s.free k ≡ [])
       → Shifted board (from_of board (row_at rows i)) base (row_at rows i).pages
       (organize (managed board (row_at rows i).pages) s base (from_of board (row_at rows i)) (managed board (row_at rows i).pages))
       (levels_of (lay_rows board rows).frames (region_at (lay_rows board rows).regions i))
-  Lay-at [] D i h base s blank empty = absurd (omega arith)
-  Lay-at (row ∷ rows) (disjoint_more a rest) zero h base s blank empty =
+  lay_at [] D i h base s blank empty = absurd (omega arith)
+  lay_at (row ∷ rows) (disjoint_more a rest) zero h base s blank empty =
       rw (lay_head board row rows)
       (carried board row base s (lay_rows board rows).frames
       (blank_same board row base s (lay_rows board rows).frames blank empty (λ p i. lay_none rows p (beside_all row a p i)))
       ).same
-  Lay-at (row ∷ rows) (disjoint_more a rest) (suc i) h base s blank empty =
-      let S = Lay-at rows rest i (omega arith) base s blank empty in
+  lay_at (row ∷ rows) (disjoint_more a rest) (suc i) h base s blank empty =
+      let S = lay_at rows rest i (omega arith) base s blank empty in
       let parted = each_of a i (omega arith) in
       behind (λ p j. lay_outside row rows p (λ x. parted p x j)) S
     where

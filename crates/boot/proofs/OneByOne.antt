@@ -34,7 +34,7 @@ use Rattle.world.proofs.Sheets.{base_rises, managed_most}
 use Rattle.world.proofs.Tables.{used_row}
 use Rattle.boot.specs.Booting.{Lays, Ready, eight, lay_rows}
 use Rattle.boot.proofs.KeptRows.{Paged, booted_paged, eight_long, eight_unused, used_eight}
-use Rattle.boot.proofs.Laying.{disjoint, laid_many, laid_pages, laid_start, Lay-at}
+use Rattle.boot.proofs.Laying.{disjoint, laid_many, laid_pages, laid_start, lay_at}
 
 -- ---- where the rows' pages begin
 
@@ -136,7 +136,7 @@ module _
         (levels_of (lay_rows board ks).frames (region_at (lay_rows board ks).regions i))
     laid_same =
         rw (from_empty board (row_at ks i))
-        (Lay-at ks D i h base (blank_state board f base (row_at ks i).start (row_at ks i).pages)
+        (lay_at ks D i h base (blank_state board f base (row_at ks i).start (row_at ks i).pages)
         (blank board f n base (row_at ks i).start (row_at ks i).pages small fits) none_free)
 
     new_stands : StandsRow board g n base r (lay_rows board ks).frames (region_at (lay_rows board ks).regions i)
@@ -310,11 +310,11 @@ module _ {board : Board} (rows : List Row) (used n : ℕ) (R : Ready board rows 
           fits = omega (arith, L.based, R.fits);
         }
 
-    pub Laid-on
+    pub laid_on
         : {g2 : ℕ → Record} {m : ℕ} {r : Row} → m ≡ n
         → Becomes board g base (empty_row (row_at rows i).start (row_at rows i).pages) g2 m r (new_state board g base (row_at rows i).start (row_at rows i).pages)
         → Laid board f (used_rows rows) g2 n (set next i r) (base + managed board (row_at rows i).pages) (i + 1)
-    Laid-on {g2} {m} {r} e B =
+    laid_on {g2} {m} {r} e B =
         let T = laid_turn in
         let d = ap (λ (row : Row). managed board row.pages) same in
         subst (λ (row : Row). Laid board f (used_rows rows) g2 n (set next i r) (base + managed board row.pages) (i + 1)) same
@@ -324,9 +324,9 @@ module _ {board : Board} (rows : List Row) (used n : ℕ) (R : Ready board rows 
         (subst (λ (row : Row). Becomes board g base (empty_row row.start row.pages) g2 n r (new_state board g base row.start row.pages)) (sym same)
         (subst (λ (x : ℕ). Becomes board g base (empty_row (row_at rows i).start (row_at rows i).pages) g2 x r (new_state board g base (row_at rows i).start (row_at rows i).pages)) e B)))
 
-  pub Laid-done
+  pub laid_done
       : {f g : ℕ → Record} {next : List Row} {base i : ℕ} → length (used_rows rows) ≤ 8 → Laid board f (used_rows rows) g n next base i → i ≡ used → Lays board f rows g n next
-  Laid-done {f} {g} {next} {base} few L e =
+  laid_done {f} {g} {next} {base} few L e =
       let M = subst (λ (x : ℕ). Laid board f (used_rows rows) g n next base x) (e ∙ R.many) L in
       let p = booted_paged board (used_rows rows) R.booted in
       record {

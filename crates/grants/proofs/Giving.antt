@@ -36,7 +36,7 @@ use Rattle.world.proofs.Writing.{Fronts, Rewritten, memory_filled}
 use Rattle.allocator.specs.declared.Spot.{Spot}
 use Rattle.allocator.specs.Spots.{HeldAt, InRows, Picked, PicksBy, TurnsBy, mark_at, number_at, split_at}
 use Rattle.allocator.proofs.Standing.{sane_table, standing}
-use Rattle.allocator.proofs.TwoPasses.{Turned-then}
+use Rattle.allocator.proofs.TwoPasses.{turned_then}
 use Rattle.allocator.proofs.Turning.{spot_good, spot_index, stands_at, table_held}
 use Rattle.exam.specs.Promise.{State, state_with}
 use Rattle.grants.specs.Granting.{Finds, GivesBy, Granted, Holds, Near, zeroed_bytes}
@@ -211,7 +211,7 @@ module _ {board : Board} where
                 in
                 rw (try_some board l flags s (number_at board (rows_in vs) spot) (p.page e), c, b)
                 (record {
-                  turned = Turned-then p.turned (T a p.turned.table);
+                  turned = turned_then p.turned (T a p.turned.table);
                   memory = W.memory;
                   as_long = W.as_long;
                   beyond = W.beyond;
@@ -238,7 +238,7 @@ module _ {board : Board} where
           let a = (try_alloc_frame board everywhere l flags s).store.allocator in
           rw (split_some board l flags s (number_at board r.state.rows r.spot) (x.page e))
           (record {
-            turned = Turned-then x.turned (T a x.turned.table);
+            turned = turned_then x.turned (T a x.turned.table);
             memory = x.memory;
             as_long = x.as_long;
             beyond = x.beyond;

@@ -114,7 +114,7 @@ module _ {board : Board} {w : World} {s : Store} (H : Whole board w s) where
           go true d =
               let p = number_at board r.state.rows r.spot in
               rw (F.address d) (left (board.page * p) (bytes_of_level board l) (e ∙ hands_some board l x p (G.page d)))
-          go false d = left 0 0 (e ∙ hands_none board l x (G.None-found d))
+          go false d = left 0 0 (e ∙ hands_none board l x (G.none_found d))
 
       module _ {y : Layout} {a : Asked} (W : Wants board (record_at w.records) (pages_in w.records) w.rows y a) (z : a.number ≡ 0) where
         abbrev Given : (Store → GrantedOf) → Type 0

@@ -141,10 +141,10 @@ module _ {board : Board} where
         result = ap (λ (k : ℕ). record { store = x.store; freed = k }) (omega arith) ∙ ap (λ (k : ℕ). more 0 (reclaim_up_to board k s)) z;
       }
 
-  Turned-then
+  turned_then
       : {f g h : ℕ → Record} {n : ℕ} {rows rows2 rows3 : List Row} {a b : PhysicalFrameAllocator}
       → Turned board f rows g n rows2 a → Turned board g rows2 h n rows3 b → Turned board f rows h n rows3 b
-  Turned-then T U =
+  turned_then T U =
       record {
         table = U.table;
         spans = U.spans ∙ T.spans;
@@ -234,7 +234,7 @@ module _ {board : Board} where
                           queue = ap (λ (m : ℕ). take m places) (sym R.queued);
                           queued = omega (arith, W.is.queued, R.queued);
                         };
-                    turned = Turned-then W.turned T;
+                    turned = turned_then W.turned T;
                     memory = W.memory;
                     kept = W.kept;
                     same_pass = W.same_pass;
@@ -258,9 +258,9 @@ module _ (board : Board) where
     pub went : (s : Store) → IsOf board f₀ n st places s → Went board f₀ n st places limit f next freed i s
 
 module _ {board : Board} where
-  pub Going-start
+  pub going_start
       : {f : ℕ → Record} {st : State} {places : List ℕ} (limit : ℕ) {n : ℕ} → Sane board f n st.rows → st.queued ≤ length places → Going board f st places limit f n st 0 0
-  Going-start limit S l =
+  going_start limit S l =
       record {
         sane = S;
         turns = omega arith;

@@ -222,11 +222,11 @@ module _ {board : Board} where
             upto = rw y (upto_more l L.upto (omega arith) D.small (omega (arith, D.fits)) (rw w D.aligned));
           }
 
-  pub Laid-done
+  pub laid_done
       : {f g : ℕ → Record} {n first : ℕ} {row r : Row} {from count at : ℕ} → Laid board f first row from count g n r at → at ≡ count
       → count ≡ managed board row.pages → from ≡ from_of board row
       → Becomes board f first row g n r (organize count (state_of f row) first from count) × WholeRow board g first r
-  Laid-done {f} {g} {n} {first} {row} {r} {from} {count} {at} L a e d =
+  laid_done {f} {g} {n} {first} {row} {r} {from} {count} {at} L a e d =
       let k = sym (lay_end L.u (first + at) (from + at) (count - at) (omega arith)) ∙ L.laid in
       let U : Upto board L.u from first (first + at) (first + managed board row.pages) = subst (λ (c : ℕ). Upto board L.u from first (first + at) (first + c)) e L.upto in
       let W1 : Whole board L.u none from first row.pages = upto_whole U (omega (arith, a, e)) in

@@ -24,7 +24,7 @@ use Rattle.list.proofs.Laws.{all_map, seg_last}
 use Rattle.region.specs.Rep.{SoundRow, managed}
 use Rattle.world.specs.Stands.{Each, GoodRows}
 use Rattle.world.specs.Stands.Each.{each_none, each_more}
-use Rattle.world.specs.Stands.GoodRows.{Good-more}
+use Rattle.world.specs.Stands.GoodRows.{good_more}
 use Rattle.world.proofs.Sheets.{as_boot_lem, each_at, sound_rows}
 use Rattle.audit.proofs.Sheets.{sound_is}
 use Rattle.words.specs.Words.{Narrow, NarrowLinks, NarrowRow}
@@ -100,7 +100,7 @@ module _ {board : Board} where
             → (all is_no_row (drop (length (used_rows rows)) rows) ≡ true → GoodRows board f n (base + managed board row.pages) (used_rows rows) → Each NarrowRow rows)
             → Each NarrowRow (row ∷ rows)
         go true h G more = blanks_narrow (row ∷ rows) s h
-        go false h (Good-more g rest) more = each_more (used_narrow g.sound) (more h rest)
+        go false h (good_more g rest) more = each_more (used_narrow g.sound) (more h rest)
 
 module _ (board : Board) where
   pub sound_narrow : (w : World) → sound board w ≡ true → Narrow w.rows

@@ -68,18 +68,18 @@ module _ {board : Board} where
 -- ---- a free
 
 module _ {board : Board} where
-  pub Free-in
+  pub free_in_lem
       : {f : ℕ → Record} {n base : ℕ} {fs : Frames} (rows : List Row) (rs : List AllocationRegion) (i p : ℕ) → StandRows board f n fs base rows rs → Disjoint board rows
       → i < length rows → Inside board (from_of board (row_at rows i)) (row_at rows i).pages p
       → free_in board p fs rs
       ≡ record { frames = (free (levels_of fs (region_at rs i)) p).frames; regions = set rs i (with_free (region_at rs i) (free (levels_of fs (region_at rs i)) p).free) }
   unfolding free_in
-  Free-in (row ∷ rows) (r ∷ rs) zero p (stand_more S Ss) (disjoint_more d ds) h k = rw (contains_in S p k) refl
-  Free-in {f = f} {n = n} {base = base} {fs = fs} (row ∷ rows) (r ∷ rs) (suc i) p (stand_more S Ss) (disjoint_more d ds) h k =
+  free_in_lem (row ∷ rows) (r ∷ rs) zero p (stand_more S Ss) (disjoint_more d ds) h k = rw (contains_in S p k) refl
+  free_in_lem {f = f} {n = n} {base = base} {fs = fs} (row ∷ rows) (r ∷ rs) (suc i) p (stand_more S Ss) (disjoint_more d ds) h k =
       rw (contains_out S p (λ j. each_at _ d i (omega arith) p j k))
-      (ap (behind_region r) (Free-in {base = base + managed board row.pages} rows rs i p Ss ds (omega arith) k))
-  Free-in {f = f} {n = n} {base = base} {fs = fs} [] rs i p _ _ h k = elim h [ ]
-  Free-in {f = f} {n = n} {base = base} {fs = fs} (row ∷ rows) [] i p x9 _ h k = elim x9 [ ]
+      (ap (behind_region r) (free_in_lem {base = base + managed board row.pages} rows rs i p Ss ds (omega arith) k))
+  free_in_lem {f = f} {n = n} {base = base} {fs = fs} [] rs i p _ _ h k = elim h [ ]
+  free_in_lem {f = f} {n = n} {base = base} {fs = fs} (row ∷ rows) [] i p x9 _ h k = elim x9 [ ]
 
 -- ---- a grant
 

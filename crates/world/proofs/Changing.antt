@@ -34,7 +34,7 @@ use Rattle.world.specs.Stands.{
   Disjoint,
 }
 use Rattle.world.specs.Stands.StandRows.{stand_none, stand_more}
-use Rattle.world.specs.Stands.GoodRows.{good_none, Good-more}
+use Rattle.world.specs.Stands.GoodRows.{good_none, good_more}
 use Rattle.world.specs.Stands.Each.{each_none, each_more}
 use Rattle.world.specs.Stands.Disjoint.{disjoint_none, disjoint_more}
 use Rattle.world.proofs.Carrying.{shift_in}
@@ -124,7 +124,7 @@ module _ {board : Board} where
 
     good_rest : {base2 : ℕ} {rows : List Row} → base + managed board row.pages ≤ base2 → GoodRows board f n base2 rows → GoodRows board g n base2 rows
     good_rest h good_none = good_none
-    good_rest h (Good-more {row = row2} G Gs) = Good-more (good_beside B row2 (behind row2 h) G) (good_rest (omega arith) Gs)
+    good_rest h (good_more {row = row2} G Gs) = good_more (good_beside B row2 (behind row2 h) G) (good_rest (omega arith) Gs)
 
     stands_rest
         : {t t2 : Levels} → Carried board (from_of board row) base row.pages t u t2 → {base2 : ℕ} {rows : List Row} {rs : List AllocationRegion}
@@ -140,8 +140,8 @@ module _ {board : Board} where
       : {f g : ℕ → Record} {n : ℕ} {r : Row} {u : Levels} (i base : ℕ) (rows : List Row) → i < length rows → GoodRows board f n base rows
       → Becomes board f (base_at board base rows i) (row_at rows i) g n r u → WholeRow board g (base_at board base rows i) r → GoodRows board g n base (set rows i r)
   unfolding base_at
-  good_set {g = g} {n = n} {r = r} zero base (row ∷ rows) h (Good-more G Gs) B W =
-      Good-more {row = r}
+  good_set {g = g} {n = n} {r = r} zero base (row ∷ rows) h (good_more G Gs) B W =
+      good_more {row = r}
       (record {
         aligned = rw B.start G.aligned;
         bounded = rw (B.start, B.pages) G.bounded;
@@ -150,8 +150,8 @@ module _ {board : Board} where
         whole = W;
       })
       (subst (λ (p : ℕ). GoodRows board g n (base + managed board p) rows) (sym B.pages) (good_rest B (omega arith) Gs))
-  good_set (suc i) base (row ∷ rows) h (Good-more G Gs) B W =
-      Good-more (good_beside B row (before B row (base_low board (base + managed board row.pages) rows i)) G)
+  good_set (suc i) base (row ∷ rows) h (good_more G Gs) B W =
+      good_more (good_beside B row (before B row (base_low board (base + managed board row.pages) rows i)) G)
       (good_set i (base + managed board row.pages) rows (omega arith) Gs B W)
   good_set {f = f} {g = g} {n = n} {r = r} {u = u} zero base [] h _ B W = elim h [ ]
   good_set {f = f} {g = g} {n = n} {r = r} {u = u} (suc i) base [] h _ B W = elim h [ ]
@@ -165,13 +165,13 @@ module _ {board : Board} where
       (subst (λ (s : Levels). Shifted board (from_of board row) base row.pages s t) (sym (rep_state B.rep)) S))
 
   -- the region that the row stood for changed alike
-  pub Stands-set
+  pub stands_set
       : {f g : ℕ → Record} {n : ℕ} {r : Row} {fs : Frames} {u t2 : Levels} (i base : ℕ) (rows : List Row) (rs : List AllocationRegion) → i < length rows
       → Disjoint board rows → StandRows board f n fs base rows rs → Becomes board f (base_at board base rows i) (row_at rows i) g n r u
       → Carried board (from_of board (row_at rows i)) (base_at board base rows i) (row_at rows i).pages (levels_of fs (region_at rs i)) u t2
       → StandRows board g n t2.frames base (set rows i r) (set rs i (with_free (region_at rs i) t2.free))
   unfolding base_at
-  Stands-set {g = g} {n = n} {r = r} {u = u} {t2 = t2} zero base (row ∷ rows) (x ∷ rs) h (disjoint_more p ps) (stand_more S Ss) B C =
+  stands_set {g = g} {n = n} {r = r} {u = u} {t2 = t2} zero base (row ∷ rows) (x ∷ rs) h (disjoint_more p ps) (stand_more S Ss) B C =
       stand_more {row = r} {r = with_free x t2.free}
       (record {
         sound = rep_sound B.rep;
@@ -181,10 +181,10 @@ module _ {board : Board} where
         same = same_after B C.same;
       })
       (subst (λ (p : ℕ). StandRows board g n t2.frames (base + managed board p) rows rs) (sym B.pages) (stands_rest B C (omega arith) p Ss))
-  Stands-set (suc i) base (row ∷ rows) (x ∷ rs) h (disjoint_more p ps) (stand_more S Ss) B C =
+  stands_set (suc i) base (row ∷ rows) (x ∷ rs) h (disjoint_more p ps) (stand_more S Ss) B C =
       stand_more (stands_beside B row (before B row (base_low board (base + managed board row.pages) rows i)) C (λ q a b. each_at _ p i (omega arith) q b a) S)
-      (Stands-set i (base + managed board row.pages) rows rs (omega arith) ps Ss B C)
-  Stands-set {f = f} {g = g} {n = n} {r = r} {fs = fs} {u = u} {t2 = t2} zero base [] rs h _ _ B C = elim h [ ]
-  Stands-set {f = f} {g = g} {n = n} {r = r} {fs = fs} {u = u} {t2 = t2} zero base (row ∷ rows) [] h _ x17 B C = elim x17 [ ]
-  Stands-set {f = f} {g = g} {n = n} {r = r} {fs = fs} {u = u} {t2 = t2} (suc i) base [] rs h _ _ B C = elim h [ ]
-  Stands-set {f = f} {g = g} {n = n} {r = r} {fs = fs} {u = u} {t2 = t2} (suc i) base (row ∷ rows) [] h _ x18 B C = elim x18 [ ]
+      (stands_set i (base + managed board row.pages) rows rs (omega arith) ps Ss B C)
+  stands_set {f = f} {g = g} {n = n} {r = r} {fs = fs} {u = u} {t2 = t2} zero base [] rs h _ _ B C = elim h [ ]
+  stands_set {f = f} {g = g} {n = n} {r = r} {fs = fs} {u = u} {t2 = t2} zero base (row ∷ rows) [] h _ x17 B C = elim x17 [ ]
+  stands_set {f = f} {g = g} {n = n} {r = r} {fs = fs} {u = u} {t2 = t2} (suc i) base [] rs h _ _ B C = elim h [ ]
+  stands_set {f = f} {g = g} {n = n} {r = r} {fs = fs} {u = u} {t2 = t2} (suc i) base (row ∷ rows) [] h _ x18 B C = elim x18 [ ]

@@ -22,7 +22,7 @@ use Rattle.record.specs.Records.{pages_in}
 use Rattle.list.proofs.Laws.{all_map}
 use Rattle.region.specs.Rep.{from_of, managed, state_of}
 use Rattle.world.specs.Stands.{GoodRows, StandRows, Stands}
-use Rattle.world.specs.Stands.GoodRows.{good_none, Good-more}
+use Rattle.world.specs.Stands.GoodRows.{good_none, good_more}
 use Rattle.world.specs.Stands.StandRows.{stand_none, stand_more}
 use Rattle.world.specs.Tables.{Sane}
 use Rattle.definition.proofs.Bytes.{pages_same}
@@ -45,7 +45,7 @@ module _ {board : Board} where
         → EachPage board (Framed f fs) base (decode_rows board f base rows) → StandRows board f n fs base rows (decode_rows board f base rows)
     unfolding decode_rows managed from_of state_of
     rows_stand good_none e each = stand_none
-    rows_stand (Good-more {base = base} {row = row} {rows = rows} G rest) e each =
+    rows_stand (good_more {base = base} {row = row} {rows = rows} G rest) e each =
         stand_more
         (record {
           sound = G.sound;

@@ -30,7 +30,7 @@ use Rattle.scan.proofs.Rows.{whole_rows}
 use Rattle.world.specs.Stands.{Disjoint, Each, Good, GoodRows, Parted, base_at}
 use Rattle.world.specs.Stands.Disjoint.{disjoint_none, disjoint_more}
 use Rattle.world.specs.Stands.Each.{each_none, each_more}
-use Rattle.world.specs.Stands.GoodRows.{good_none, Good-more}
+use Rattle.world.specs.Stands.GoodRows.{good_none, good_more}
 use Rattle.definition.proofs.Boards.{page_least}
 use Rattle.definition.proofs.Bytes.{address_is, pages_bound}
 use Rattle.world.proofs.Regions.{row_sheet, row_sound, row_whole}
@@ -115,7 +115,7 @@ module _ {board : Board} where
     good_from base [] six boot whole small fits = good_none
     good_from base (row ∷ rows) six boot whole small fits =
         let S = row_sheet (and_left _ _ whole) in
-        Good-more
+        good_more
         (good_row (and_left _ _ boot) (row_sound S (eqb-true (length row.lists) 6 (and_left _ _ six)) (omega arith) (omega arith)) (row_whole S))
         (good_from (base + managed board row.pages) rows (and_right (six_lists row) _ six) (and_right (row_as_boot board row) _ boot)
         (and_right (whole_row board f (placed_at base row)) _ whole) (omega arith) (omega arith))
@@ -152,8 +152,8 @@ module _ {board : Board} where
         → Good board f n (base_at board base rows i) (get_or rows i d)
     unfolding base_at
     good_at good_none i h = absurd (omega arith)
-    good_at (Good-more g rest) zero h = g
-    good_at (Good-more g rest) (suc i) h = good_at rest i (omega arith)
+    good_at (good_more g rest) zero h = g
+    good_at (good_more g rest) (suc i) h = good_at rest i (omega arith)
 
 module _ (board : Board) where
   -- the pages of a row come before those of a later one

@@ -22,7 +22,7 @@ use Rattle.world.specs.Stands.{Carried, Disjoint, Each, Parted, base_at, region_
 use Rattle.world.specs.Stands.Disjoint.{disjoint_none, disjoint_more}
 use Rattle.world.specs.Stands.Each.{each_none, each_more}
 use Rattle.world.specs.Tables.{Sane, Table, Turned}
-use Rattle.world.proofs.Changing.{good_set, Stands-set}
+use Rattle.world.proofs.Changing.{good_set, stands_set}
 
 -- ---- the rows in use
 
@@ -144,7 +144,7 @@ module _ {board : Board} where
           : Turned board f rows g n (set rows i r) (record { frames = t2.frames; regions = set a.regions i (with_free (region_at a.regions i) t2.free) })
       table_set =
           record {
-            table = record { sane = sane; stands = rw used (Stands-set i 0 (used_rows rows) a.regions h T.sane.apart T.stands became carried) };
+            table = record { sane = sane; stands = rw used (stands_set i 0 (used_rows rows) a.regions h T.sane.apart T.stands became carried) };
             spans = spans;
             outside = λ q k. B.outside q (λ j. absurd (omega (arith, j.high, rw e at (ends_by board 0 (used_rows rows) i h))));
           }

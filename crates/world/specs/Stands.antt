@@ -94,7 +94,7 @@ module _ (board : Board) where
   -- so are rows that follow one another from the page `base`
   pub data GoodRows (f : ℕ → Record) (n : ℕ) : ℕ → List Row → Type 0 where
     good_none : {base : ℕ} → GoodRows f n base []
-    Good-more
+    good_more
         : {base : ℕ} {row : Row} {rows : List Row}
         → Good f n base row → GoodRows f n (base + managed board row.pages) rows → GoodRows f n base (row ∷ rows)
 

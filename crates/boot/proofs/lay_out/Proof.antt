@@ -10,7 +10,7 @@ use Rattle.definition.specs.World.{record_at, used_rows}
 use Rattle.record.specs.Records.{pages_in}
 use Rattle.region.specs.Rep.{managed}
 use Rattle.audit.proofs.Used.{used_eight}
-use Rattle.boot.proofs.OneByOne.{Laid, Turn, Laid-done, laid_none, Laid-on, laid_turn}
+use Rattle.boot.proofs.OneByOne.{Laid, Turn, laid_done, laid_none, laid_on, laid_turn}
 use Rattle.boot.proofs.lay_out.Statement.{statement}
 use Rattle.boot.proofs.lay_out.Tie as tie
 
@@ -100,7 +100,7 @@ loop_again c =
       some = omega (arith, l.loop-test.true);
       laid =
           rw c.before.table-pages.ensures
-          (Laid-on s.args.t3 s.args.used (pages_in s.args.records.now) s.requires.1 k.loop.invariant.laid l.loop-test.true
+          (laid_on s.args.t3 s.args.used (pages_in s.args.records.now) s.requires.1 k.loop.invariant.laid l.loop-test.true
           (omega (arith, d.auto.1.0, k.loop.invariant.long)) d.ensures.0);
     }
 
@@ -113,7 +113,7 @@ returns c =
     let s = k.before.before in
     let i = k.loop.invariant in
     let e : pages_in k.loop.records ≡ pages_in s.args.records.now = omega (arith, i.long) in
-    rw e (Laid-done s.args.t3 s.args.used (pages_in s.args.records.now) s.requires.1 i.few i.laid (omega arith))
+    rw e (laid_done s.args.t3 s.args.used (pages_in s.args.records.now) s.requires.1 i.few i.laid (omega arith))
 
 pub lay_out_spec : {M : Type 1} → statement M
 lay_out_spec =

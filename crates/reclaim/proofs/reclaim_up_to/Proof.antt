@@ -11,7 +11,7 @@ use Rattle.record.specs.Records.{pages_in}
 use Rattle.words.specs.Words.{Beside, board_in, queued_in, rows_in}
 use Rattle.words.proofs.Words.{beside_same, beside_then, board_beside}
 use Rattle.exam.specs.Promise.{Looks, state_with}
-use Rattle.reclaim.proofs.Reclaiming.{Going, going_all, going_drop, going_empty, going_free, Going-start}
+use Rattle.reclaim.proofs.Reclaiming.{Going, going_all, going_drop, going_empty, going_free, going_start}
 use Rattle.reclaim.proofs.reclaim_up_to.Statement.{statement}
 use Rattle.reclaim.proofs.reclaim_up_to.Tie as tie
 
@@ -69,7 +69,7 @@ looked l =
 loop_holds : tie.Need-loop-init invariant_loop decreases_loop
 loop_holds c =
     let s = c.before.before.before in
-    (Going-start s.args.limit s.requires.0.1 s.requires.1.0, refl, refl, beside_same)
+    (going_start s.args.limit s.requires.0.1 s.requires.1.0, refl, refl, beside_same)
 
 queued_in_requires : tie.Need-queued-in-requires invariant_loop decreases_loop
 queued_in_requires c κs = let k = c.before.before in omega (arith, k.loop.invariant.2, (start k).requires.0.0)

@@ -2,7 +2,7 @@
 use mathlib.Core.Path.{refl}
 use native.Mathlib.Omega.{arith}
 use Rattle.level.proofs.Sizes.{size_positive}
-use Rattle.region.proofs.Laying.{best, laid_none, laid_asks, laid_step, Laid-done}
+use Rattle.region.proofs.Laying.{best, laid_none, laid_asks, laid_step, laid_done}
 use Rattle.region.proofs.organize.Goals as goal
 
 pub loop-at-init : goal.loop-at-init
@@ -60,5 +60,5 @@ shape_of-records c = omega arith
 pub returns : goal.returns
 returns c =
     let k = c.loop-at in
-    let z = Laid-done k.invariant.laid (omega arith) c.requires.count_value.0 c.requires.count_value.1 in
+    let z = laid_done k.invariant.laid (omega arith) c.requires.count_value.0 c.requires.count_value.1 in
     record { becomes = z.0; whole_row = z.1 }
