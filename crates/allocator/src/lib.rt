@@ -3,6 +3,7 @@
 // one that the words are of. Where a function has a `requires`, that is what the audit establishes (`SaneIn`), or what an earlier look at
 // an address did.
 #![tactic(auto)]
+
 ghost use Rattle.definition.specs.Basics.{everywhere};
 ghost use Rattle.std.specs.Prelude.{◌≡◌, false, ◌/◌, ◌<◌};
 ghost use Rattle.definition.specs.Allocator.{do_alloc};
