@@ -93,7 +93,7 @@ module _ {board : Board} where
         → GoodRows board f n base (used_rows rows) → Each NarrowRow rows
     unfolding all used_rows
     rows_narrow [] s e G = each_none
-    rows_narrow {base} (row ∷ rows) s e G = go (eqb row.pages 0) e G (λ h rest. rows_narrow rows (and_right (six_lists row) _ s) h rest)
+    rows_narrow {base} (row ∷ rows) s e G = go (eqb row.pages 0) e G (λ h rest. rows_narrow {base = base + managed board row.pages} rows (and_right (six_lists row) _ s) h rest)
       where
         go : (t : Bool) → all is_no_row (drop (length (cond t [] (row ∷ used_rows rows))) (row ∷ rows)) ≡ true
             → GoodRows board f n base (cond t [] (row ∷ used_rows rows))

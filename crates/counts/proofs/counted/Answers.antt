@@ -1,0 +1,7 @@
+-- What `done` answers, beside the counters.
+use mathlib.Core.Path.{refl}
+use borrow.Author.Rules.{rules}
+use Rattle.counts.proofs.counted.Goals as goal
+
+pub returns : goal.returns
+returns c = rw c.done.ensures refl

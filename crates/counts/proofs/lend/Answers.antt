@@ -1,0 +1,9 @@
+-- The counters alone change.
+use borrow.Author.Rules.{rules}
+use Rattle.counts.proofs.Recounted.{lend_made}
+use Rattle.counts.proofs.lend.Goals as goal
+
+pub returns : goal.returns
+returns c ws rs m q s H =
+    let t = c.track_frame_pager in
+    rw c.counted.ensures (lend_made H c.args.count t.result t.ensures)
