@@ -1,6 +1,7 @@
 // The pager's loan, low memory and the statistics. Each call is given the counters, and the words where it wants the board, and promises
 // definition's `step` (exam/specs/Making.antt).
 #![tactic(auto)]
+
 ghost use Rattle.std.specs.Prelude.{◌≡◌, ◌≤◌};
 ghost use Rattle.definition.specs.Calls.{Lend, Back, Low};
 ghost use Rattle.exam.specs.Making.{Few, Counts, Weighs};

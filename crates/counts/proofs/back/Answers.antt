@@ -10,5 +10,4 @@ returns-then-counters-count c ws rs m q s H = rw c.refused.ensures (back_short H
 pub returns : goal.returns
 returns c ws rs m q s H =
     let t = c.untrack_frame_pager in
-    
     rw c.counted.ensures (back_made H c.args.count (omega (arith, c.if-counters-count.false)) t.result t.ensures)

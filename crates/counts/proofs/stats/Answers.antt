@@ -10,6 +10,6 @@ print_tracker_stats-len-requires c = let F = c.requires in (omega arith, F.idle,
 pub returns : goal.returns
 returns c =
     let W = c.print_tracker_stats-len.ensures in record {
-      reports = reports_written W.0;
-      len_bound = omega (arith, W.1);
+      reports = reports_written W.wrote;
+      len_bound = omega (arith, W.upper_bound);
     }
