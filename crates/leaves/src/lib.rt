@@ -2,6 +2,7 @@
 // numbers. Nothing else calls them. Each tests what it was lent and answers 0 where the loan does not fit; a loan of records that fits has
 // one for each page, and at most 1,048,576.
 #![tactic(auto)]
+
 ghost use Rattle.std.specs.Prelude.{◌≡◌, ◌+◌, ◌≤◌, ◌<◌, ◌^◌, ◌&&◌, leb};
 ghost use Rattle.definition.specs.World.{record_at};
 ghost use Rattle.record.specs.Records.{pages_in};

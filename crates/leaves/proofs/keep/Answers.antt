@@ -13,8 +13,7 @@ use Rattle.record.proofs.Bytes.{with_length}
 use Rattle.words.specs.Words.{Long, InUse, NarrowRow, kept_of, row_of, rows_in}
 use Rattle.words.proofs.Words.{length_kept, used_written, rows_written}
 use Rattle.words.proofs.Owned.{row_narrow}
-use Rattle.leaves.proofs.keep.Statement.{statement}
-use Rattle.leaves.proofs.keep.Tie as tie
+use Rattle.leaves.proofs.keep.Goals as goal
 
 unused_narrow : NarrowRow no_row
 unused_narrow =
@@ -49,27 +48,6 @@ module _ (ws : List ℕ) (row : Row) (h : Long ws) (n : NarrowRow row) where
   kept_alone =
       ((omega (arith, as_long), omega arith, omega (arith, used_written ws 1 (alone row) 0 none h refl)), rw rows_back refl)
 
-new_requires : tie.Need-new-requires
-new_requires c κs = search rules
-
-empty_row_requires : tie.Need-empty-row-requires
-empty_row_requires c κs = search rules
-
-array_set_from_rows : tie.Need-array-set-from-rows
-array_set_from_rows c = search rules
-
-put_kept_requires : tie.Need-put-kept-requires
-put_kept_requires c κs = search rules
-
-same_length : tie.Need-same-length
-same_length c = search rules
-
-returns : tie.Need-returns
+pub returns : goal.returns
 returns c =
-    let d = c.before.before in
-    let u = d.before.before in
-    let s = u.before.before.before in
-    rw (d.put-kept.ensures, u.empty-row.ensures, u.before.new.ensures) (kept_alone s.args.words.now s.args.row s.requires (row_narrow s.args.row _ s.well-formed.1.0))
-
-pub keep_spec : {M : Type 1} → statement M
-keep_spec = tie.close (tie.spec new_requires empty_row_requires array_set_from_rows put_kept_requires same_length returns)
+    rw (c.put_kept.ensures, c.empty_row-unused.ensures, c.new.ensures) (kept_alone c.args.words.now c.args.row c.requires (row_narrow c.args.row _ c.well_formed.1.0))

@@ -1,0 +1,51 @@
+-- The list is sound, and the pages popped and those left make `count`, so that no pop finds the list empty.
+use borrow.Author.Rules.{rules}
+use Prim.Native.Nat.{ℕ, ◌+◌, ◌-◌}
+use mathlib.Core.List.{List, []}
+use mathlib.Core.Path.{◌≡◌, refl}
+use native.Mathlib.Omega.{arith}
+use lib.ListN.{length}
+use Rattle.definition.specs.declared.Links.{Links}
+use Rattle.definition.specs.World.{record_at, pages_of}
+use Rattle.record.specs.Records.{pages_in}
+use Rattle.list.specs.Linked.{Sound, Taken}
+use Rattle.leaves.proofs.Counts.{count_none, count_less}
+use Rattle.leaves.proofs.pop_all.Invariants.{Inv}
+use Rattle.leaves.proofs.pop_all.Goals as goal
+
+pub loop-i-init : goal.loop-i-init
+loop-i-init c = record { left = omega (arith, c.requires.count_value); same = refl; sound = c.requires.sound }
+
+pub pop_back-requires : goal.pop_back-requires
+pop_back-requires c = c.loop-i.invariant.sound
+
+pub shape_of-records-in-Empty : goal.shape_of-records-in-Empty
+shape_of-records-in-Empty c = omega arith
+
+pub returns-in-Empty : goal.returns-in-Empty
+returns-in-Empty c =
+    let k = c.loop-i in
+    let e = c.in-Empty.ensures in
+    omega (arith, count_none k.invariant.sound e.0)
+
+pub overflow_add-i : goal.overflow_add-i
+overflow_add-i c = omega arith
+
+pub loop-i-smaller : goal.loop-i-smaller
+loop-i-smaller c = omega arith
+
+pub loop-i-preserved : goal.loop-i-preserved
+loop-i-preserved c =
+    let k = c.loop-i in
+    let e = c.in-Page.ensures in
+    record {
+      left = omega (arith, count_less k.invariant.sound e);
+      same = omega (arith, c.pop_back.auto.records);
+      sound = e.sound;
+    }
+
+pub shape_of-records : goal.shape_of-records
+shape_of-records c = omega arith
+
+pub returns : goal.returns
+returns c = omega arith

@@ -1,0 +1,62 @@
+-- The list is sound and has the pages below i, so that the page i is not on it yet.
+use Prim.Native.Nat.{ℕ, ◌-◌, ◌≤◌, ◌<◌}
+use mathlib.Core.List.{List}
+use mathlib.Core.Path.{◌≡◌, refl}
+use native.Mathlib.Omega.{arith}
+use lib.ListN.{length}
+use Rattle.definition.specs.declared.Links.{Links}
+use Rattle.definition.specs.World.{record_at, pages_of}
+use Rattle.record.specs.Records.{pages_in}
+use Rattle.list.specs.Linked.{All, Sound}
+use Rattle.list.specs.Linked.All.{all_none}
+use Rattle.list.proofs.Laws.{all_map, linked_empty, linked_pages, linked_sound}
+use Rattle.leaves.proofs.Counts.{count_more, below_next}
+use Rattle.leaves.proofs.push_all.Invariants.{Inv}
+use Rattle.leaves.proofs.push_all.Goals as goal
+
+pub loop-i-init : goal.loop-i-init
+loop-i-init c =
+    record {
+      some = omega arith;
+      same = refl;
+      sound = linked_sound (linked_empty _ _);
+      below = rw (linked_pages (linked_empty (record_at c.args.records.now) 0)) all_none;
+      counted = refl;
+    }
+
+pub push_back-l-requires : goal.push_back-l-requires
+push_back-l-requires c =
+    let k = c.loop-i in record {
+      sound = k.invariant.sound;
+      page_bound = omega arith;
+      out = all_map (λ x h. omega arith) k.invariant.below;
+      page_bound_2 = (omega arith, omega (arith, k.invariant.counted));
+    }
+
+pub overflow_add-i : goal.overflow_add-i
+overflow_add-i c = omega arith
+
+pub loop-i-smaller : goal.loop-i-smaller
+loop-i-smaller c = omega arith
+
+pub loop-i-preserved : goal.loop-i-preserved
+loop-i-preserved c =
+    let k = c.loop-i in
+    let d = c.push_back-l in
+    record {
+      some = omega arith;
+      same = omega (arith, d.auto.records);
+      sound = d.ensures.sound;
+      below = rw d.ensures.pages (below_next k.invariant.below);
+      counted = omega (arith, count_more k.invariant.sound d.ensures);
+    }
+
+pub shape_of-records : goal.shape_of-records
+shape_of-records c = omega arith
+
+pub returns : goal.returns
+returns c =
+    record {
+      sound = c.loop-i.invariant.sound;
+      count_value = omega arith;
+    }
