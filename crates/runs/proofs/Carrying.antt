@@ -48,7 +48,7 @@ use Rattle.words.proofs.Words.{
   queued_in_lem,
   queued_kept,
   queued_written,
-  rows_in,
+  rows_in_lem,
   rows_kept,
   rows_written,
   used_written,
@@ -101,7 +101,7 @@ module _ (board : Board) (w : World) (s : sound board w ≡ true) {used : ℕ} (
         long = long;
         kept = rw (long, first) k;
         first = ap high_half first ∙ u;
-        rows = rows_in ws w.rows w.queued w.pass enough narrow (rw (u ∙ sym m) unused);
+        rows = rows_in_lem ws w.rows w.queued w.pass enough narrow (rw (u ∙ sym m) unused);
         queued = queued_in_lem ws w.rows w.queued w.pass enough narrow;
         pass = pass_in_lem ws w.rows w.queued w.pass enough narrow;
       }

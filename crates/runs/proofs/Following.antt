@@ -83,7 +83,7 @@ module _ {board : Board} (fit : Fit board) (of : (ws : List ℕ) → board_in ws
     all_carried : {v : World} {x : State} (l : Lent) → Holds board ms w v x → BearsAll board ms l v → (cs : List Call) → Carries (lent_after l cs) (world_after board v cs)
     unfolding lent_after world_after
     all_carried l H C [] = C.carries
-    all_carried l H C (c ∷ cs) = all_carried (served c l).lent (call_holds fit H c) (next l H C c) cs
+    all_carried {v = v} {x = x} l H C (c ∷ cs) = all_carried {v = (call board v c).world} (served c l).lent (call_holds fit H c) (next l H C c) cs
 
     all_numbers : {v : World} {x : State} (l : Lent) → Holds board ms w v x → BearsAll board ms l v → (cs : List Call)
         → numbers_after l cs ≡ map answer_number (answers_of board v cs)
@@ -95,7 +95,7 @@ module _ {board : Board} (fit : Fit board) (of : (ws : List ℕ) → board_in ws
         ∙ told_number (call board (world_in l) c).answer
         ∙ ap (λ (u : World). answer_number (call board u c).answer) C.carries.world
         in
-        ap₂ (λ (n : ℕ) (ns : List ℕ). n ∷ ns) number (all_numbers (served c l).lent (call_holds fit H c) (next l H C c) cs)
+        ap₂ (λ (n : ℕ) (ns : List ℕ). n ∷ ns) number (all_numbers {v = (call board v c).world} (served c l).lent (call_holds fit H c) (next l H C c) cs)
 
 -- ---- the answer of the next call
 

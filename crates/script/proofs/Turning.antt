@@ -31,7 +31,7 @@ use Rattle.text.specs.Writing.{Wrote}
 use Rattle.text.proofs.Writing.{wrote_as}
 use Rattle.script.specs.declared.Running.{Running as RunningOf}
 use Rattle.script.specs.Running.{Running, Turn, Bad, Does, Enters, Loans, Stands, TellsAny, Turned, Turns, running_with, world_by}
-use Rattle.script.proofs.Answers.{accepted, boot-line, call_line, stats-call}
+use Rattle.script.proofs.Answers.{accepted, boot_line, call_line, stats_call}
 use Rattle.script.proofs.Writing.{wrote_nothing}
 
 module _ (board : Board) where
@@ -96,7 +96,7 @@ module _ (board : Board) where
                 long = S.long;
                 front = S.front;
               };
-              wrote = wrote_as (boot-line board name x.map x.world b.answer) w;
+              wrote = wrote_as (boot_line board name x.map x.world b.answer) w;
             }
 
     -- a call whose text is the one that its answer has
@@ -130,7 +130,7 @@ module _ (board : Board) where
       let r : Running = running_with k ws in
       let v : World = world_by r.state l in
       let e : call board v Stats ≡ record { world = v; answer = Text (tracker_stats k.counters) } =
-      stats-call board v (sure late) small
+      stats_call board v (sure late) small
       in
       turned_as board {r = r} {l = l} (bytes_of "stats") Stats k.booted (sym late) late (ap (λ (x : Left). x.world) e)
       (wrote_as (R.text ∙ sym (ap (λ (x : Left). answer_line (bytes_of "stats") x.answer) e)) w)
