@@ -1,6 +1,7 @@
 // The boot (frame.rs's init): the refusals of a map, 1 to 5, and the layout of the regions that it keeps. A refused boot leaves everything
 // as it was. Numbers of a map are any of 64 bits, so an entry is rounded to pages only once no usable one ends past 2^40.
 #![tactic(auto)]
+
 ghost use Rattle.std.specs.Prelude.{false, ◌≡◌, ◌≤◌, length, take};
 ghost use Rattle.definition.specs.Board.{Fit};
 ghost use Rattle.definition.specs.Allocator.{is_usable};

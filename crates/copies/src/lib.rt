@@ -2,6 +2,7 @@
 // Each call is lent what it reads and writes and promises definition's `step` (exam/specs/Making.antt); the words and counters stay as
 // they are.
 #![tactic(auto)]
+
 ghost use Rattle.std.specs.Prelude.{◌≡◌, ◌&&◌, ◌+◌, ◌≤◌, eqb, length};
 ghost use Rattle.definition.specs.Board.{Fit};
 ghost use Rattle.definition.specs.Contents.{zero_range, copy_contents_from};

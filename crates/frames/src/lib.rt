@@ -1,6 +1,7 @@
 // Calls on one frame: lookup, split and free. Each is lent what it reads and writes, asks for a sane table, and promises definition's
 // `step` of the store that the words and the records hold (exam/specs/Making.antt); the torn test comes before it.
 #![tactic(auto)]
+
 ghost use Rattle.definition.specs.Calls.{Find, Split, Free};
 ghost use Rattle.definition.specs.World.{record_at};
 ghost use Rattle.record.specs.Records.{pages_in};

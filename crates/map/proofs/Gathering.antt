@@ -12,7 +12,7 @@ use lib.ListN.{length, get_or, take, drop, set, length-set, drop_of_length-le}
 use lib.Seq.{drop-cons, get_or-take, length-take-le, take_all, take-suc-set}
 use Rattle.definition.specs.declared.MemoryRegion.{MemoryRegion}
 use Rattle.map.specs.declared.Gathered.{Gathered}
-use Rattle.map.specs.Lending.{no_region, nothing, entered, entered_all, gathered}
+use Rattle.map.specs.Lending.{nothing, entered, entered_all, gathered}
 
 entered_count : (xs : List MemoryRegion) (i : ℕ) (g : Gathered) → (entered_all xs i g).count ≡ g.count
 unfolding entered_all
@@ -85,12 +85,12 @@ taken ys m c =
     ⊎_elim (λ h. ap length (take_all 8 ys (omega (arith, c.2 h))) ∙ sym (c.2 h)) (λ h. length-take-le 8 ys (omega (arith, c.0)) ∙ omega (arith, c.1))
     (either m 8 (ltb m 8) refl)
 
-step_all : (zs : List MemoryRegion) (i : ℕ) (s : Gathered) → i < length zs
-    → entered_all (drop i zs) i s ≡ entered_all (drop (i + 1) zs) (i + 1) (entered s i (get_or zs i no_region))
+-- `d` stands for an entry past the last one, and there is none
+step_all : (d : MemoryRegion) (zs : List MemoryRegion) (i : ℕ) (s : Gathered) → i < length zs
+    → entered_all (drop i zs) i s ≡ entered_all (drop (i + 1) zs) (i + 1) (entered s i (get_or zs i d))
 unfolding entered_all
-step_all zs i s h =
-    ap (λ (l : List MemoryRegion). entered_all l i s) (drop-cons zs i no_region h)
-    ∙ ap (λ (k : ℕ). entered_all (drop k zs) (i + 1) (entered s i (get_or zs i no_region))) (sym (add-one i))
+step_all d zs i s h =
+    ap (λ (l : List MemoryRegion). entered_all l i s) (drop-cons zs i d h) ∙ ap (λ (k : ℕ). entered_all (drop k zs) (i + 1) (entered s i (get_or zs i d))) (sym (add-one i))
 
 end_all : (zs : List MemoryRegion) (i : ℕ) (s : Gathered) → length zs ≤ i → entered_all (drop i zs) i s ≡ s
 unfolding entered_all
@@ -101,10 +101,10 @@ abbrev pub Onward : List MemoryRegion → ℕ → Gathered → Type 0
 Onward ys i s = entered_all (drop i (take 8 ys)) i s ≡ gathered ys
 
 module _ (ys : List MemoryRegion) (m : ℕ) (c : Capped (length ys) m) (i : ℕ) (s : Gathered) (o : Onward ys i s) where
-  pub onward_next : i < m → (r : Gathered) → r ≡ entered s i (get_or ys i no_region) → Onward ys (i + 1) r
-  onward_next small r e =
-      ap (entered_all (drop (i + 1) (take 8 ys)) (i + 1)) (e ∙ ap (entered s i) (sym (get_or-take 8 ys i no_region (omega (arith, c.1)))))
-      ∙ sym (step_all (take 8 ys) i s (omega (arith, taken ys m c)))
+  pub onward_next : (d : MemoryRegion) → i < m → (r : Gathered) → r ≡ entered s i (get_or ys i d) → Onward ys (i + 1) r
+  onward_next d small r e =
+      ap (entered_all (drop (i + 1) (take 8 ys)) (i + 1)) (e ∙ ap (entered s i) (sym (get_or-take 8 ys i d (omega (arith, c.1)))))
+      ∙ sym (step_all d (take 8 ys) i s (omega (arith, taken ys m c)))
       ∙ o
 
   pub onward_end : m ≤ i → s ≡ gathered ys

@@ -1,6 +1,7 @@
 // The boot over a lent list of region structs (frame.rs's init): any length, of which no more than eight are read. A thin function reads
 // each struct out of the slice and hands it by value to covered code; the whole boot promises what `boot` does, over the list of entries.
 #![tactic(auto)]
+
 ghost use Rattle.std.specs.Prelude.{◌≡◌, ◌≤◌, ◌<◌, length};
 ghost use Rattle.definition.specs.Board.{Fit};
 ghost use Rattle.words.specs.Words.{Long};

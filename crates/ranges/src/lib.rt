@@ -1,6 +1,7 @@
 // The contents of held frames, after frame.rs's Frame::zero, set_not_zero and the added fill and write. Each call is lent what it reads and
 // writes and promises definition's `step` (exam/specs/Making.antt); the words and counters stay as they are.
 #![tactic(auto)]
+
 ghost use Rattle.definition.specs.Calls.{Zero, Dirty, Fill, Write};
 ghost use Rattle.exam.specs.Making.{TableIn, RoomIn, Marks, Writes};
 

@@ -1,6 +1,7 @@
 // The reclaim queue and its rounds, after tracker.rs's reclaim_main. Each call is lent what it reads and writes and promises definition's
 // `step` (exam/specs/Making.antt).
 #![tactic(auto)]
+
 ghost use Rattle.std.specs.Prelude.{◌<◌, ◌≤◌, ◌^◌, length};
 ghost use Rattle.definition.specs.Calls.{Queue, Round};
 ghost use Rattle.definition.specs.World.{record_at};

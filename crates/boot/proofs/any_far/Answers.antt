@@ -1,8 +1,7 @@
 -- `any_far` meets its contract. The loop's invariant: an entry ends far exactly if one of those that are left does.
-use Prim.Native.Nat.{◌-◌, ◌≤◌}
-use mathlib.Core.Path.{◌≡◌, refl, sym, ap, ◌∙◌}
+use mathlib.Core.Path.{refl, sym, ap, ◌∙◌}
 use native.Mathlib.Omega.{arith}
-use lib.ListN.{length, take, drop}
+use lib.ListN.{take}
 use borrow.Author.Rules.{rules}
 use Rattle.definition.specs.Basics.{any}
 use Rattle.definition.specs.Boot.{ends_far}

@@ -1,13 +1,9 @@
 -- `any_far` meets its contract. The loop's invariant: an entry ends far exactly if one of those that are left does.
 use Prim.Native.Nat.{◌-◌, ◌≤◌}
-use mathlib.Core.Path.{◌≡◌, refl, sym, ap, ◌∙◌}
-use native.Mathlib.Omega.{arith}
+use mathlib.Core.Path.{◌≡◌}
 use lib.ListN.{length, take, drop}
-use borrow.Author.Rules.{rules}
 use Rattle.definition.specs.Basics.{any}
 use Rattle.definition.specs.Boot.{ends_far}
-use Rattle.audit.proofs.Onward.{drop_past, any_on, any_off}
-use Rattle.boot.proofs.KeptRows.{map_eight, taken_at, taken_long}
 use Rattle.boot.proofs.any_far.Given as goal
 
 abbrev pub invariant-loop-i : goal.invariant-loop-i

@@ -14,7 +14,6 @@ use Rattle.boot.proofs.KeptRows.{map_eight}
 use Rattle.boot.proofs.Refusing.{accepted_admitted, accepted_boot, accepted_kept, accepted_ready, given_kept, given_near}
 use Rattle.boot.proofs.Leaving.{boots_done, boots_refused}
 use Rattle.boot.proofs.Writing.{boots_written, laid_used, over_done, over_refused}
-use borrow.Author.Rules.{rules}
 use Rattle.boot.proofs.boot.Goals as goal
 use Rattle.boot.proofs.boot.Goals.{After-lay_out-laid, Start}
 
@@ -68,9 +67,6 @@ lay_out-laid-requires c =
 -- the rows laid out are as many as were kept
 many : (c : After-lay_out-laid) → c.kept_rows-kept.result.used ≡ length (used_rows c.lay_out-laid.result)
 many c =
-    
-    
-    
     let R = accepted_kept c.requires.fit c.args.map c.args.count _ _ _ (long (goal.at.After-lay_out-laid c).Start) c.refusal_of_map-number.ensures c.if-number-ne0.false c.kept_rows-kept.result c.kept_rows-kept.ensures in
     R.many ∙ sym (laid_used c.lay_out-laid.ensures)
 
@@ -84,7 +80,6 @@ overflow_mul-board c =
 
 pub returns : goal.returns
 returns c =
-    let else_number_ne0 = (goal.at.returns c).Else-number-ne0 in
     let after_lay_out_laid = (goal.at.returns c).After-lay_out-laid in
     let a = c.args in
     let E = c.refusal_of_map-number.ensures in
@@ -100,8 +95,8 @@ returns c =
           (accepted_admitted c.requires.fit a.map a.count _ _ _ (long (goal.at.returns c).Start) E z c.kept_rows-kept.result c.kept_rows-kept.ensures)
           c.lay_out-laid.ensures
           c.lay_out-laid.auto.records
-          (λ i. omega (arith, c.slice_known-2-1.given else_number_ne0))
-          (λ i. omega (arith, c.slice_known-3-1.given else_number_ne0))
+          (λ i. omega (arith, c.slice_known-2-1.given i))
+          (λ i. omega (arith, c.slice_known-3-1.given i))
           c.total_pages-pages.ensures
           c.requires.fit
           ms

@@ -3,8 +3,7 @@ use mathlib.Core.Bool.{true}
 use Prim.Native.Nat.{◌+◌}
 use mathlib.Core.Path.{◌≡◌, sym, ◌∙◌}
 use native.Mathlib.Omega.{arith}
-use borrow.Author.Rules.{rules}
-use borrow.Author.Tests.{lt-ltb, not-false, not-true}
+use borrow.Author.Tests.{lt-ltb}
 use Rattle.definition.specs.Allocator.{is_usable}
 use Rattle.boot.proofs.Entries.{far_unusable, far_usable, near}
 use Rattle.boot.proofs.ends_far.Goals as goal

@@ -1,10 +1,8 @@
 -- `keep` meets its contract. The gap up to the next page edge is what the start was rounded up by; an entry shorter than it has no whole page.
-use Prim.Native.Nat.{◌-◌, ◌*◌, ◌/◌, ◌<◌, ◌≤◌, ◌^◌}
+use Prim.Native.Nat.{◌-◌, ◌*◌, ◌/◌}
 use mathlib.Core.Bool.{true}
 use mathlib.Core.Path.{◌≡◌, refl, sym, ap, ◌∙◌}
 use native.Mathlib.Omega.{arith}
-use borrow.Author.Rules.{rules}
-use borrow.Author.Tests.{not-false, not-true}
 use Rattle.definition.specs.Allocator.{is_usable, nr_pages, start_page, table_pages}
 use Rattle.definition.proofs.Boards.{page_least, page_most}
 use Rattle.boot.proofs.Entries.{
@@ -84,7 +82,6 @@ tables
     : (c : After-table_pages) → let a = c.args in
     c.table_pages.result ≡ table_pages a.board (nr_pages a.board a.entry)
 tables c =
-    
     let a = c.args in
     c.table_pages.ensures ∙ ap (table_pages a.board) (pages (goal.at.After-table_pages c).After-raw-2)
 

@@ -1,18 +1,12 @@
 -- `kept_rows` meets its contract. The loop's invariant: the rows are those of the entries passed, with unused ones behind them.
-use Prim.Native.Nat.{ℕ, ◌-◌, ◌≤◌, ◌<◌}
-use mathlib.Core.List.{List}
-use mathlib.Core.Logic.{⊎_elim}
+use Prim.Native.Nat.{◌<◌}
 use mathlib.Core.Path.{◌≡◌, refl, ap, ◌∙◌}
 use native.Mathlib.Omega.{arith}
-use lib.ListN.{length, take, replicate}
-use borrow.Author.Rules.{rules}
-use Rattle.definition.specs.Board.{Board}
-use Rattle.definition.specs.declared.MemoryRegion.{MemoryRegion}
+use lib.ListN.{replicate}
 use Rattle.definition.specs.declared.Row.{Row}
 use Rattle.boot.specs.Booting.{eight, kept_rows}
 use Rattle.boot.proofs.Entries.{row_at_lem}
 use Rattle.boot.proofs.KeptRows.{map_eight, near_at, no_entry, turn_fits, turn_more, turn_rows, turn_same}
-use Rattle.boot.proofs.kept_rows.Invariants.{Inv}
 use Rattle.boot.proofs.kept_rows.Goals as goal
 use Rattle.boot.proofs.kept_rows.Goals.{After-keep-row}
 
@@ -42,8 +36,6 @@ keep-row-requires c =
 -- the place of a turn's row
 fits : (c : After-keep-row) → c.loop-i.used < 8
 fits c =
-    
-    
     turn_fits c.args.board c.args.map c.loop-i.i no_entry (omega arith) (omega arith) c.loop-i.invariant.kept c.loop-i.invariant.many c.keep-row.ensures
 
 pub offset_bounds-rows-used : goal.offset_bounds-rows-used
@@ -68,10 +60,12 @@ loop-i-preserved c =
       some = omega arith;
       kept = turn_rows c.args.board c.args.map c.loop-i.i no_entry (omega arith) (omega arith) c.loop-i.invariant.kept c.loop-i.invariant.many c.keep-row.ensures;
       many =
-          ⊎_elim
-          (λ w. w.1 ∙ turn_more c.args.board c.args.map c.loop-i.i no_entry (omega arith) (omega arith) c.loop-i.invariant.kept c.loop-i.invariant.many c.keep-row.ensures w.0.taken)
-          (λ w. w.1 ∙ turn_same c.args.board c.args.map c.loop-i.i no_entry (omega arith) (omega arith) c.loop-i.invariant.kept c.loop-i.invariant.many c.keep-row.ensures w.0.left)
-          c.if-row-ne0.branch;
+          elim c.if-row-ne0.branch [
+            | goal.then-row-ne0 w ↦ w.used-is
+                ∙ turn_more c.args.board c.args.map c.loop-i.i no_entry (omega arith) (omega arith) c.loop-i.invariant.kept c.loop-i.invariant.many c.keep-row.ensures w.if-row-ne0.true
+            | goal.else-row-ne0 w ↦ w.used-is
+                ∙ turn_same c.args.board c.args.map c.loop-i.i no_entry (omega arith) (omega arith) c.loop-i.invariant.kept c.loop-i.invariant.many c.keep-row.ensures w.if-row-ne0.false
+          ];
     }
 
 pub returns : goal.returns

@@ -1,17 +1,12 @@
 -- `kept_rows` meets its contract. The loop's invariant: the rows are those of the entries passed, with unused ones behind them.
-use Prim.Native.Nat.{ℕ, ◌-◌, ◌≤◌, ◌<◌}
+use Prim.Native.Nat.{ℕ, ◌-◌, ◌≤◌}
 use mathlib.Core.List.{List}
-use mathlib.Core.Logic.{⊎_elim}
-use mathlib.Core.Path.{◌≡◌, refl, ap, ◌∙◌}
-use native.Mathlib.Omega.{arith}
-use lib.ListN.{length, take, replicate}
-use borrow.Author.Rules.{rules}
+use mathlib.Core.Path.{◌≡◌}
+use lib.ListN.{length, take}
 use Rattle.definition.specs.Board.{Board}
 use Rattle.definition.specs.declared.MemoryRegion.{MemoryRegion}
 use Rattle.definition.specs.declared.Row.{Row}
 use Rattle.boot.specs.Booting.{eight, kept_rows}
-use Rattle.boot.proofs.Entries.{row_at_lem}
-use Rattle.boot.proofs.KeptRows.{map_eight, near_at, no_entry, turn_fits, turn_more, turn_rows, turn_same}
 use Rattle.boot.proofs.kept_rows.Given as goal
 
 pub record Inv (board : Board) (count : ℕ) (map : List MemoryRegion) (rows : List Row) (used i : ℕ) : Type 0 where

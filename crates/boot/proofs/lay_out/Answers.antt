@@ -1,17 +1,12 @@
 -- `lay_out` meets its contract. The loop's invariant is `Laid`: the rows passed stand for their regions.
-use Prim.Native.Nat.{ℕ, ◌-◌, ◌≤◌, ◌<◌}
-use mathlib.Core.List.{List}
+use Prim.Native.Nat.{◌<◌}
 use mathlib.Core.Path.{◌≡◌, refl}
 use native.Mathlib.Omega.{arith}
-use lib.ListN.{length}
-use Rattle.definition.specs.declared.Row.{Row}
-use Rattle.definition.specs.Board.{Board}
-use Rattle.definition.specs.World.{record_at, used_rows}
+use Rattle.definition.specs.World.{record_at}
 use Rattle.record.specs.Records.{pages_in}
 use Rattle.region.specs.Rep.{managed}
 use Rattle.audit.proofs.Used.{used_eight}
-use Rattle.boot.proofs.OneByOne.{Laid, Turn, laid_done, laid_none, laid_on, laid_turn}
-use Rattle.boot.proofs.lay_out.Invariants.{Inv}
+use Rattle.boot.proofs.OneByOne.{Turn, laid_done, laid_none, laid_on, laid_turn}
 use Rattle.boot.proofs.lay_out.Goals as goal
 use Rattle.boot.proofs.lay_out.Goals.{In-loop-i}
 
@@ -26,12 +21,8 @@ loop-i-init c =
 
 -- the row of a turn
 turn
-    : (c : In-loop-i) → 
-    
-    Turn c.args.rows c.args.used (pages_in c.args.records.now) c.requires.ready c.loop-i.base c.loop-i.i
+    : (c : In-loop-i) → Turn c.args.rows c.args.used (pages_in c.args.records.now) c.requires.ready c.loop-i.base c.loop-i.i
 turn c =
-    
-    
     laid_turn c.args.rows c.args.used (pages_in c.args.records.now) c.requires.ready c.loop-i.invariant.laid c.loop-i-test.true
 
 place : (c : In-loop-i) → c.loop-i.i < 8
@@ -45,33 +36,34 @@ bounds-rows-i c = place c
 
 pub new-laid-requires : goal.new-laid-requires
 new-laid-requires c =
-    let T = turn (goal.at.new-laid-requires c).After-row-1 in (
-      c.requires.fit,
-      ((omega (arith, T.few), omega (arith, T.tables)), (omega (arith, T.end), omega (arith, T.fits, c.loop-i.invariant.long))),
-    )
+    let T = turn (goal.at.new-laid-requires c).In-loop-i in record {
+      fit = c.requires.fit;
+      pages_bound = (omega (arith, T.few), omega (arith, T.tables));
+      pages_bound_2 = (omega (arith, T.end), omega (arith, T.fits, c.loop-i.invariant.long));
+    }
 
 pub offset_bounds-next-i : goal.offset_bounds-next-i
-offset_bounds-next-i c = omega (arith, place (goal.at.offset_bounds-next-i c).After-row-1)
+offset_bounds-next-i c = omega (arith, place (goal.at.offset_bounds-next-i c).In-loop-i)
 
 pub bounds-next-i : goal.bounds-next-i
-bounds-next-i c = place (goal.at.bounds-next-i c).After-row-1
+bounds-next-i c = place (goal.at.bounds-next-i c).In-loop-i
 
 pub table_pages-requires : goal.table_pages-requires
 table_pages-requires c =
     record {
       fit = c.requires.fit;
-      pages_bound = omega (arith, (turn (goal.at.table_pages-requires c).After-row-1).few);
+      pages_bound = omega (arith, (turn (goal.at.table_pages-requires c).In-loop-i).few);
     }
 
 pub overflow_sub-base : goal.overflow_sub-base
-overflow_sub-base c = omega (arith, (turn (goal.at.overflow_sub-base c).After-row-1).tables, c.table_pages.ensures)
+overflow_sub-base c = omega (arith, (turn (goal.at.overflow_sub-base c).In-loop-i).tables, c.table_pages.ensures)
 
 pub overflow_add-base : goal.overflow_add-base
 unfolding managed
-overflow_add-base c = omega (arith, (turn (goal.at.overflow_add-base c).After-row-1).end, c.table_pages.ensures)
+overflow_add-base c = omega (arith, (turn (goal.at.overflow_add-base c).In-loop-i).end, c.table_pages.ensures)
 
 pub overflow_add-i : goal.overflow_add-i
-overflow_add-i c = omega (arith, place (goal.at.overflow_add-i c).After-row-1)
+overflow_add-i c = omega (arith, place (goal.at.overflow_add-i c).In-loop-i)
 
 pub loop-i-smaller : goal.loop-i-smaller
 loop-i-smaller c = omega (arith, c.loop-i-test.true)

@@ -1,16 +1,13 @@
 -- `lay_out` meets its contract. The loop's invariant is `Laid`: the rows passed stand for their regions.
-use Prim.Native.Nat.{ℕ, ◌-◌, ◌≤◌, ◌<◌}
+use Prim.Native.Nat.{ℕ, ◌-◌, ◌≤◌}
 use mathlib.Core.List.{List}
-use mathlib.Core.Path.{◌≡◌, refl}
-use native.Mathlib.Omega.{arith}
+use mathlib.Core.Path.{◌≡◌}
 use lib.ListN.{length}
 use Rattle.definition.specs.declared.Row.{Row}
 use Rattle.definition.specs.Board.{Board}
 use Rattle.definition.specs.World.{record_at, used_rows}
 use Rattle.record.specs.Records.{pages_in}
-use Rattle.region.specs.Rep.{managed}
-use Rattle.audit.proofs.Used.{used_eight}
-use Rattle.boot.proofs.OneByOne.{Laid, Turn, laid_done, laid_none, laid_on, laid_turn}
+use Rattle.boot.proofs.OneByOne.{Laid}
 use Rattle.boot.proofs.lay_out.Given as goal
 
 pub record Inv (board : Board) (records₀ : List ℕ) (used : ℕ) (rows : List Row) (records : List ℕ) (next : List Row) (base i : ℕ) : Type 0 where

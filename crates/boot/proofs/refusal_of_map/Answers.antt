@@ -2,7 +2,6 @@
 use lib.ListN.{take}
 use mathlib.Core.Path.{sym, ◌∙◌}
 use native.Mathlib.Omega.{arith}
-use borrow.Author.Rules.{rules}
 use Rattle.boot.proofs.Refusing.{given_far, given_long, given_rows}
 use Rattle.boot.proofs.KeptRows.{kept_ready}
 use Rattle.boot.proofs.refusal_of_map.Goals as goal

@@ -1,7 +1,6 @@
 -- `refusal_of_rows` meets its contract: its tests are the sheet's, one by one.
 use mathlib.Core.Path.{sym, ◌∙◌}
 use native.Mathlib.Omega.{arith}
-use borrow.Author.Rules.{rules}
 use Rattle.boot.proofs.Sheet.{by_loans, overlapping, ready_rows, too_many}
 use Rattle.boot.proofs.refusal_of_rows.Goals as goal
 

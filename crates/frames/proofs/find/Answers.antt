@@ -1,6 +1,5 @@
 -- Lookup, by what `see` saw: 11, or the page and the bytes of its frame. The world stays.
 use native.Mathlib.Omega.{arith}
-use borrow.Author.Rules.{rules}
 use borrow.Author.Tests.{not-true, not-false}
 use Rattle.definition.specs.World.{record_at}
 use Rattle.definition.proofs.Boards.{page_least}
@@ -12,18 +11,10 @@ use Rattle.exam.proofs.Making.{whole_table}
 use Rattle.exam.proofs.Tests.{sees_leveled}
 use Rattle.frames.proofs.Promised.{find_made, find_refused}
 use Rattle.frames.proofs.find.Goals as goal
-use Rattle.frames.proofs.find.Goals.{After-board_in-board, After-see-seen, Start}
-
--- the places that the proof starts from
-abbrev start : After-see-seen → Start
-start d = (goal.at.After-see-seen d).Start
-
-abbrev seen : After-board_in-board → After-see-seen
-seen b = (goal.at.After-board_in-board b).After-see-seen
 
 pub returns-then-not-seen : goal.returns-then-not-seen
 returns-then-not-seen c k m q s H =
-    let a = (start (goal.at.returns-then-not-seen c).After-see-seen).args in
+    let a = c.args in
     rw c.refused.ensures
     (find_refused (fit_in a.words.now) H a.pa.0 (c.see-seen.ensures s.allocator (whole_table H)) (not-true c.see-seen.result.managed c.if-not-seen.true))
 
@@ -31,21 +22,18 @@ pub nonzero_div-number : goal.nonzero_div-number
 nonzero_div-number c = omega (arith, page_least c.board_in-board.ensures.1)
 
 pub overflow_mul-page : goal.overflow_mul-page
-overflow_mul-page c =
-    omega (arith, address_is c.board_in-board.result.page c.raw.result, c.raw.ensures, (start (seen (goal.at.overflow_mul-page c).After-board_in-board)).well_formed)
+overflow_mul-page c = omega (arith, address_is c.board_in-board.result.page c.raw.result, c.raw.ensures, c.well_formed)
 
 pub frame_bytes-requires : goal.frame_bytes-requires
 frame_bytes-requires c =
-    let d = seen (goal.at.frame_bytes-requires c).After-board_in-board in
-    let s = start d in
-    let here = standing (board_in s.args.words.now) (record_at s.args.records.now) (rows_in s.args.words.now) in record {
+    let here = standing (board_in c.args.words.now) (record_at c.args.records.now) (rows_in c.args.words.now) in
+    record {
       fit = c.board_in-board.ensures.1;
-      level_known = sees_leveled s.pre.1 (d.see.ensures here (sane_table s.pre.1)) (not-false d.see.result.managed c.if-not-seen.false);
+      level_known = sees_leveled c.requires.1 (c.see-seen.ensures here (sane_table c.requires.1)) (not-false c.see-seen.result.managed c.if-not-seen.false);
     }
 
 pub returns : goal.returns
 returns c k m q s H =
-    let d = seen (goal.at.returns c).After-board_in-board in
-    let a = (start d).args in
+    let a = c.args in
     rw (c.done.ensures, c.frame_bytes.ensures, c.raw.ensures, c.board_in-board.ensures.0)
-    (find_made (fit_in a.words.now) H a.pa.0 (d.see.ensures s.allocator (whole_table H)) (not-false d.see.result.managed c.if-not-seen.false))
+    (find_made (fit_in a.words.now) H a.pa.0 (c.see-seen.ensures s.allocator (whole_table H)) (not-false c.see-seen.result.managed c.if-not-seen.false))

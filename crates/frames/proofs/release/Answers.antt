@@ -1,7 +1,6 @@
 -- The free of a frame and its count, each by its callee; the idle pages stay a usize, as a frame has at most 262,144.
 use mathlib.Core.Path.{refl, ap, ◌∙◌}
 use native.Mathlib.Omega.{arith}
-use borrow.Author.Rules.{rules}
 use Rattle.definition.specs.Frame.{size}
 use Rattle.level.proofs.Sizes.{size_most}
 use Rattle.frames.proofs.release.Goals as goal
@@ -12,12 +11,13 @@ count_free-requires c =
 
 pub returns : goal.returns
 returns c =
-    let F = c.free.ensures in record {
+    let F = c.free.ensures in
+    record {
       released = record {
-        turned = F.0;
+        turned = F.turns_in;
         counters = c.count_free.ensures ∙ rw (c.pages_at-pages.ensures, c.level_of.ensures, c.is_kernel-kernel.ensures) refl;
-        queued = F.1.queued;
-        pass = F.1.pass;
+        queued = F.rows_beside.queued;
+        pass = F.rows_beside.pass;
       };
-      beside = F.1.beside;
+      beside = F.rows_beside.beside;
     }
