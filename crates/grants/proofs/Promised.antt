@@ -17,7 +17,6 @@ use Rattle.definition.specs.World.{World, record_at}
 use Rattle.record.specs.Records.{pages_in}
 use Rattle.world.specs.Refusals.{refusal_of}
 use Rattle.world.proofs.Spans.{overlap_spans, spans_bare}
-use Rattle.world.proofs.Writing.{Rewritten}
 use Rattle.allocator.specs.Spots.{number_at}
 use Rattle.exam.specs.Making.{Made, Whole}
 use Rattle.exam.specs.Promise.{State, world_of}

@@ -1,6 +1,7 @@
 // Grants: try_alloc_frame and try_alloc_split_frames. Each is lent what it reads and writes and promises definition's `step`
 // (exam/specs/Making.antt).
 #![tactic(auto)]
+
 ghost use Rattle.std.specs.Prelude.{false, ◌≡◌, ◌+◌, ◌*◌, ◌<◌, ◌≤◌, length};
 ghost use Rattle.definition.specs.Basics.{everywhere};
 ghost use Rattle.definition.specs.Board.{Fit};

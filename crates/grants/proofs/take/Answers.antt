@@ -1,23 +1,8 @@
 -- `take` makes what it is called for: the refusal that `wanted` found, or what `grant_split` gives.
-use borrow.Author.Rules.{rules}
 use Rattle.words.proofs.Words.{beside_same}
 use Rattle.exam.proofs.Making.{bytes_small}
 use Rattle.grants.proofs.Promised.{take_made, take_refused}
 use Rattle.grants.proofs.take.Goals as goal
-use Rattle.grants.proofs.take.Goals.{After-board_in-board, After-grant_split-granted, After-next-1, After-wanted-asked, Else-number-ne0, Start}
-
--- the places that the proof starts from
-abbrev start : After-wanted-asked → Start
-start x = (goal.at.After-wanted-asked x).Start
-
-abbrev tested : After-board_in-board → Else-number-ne0
-tested b = (goal.at.After-board_in-board b).After-wanted-asked
-
-abbrev board : After-grant_split-granted → After-board_in-board
-board g = (goal.at.After-grant_split-granted g).After-board_in-board
-
-abbrev granted : After-next-1 → After-grant_split-granted
-granted n = (goal.at.After-next-1 n).After-grant_split-granted
 
 pub returns-then-number-ne0 : goal.returns-then-number-ne0
 returns-then-number-ne0 c =
@@ -26,33 +11,14 @@ returns-then-number-ne0 c =
       beside = beside_same;
     }
 
-pub grant_split-granted-requires : goal.grant_split-granted-requires
-grant_split-granted-requires c =
-    let e = tested (goal.at.grant_split-granted-requires c).After-board_in-board in
-    let p = (start e.before).requires in record {
-      table_in = p.0;
-      room_in = p.1.0;
-      few = (p.1.1, e.before.wanted.ensures.small e.if1.left);
-    }
-
-pub handed-requires : goal.handed-requires
-handed-requires c =
-    let b = board (granted c) in
-    let e = tested b in record {
-      fit = b.board-in.ensures.1;
-      level_bound = e.before.wanted.ensures.small e.if1.left;
-    }
-
 pub returns : goal.returns
 returns c =
-    let g = granted (goal.at.returns c).After-next-1 in
-    let y = g.grant-split in
-    let bs = y.last.1.1.0 in
-    let b = board g in
-    let e = tested b in record {
+    let y = c.grant_split-granted in
+    let bs = y.new.records in
+    record {
       grants = λ q s H.
-          rw (c.handed.ensures, b.board-in.ensures.0)
-          (take_made H bs y.last.1.1.1.0 y.kept.1.1.0 (bytes_small bs c.slice_known-5-1.given) y.ensures.finds
-          e.before.wanted.ensures e.if1.left y.ensures.gives_by);
+          rw (c.handed.ensures, c.board_in-board.ensures.0)
+          (take_made H bs y.new.memory y.auto.records (bytes_small bs c.type_inv.records) y.ensures.finds
+          c.wanted-asked.ensures c.if-number-ne0.false y.ensures.gives_by);
       beside = y.ensures.beside;
     }

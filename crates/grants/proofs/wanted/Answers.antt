@@ -2,41 +2,20 @@
 use Prim.Native.Nat.{ℕ}
 use mathlib.Core.Bool.{not, cond}
 use mathlib.Core.Path.{◌≡◌, refl, sym, ◌∙◌}
-use native.Mathlib.Omega.{arith}
-use borrow.Author.Rules.{rules}
-use Rattle.level.proofs.Ranks.{rank_below}
 use Rattle.grants.specs.Granting.{WantsIn}
 use Rattle.grants.proofs.Asking.{wants_found, wants_refused}
 use Rattle.grants.proofs.wanted.Goals as goal
-use Rattle.grants.proofs.wanted.Goals.{After-find_level, After-index-index, After-is_listed, Start}
-
--- the places that the proof starts from
-abbrev start : After-find_level → Start
-start f = (goal.at.After-find_level f).Start
-
-abbrev found : After-index-index → After-find_level
-found i = (goal.at.After-index-index i).After-find_level
-
-pub is_listed-requires : goal.is_listed-requires
-is_listed-requires c =
-    record {
-      long = (start (found c)).requires;
-      level_bound = omega (arith, c.index-index.ensures, rank_below c.level-1.given.0.0);
-    }
+use Rattle.grants.proofs.wanted.Goals.{After-is_listed}
 
 -- a level was found, and the number is by what is listed there
 listed
-    : (l : After-is_listed) (n : ℕ)
-    → let a = (start (found (goal.at.After-is_listed l).After-index-index)).args in
-    n ≡ cond (not l.is_listed.result) (cond a.flags.wait_ok 10 9) 0
-    → WantsIn a.words.now a.records.now (record { size = a.size; align = a.align; flags = a.flags })
-    (record { number = n; level = l.index-index.result })
-listed l n e =
-    
-    let f = found (goal.at.After-is_listed l).After-index-index in
-    let v = l.level-1.given in
-    wants_found v.0.0 (rw (← f.before.board-in.ensures.0) (sym (f.find-level.ensures (start f).args.flags) ∙ v.1)) l.index-index.ensures
-    l.is_listed.ensures e
+    : (c : After-is_listed) (n : ℕ)
+    → n ≡ cond (not c.is_listed.result) (cond c.args.flags.wait_ok 10 9) 0
+    → WantsIn c.args.words.now c.args.records.now (record { size = c.args.size; align = c.args.align; flags = c.args.flags })
+    (record { number = n; level = c.index-index.result })
+listed c n e =
+    wants_found c.in-At.level (rw (← c.board_in-board.ensures.0) (sym (c.find_level.ensures c.args.flags) ∙ c.in-At.is)) c.index-index.ensures
+    c.is_listed.ensures e
 
 pub returns-then-is_listed : goal.returns-then-is_listed
 returns-then-is_listed c = listed (goal.at.returns-then-is_listed c).After-is_listed 0 (rw c.if-is_listed.true refl)
@@ -49,5 +28,4 @@ returns-else-flags c = listed (goal.at.returns-else-flags c).After-is_listed 9 (
 
 pub returns-in-Refused : goal.returns-in-Refused
 returns-in-Refused c =
-    let v = c.refusal-1.given in
-    wants_refused v.0.0 (rw (← c.board_in-board.ensures.0) (sym (c.find_level.ensures (start (goal.at.returns-in-Refused c).After-find_level).args.flags) ∙ v.1)) c.number_of.ensures
+    wants_refused c.in-Refused.refusal (rw (← c.board_in-board.ensures.0) (sym (c.find_level.ensures c.args.flags) ∙ c.in-Refused.is)) c.number_of.ensures
