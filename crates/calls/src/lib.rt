@@ -1,6 +1,7 @@
 // Every call that answers by numbers, by its op and at most five numbers: one dispatch for all that read a call from elsewhere, a line of a
 // script or words that a kernel lends. It asks for what the torn test gives and promises what the call promises.
 #![tactic(auto)]
+
 ghost use Rattle.std.specs.Prelude.{◌≡◌, ◌%◌, get_or};
 ghost use Rattle.definition.specs.Script.{flags_of, kind_of};
 ghost use Rattle.words.specs.Words.{board_in, Beside};

@@ -1,0 +1,7 @@
+-- The byte is the fourth number's lowest.
+use borrow.Author.Rules.{rules}
+use Rattle.calls.proofs.fill.Goals as goal
+
+pub returns : goal.returns
+returns c =
+    rw c.byte_of-byte.ensures at c.fill.ensures
