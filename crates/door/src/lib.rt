@@ -2,6 +2,7 @@
 // of the loans, on any words, records, memory and queue whatever. `ask` makes any call that answers by numbers; the calls that a kernel
 // makes most, and those that take or give bytes, go straight.
 #![tactic(auto)]
+
 ghost use Rattle.std.specs.Prelude.{◌≡◌, get_or};
 ghost use Rattle.definition.specs.Calls.{Alloc, Free, Find, Write, Read};
 ghost use Rattle.words.specs.Words.{board_in, Long, Beside};

@@ -12,39 +12,31 @@ use Rattle.exam.specs.Making.{Ready, world}
 use Rattle.exam.proofs.Making.{bytes_small, leaves_made, sound_ready}
 use Rattle.exam.proofs.Promises.{leaves_torn}
 use Rattle.door.proofs.ask.Goals as goal
-use Rattle.door.proofs.ask.Goals.{After-is_sound, After-slice_known-4-1, Else-not-is_sound, Start, Then-not-is_sound}
-
--- the loans as they were given, and what the test said of them
-abbrev lent : After-is_sound → After-slice_known-4-1
-lent d = (goal.at.After-is_sound d).Start
-
-abbrev start : After-is_sound → Start
-start d = (lent d).before.before.before.before
+use Rattle.door.proofs.ask.Goals.{Else-not-is_sound, Then-not-is_sound}
 
 whole
     : (c : Else-not-is_sound)
-    → let a = (start (goal.at.Else-not-is_sound c).After-is_sound).args in
+    → let a = c.args in
     sound (board_in a.words.now) (world a.counters a.words.now a.records.now a.memory.now a.queue.now) ≡ true
 whole c = sym c.is_sound.ensures ∙ c.if-not-is_sound.false
 
 is_torn
     : (c : Then-not-is_sound)
-    → let a = (start (goal.at.Then-not-is_sound c).After-is_sound).args in
+    → let a = c.args in
     sound (board_in a.words.now) (world a.counters a.words.now a.records.now a.memory.now a.queue.now) ≡ false
 is_torn c = sym c.is_sound.ensures ∙ c.if-not-is_sound.true
 
 ready
     : (c : Else-not-is_sound)
-    → let a = (start (goal.at.Else-not-is_sound c).After-is_sound).args in
+    → let a = c.args in
     Ready a.counters a.words.now a.records.now a.memory.now a.queue.now
 ready c =
-    let s = start (goal.at.Else-not-is_sound c).After-is_sound in
-    let a = s.args in
-    sound_ready a.counters a.words.now a.records.now a.memory.now a.queue.now s.pre (whole c)
+    let a = c.args in
+    sound_ready a.counters a.words.now a.records.now a.memory.now a.queue.now c.requires (whole c)
 
 pub returns-then-not-is_sound : goal.returns-then-not-is_sound
 returns-then-not-is_sound c =
-    let a = (start (goal.at.returns-then-not-is_sound c).After-is_sound).args in record {
+    let a = c.args in record {
       leaves = rw c.torn.ensures (leaves_torn _ (call_of a.op (λ i. get_or a.n i 0)) (is_torn (goal.at.returns-then-not-is_sound c).Then-not-is_sound));
       beside = beside_same;
     }
@@ -54,8 +46,7 @@ make-requires c = ready (goal.at.make-requires c).Else-not-is_sound
 
 pub returns : goal.returns
 returns c =
-    let after_is_sound = (goal.at.returns c).After-is_sound in
-    let a = (start after_is_sound).args in record {
-      leaves = leaves_made (whole (goal.at.returns c).Else-not-is_sound) (bytes_small a.records.now (lent after_is_sound).before.before.slice-known2.given) c.make.ensures.makes;
+    let a = c.args in record {
+      leaves = leaves_made (whole (goal.at.returns c).Else-not-is_sound) (bytes_small a.records.now c.slice_known-2-1.given) c.make.ensures.makes;
       beside = c.make.ensures.beside;
     }

@@ -10,36 +10,31 @@ use Rattle.exam.specs.Making.{Ready, world}
 use Rattle.exam.proofs.Making.{bytes_small, leaves_made, sound_ready}
 use Rattle.exam.proofs.Promises.{leaves_torn}
 use Rattle.door.proofs.find.Goals as goal
-use Rattle.door.proofs.find.Goals.{After-is_sound, Else-not-is_sound, Start, Then-not-is_sound}
-
--- the loans as they were given, and what the test said of them
-abbrev start : After-is_sound → Start
-start d = (goal.at.After-is_sound d).Start
+use Rattle.door.proofs.find.Goals.{Else-not-is_sound, Then-not-is_sound}
 
 whole
     : (c : Else-not-is_sound)
-    → let a = (start (goal.at.Else-not-is_sound c).After-is_sound).args in
+    → let a = c.args in
     sound (board_in a.words.now) (world a.counters a.words.now a.records.now a.memory.now a.queue.now) ≡ true
 whole c = sym c.is_sound.ensures ∙ c.if-not-is_sound.false
 
 is_torn
     : (c : Then-not-is_sound)
-    → let a = (start (goal.at.Then-not-is_sound c).After-is_sound).args in
+    → let a = c.args in
     sound (board_in a.words.now) (world a.counters a.words.now a.records.now a.memory.now a.queue.now) ≡ false
 is_torn c = sym c.is_sound.ensures ∙ c.if-not-is_sound.true
 
 ready
     : (c : Else-not-is_sound)
-    → let a = (start (goal.at.Else-not-is_sound c).After-is_sound).args in
+    → let a = c.args in
     Ready a.counters a.words.now a.records.now a.memory.now a.queue.now
 ready c =
-    let s = start (goal.at.Else-not-is_sound c).After-is_sound in
-    let a = s.args in
-    sound_ready a.counters a.words.now a.records.now a.memory.now a.queue.now s.pre (whole c)
+    let a = c.args in
+    sound_ready a.counters a.words.now a.records.now a.memory.now a.queue.now c.requires (whole c)
 
 pub returns-then-not-is_sound : goal.returns-then-not-is_sound
 returns-then-not-is_sound c =
-    let a = (start (goal.at.returns-then-not-is_sound c).After-is_sound).args in
+    let a = c.args in
     rw c.refused.ensures (leaves_torn _ (Find a.pa.0) (is_torn (goal.at.returns-then-not-is_sound c).Then-not-is_sound))
 
 pub find-requires : goal.find-requires
@@ -47,6 +42,6 @@ find-requires c = (ready c).table
 
 pub returns : goal.returns
 returns c =
-    let a = (start (goal.at.returns c).After-is_sound).args in
+    let a = c.args in
     leaves_made (whole (goal.at.returns c).Else-not-is_sound) (bytes_small a.records.now c.shared_slice_known-2-1.given)
     (c.find.ensures a.counters a.memory.now a.queue.now)
