@@ -28,23 +28,24 @@ pub struct Theorem {
 pub fn whole(name: &str, run: &Recorded) -> Theorem {
     let parts =
         PARTS.iter().zip(expected(run)).map(|(part, text)| format!("    {part} = {text};\n"));
-    theorem(name, run, "", &format!("record {{\n{}  }}", parts.collect::<String>()))
+    theorem(name, run, None, &format!("record {{\n{}  }}", parts.collect::<String>()))
 }
 
 /// A theorem for each part.
 pub fn parts(name: &str, run: &Recorded) -> Vec<Theorem> {
     let each = PARTS.iter().zip(expected(run));
-    each.map(|(part, text)| theorem(&format!("{name}-{part}"), run, &format!(".{part} "), &text))
-        .collect()
+    each.map(|(part, text)| theorem(&format!("{name}-{part}"), run, Some(part), &text)).collect()
 }
 
-fn theorem(name: &str, run: &Recorded, part: &str, expected: &str) -> Theorem {
-    let walk = if by_frame(&run.dump) { "everyFrame" } else { "everyPage" };
+fn theorem(name: &str, run: &Recorded, part: Option<&str>, expected: &str) -> Theorem {
+    let walk = if by_frame(&run.dump) { "every_frame" } else { "every_page" };
     let entries = short::list(run.map.iter().map(entry));
     let calls = short::list(run.calls.iter().map(call));
     let places = short::numbers(run.bytes.iter().map(|(place, _)| *place));
+    let all = format!("seen {walk}\n  {entries}\n  {calls}\n  {places}");
+    let looked_at = part.map_or(all.clone(), |part| format!("({all}).{part}"));
     let text = format!(
-        "pub {name} :\n  seen {walk}\n  {entries}\n  {calls}\n  {places}\n  {part}≡ {expected}\n\
+        "pub {name} :\n  {looked_at}\n  ≡ {expected}\n\
          unfolding everything looking\n{name} = refl\n"
     );
     Theorem { name: name.into(), text, cost: cost(run) }
@@ -145,7 +146,7 @@ fn answer(answer: &Answer) -> String {
         Answer::Refused(9) => "Refused NoFrame".into(),
         Answer::Refused(11) => "Refused Outside".into(),
         Answer::Refused(number) => unreachable!("no refusal {number} is on common ground"),
-        Answer::Text(text) => format!("Text (bytesOf {text:?})"),
+        Answer::Text(text) => format!("Text (bytes_of {text:?})"),
         Answer::Bytes(bytes) => format!("Bytes {}", byte_list(bytes)),
         Answer::Off(reason) => unreachable!("no recorded call is off common ground: {reason}"),
     }

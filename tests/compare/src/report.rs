@@ -47,13 +47,15 @@ pub fn difference(failure: &Failure) -> String {
 }
 
 /// What the two sides of a theorem have where they differ, in the checker's
-/// words: "one has `A` (expected) and the other has `B` (found)".
-fn first_difference(message: &str) -> Option<(&str, &str)> {
-    let line = message.lines().find(|line| line.contains("computed as far as they go"))?;
-    let (_, rest) = line.split_once("one has `")?;
+/// words: "one has `A` (expected) and the other has `B` (found)", which it may
+/// lay out on several lines.
+fn first_difference(message: &str) -> Option<(String, String)> {
+    let message = message.split_whitespace().collect::<Vec<_>>().join(" ");
+    let (_, computed) = message.split_once("computed as far as they go")?;
+    let (_, rest) = computed.split_once("one has `")?;
     let (expected, rest) = rest.split_once("` (expected) and the other has `")?;
     let (found, _) = rest.split_once("` (found)")?;
-    Some((expected, found))
+    Some((expected.into(), found.into()))
 }
 
 /// The names of lists, or of the first of them.
@@ -91,8 +93,8 @@ mod tests {
     #[test]
     fn the_sides_of_a_difference() {
         let message = "as printed, ..\n  computed as far as they go, the two types differ only \
-                       where one has `15` (expected) and the other has `14` (found)";
-        assert_eq!(first_difference(message), Some(("15", "14")));
+                       where one has `15` (expected) and the other has `14`\n  (found)\n  expected type";
+        assert_eq!(first_difference(message), Some(("15".into(), "14".into())));
         assert_eq!(first_difference("what the two types compute to is not shown"), None);
     }
 }

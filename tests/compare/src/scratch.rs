@@ -15,6 +15,9 @@ const HEADER: &str = include_str!("../templates/header.txt");
 
 const NO_CODE: &str = "// Holds no code: its theorems are about the definitions.\n";
 
+/// What the checker says where it stopped before it could tell.
+const LIMITS: [&str; 2] = ["the step limit", "not a judgement about the input"];
+
 /// Theorems of one module; a module is what the checker reads at once.
 const IN_A_MODULE: usize = 10;
 
@@ -31,9 +34,10 @@ pub struct Failure {
 }
 
 impl Failure {
-    /// False where the checker could not tell whether the theorem holds.
+    /// False where the checker could not tell whether the theorem holds: it met
+    /// its step limit, or a limit of its own.
     pub fn is_difference(&self) -> bool {
-        !self.message.contains("stopped at the step limit")
+        !LIMITS.iter().any(|limit| self.message.contains(limit))
     }
 }
 
@@ -66,7 +70,7 @@ impl Scratch {
         let failures = failures(&said);
         let all_ours = failures.iter().all(|failure| names.contains(&failure.name));
         if failures.is_empty() || !all_ours {
-            return Err(format!("rt check: {said}{}", String::from_utf8_lossy(&output.stderr)));
+            return Err(format!("rt: {said}{}", String::from_utf8_lossy(&output.stderr)));
         }
         Ok(failures)
     }
@@ -95,11 +99,8 @@ impl Scratch {
         }
         fs::write(self.root.join("crates.txt"), list)?;
         Command::new("rt")
-            .arg("check")
+            .args(["all", "check", "--jobs", &self.jobs.to_string()])
             .current_dir(&self.root)
-            .env("RT_JOBS", self.jobs.to_string())
-            // Lines are not to be cut: a theorem's name stands after a path.
-            .env("RT_CUT", "0")
             .output()
             .map_err(|error| io::Error::new(error.kind(), format!("rt: {error}")))
     }
@@ -158,7 +159,7 @@ fn failures(said: &str) -> Vec<Failure> {
     for line in said.lines() {
         if let Some((_, rest)) = line.split_once(": error: ") {
             let quoted = rest.strip_prefix('`').and_then(|rest| rest.split_once("`: "));
-            let (name, message) = quoted.unwrap_or(("rt check", line));
+            let (name, message) = quoted.unwrap_or(("rt", line));
             failures.push(Failure { name: name.into(), message: message.into() });
             inside = true;
         } else if inside && line.starts_with("  ") {
@@ -177,9 +178,11 @@ mod tests {
 
     #[test]
     fn refused_theorems_are_found() {
-        let said = "rt: address proved (2 s)\n\
-                    crates/a/proofs/Lists0.antt:52:6: error: `list-2`: the types differ\n  here\n\
-                    crates/a/proofs/Lists0.antt:60:6: error: `list-4`: stopped at the step limit\n\
+        let said = "== compared0\n\
+                    ./proofs/Lists0.antt:52:6: error: `list-2`: the types differ\n  here\n\
+                    ./proofs/Lists0.antt:60:6: error: `list-4`: stopped at the step limit\n\
+                    ./proofs/Lists0.antt:62:6: error: `list-5`: deep recursion\n  \
+                    (not a judgement about the input)\n\
                     logic=not-proved\n  not this\n";
         let failures = failures(said);
         let seen =
@@ -187,6 +190,7 @@ mod tests {
         let wanted = [
             ("list-2", "the types differ\n  here", true),
             ("list-4", "stopped at the step limit", false),
+            ("list-5", "deep recursion\n  (not a judgement about the input)", false),
         ];
         assert!(seen.eq(wanted));
     }
