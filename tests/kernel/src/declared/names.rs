@@ -9,7 +9,7 @@ use crate::calls::OPS;
 pub fn sizes(words: &str, text: &str) -> Result<(), String> {
     let sizes = [
         ("version", jilakkor::VERSION, "JILAKKOR_VERSION"),
-        ("stateWords", jilakkor::WORDS as u64, "JILAKKOR_WORDS"),
+        ("state_words", jilakkor::WORDS as u64, "JILAKKOR_WORDS"),
     ];
     for (name, in_rust, in_c) in sizes {
         let start = format!("{name} = ");

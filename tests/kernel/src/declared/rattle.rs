@@ -2,9 +2,15 @@
 
 use super::{Fields, Function, Functions};
 
-/// The exported functions of a Rattle file.
+/// The exported functions of a Rattle file, each with the attribute that has its
+/// name stand in the archive.
 pub fn exported(text: &str) -> Result<Functions, String> {
-    functions(text, "pub extern \"C\" fn ")
+    let start = "pub extern \"C\" fn ";
+    let named = format!("#[unsafe(no_mangle)]\n{start}");
+    if text.matches(start).count() != text.matches(&named).count() {
+        return Err("a function for C lacks #[unsafe(no_mangle)]".into());
+    }
+    functions(text, &named)
 }
 
 /// The functions that a Rust file declares in its `extern "C"` block.
