@@ -1,4 +1,4 @@
-//! Links the archives that `rt staticlib` writes of leaves, drivers and script; the crate
+//! Links the archives that `tools/archive` writes of leaves, drivers and script_c; the crate
 //! jilakkor links that of store.
 
 use std::env;

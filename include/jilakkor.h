@@ -1,7 +1,7 @@
 /*
  * Jilakkor, a physical-frame store: it gives out, splits, takes back and reclaims
  * frames of 4 KiB, 2 MiB and 1 GiB. These are the functions of libstore.a, which
- * `rt staticlib store` proves and writes for x86-64.
+ * `tools/archive store` proves and writes for x86-64.
  *
  * All state is lent by the caller, a slice as its address and its length in
  * elements. The slices of one call share no byte, and nobody else writes them

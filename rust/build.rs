@@ -1,4 +1,4 @@
-//! Links the archive that `rt staticlib store` writes: libstore.a in the directory
+//! Links the archive that `tools/archive store` writes: libstore.a in the directory
 //! that JILAKKOR_LIB names, as a whole path, or else in target/staticlib of the
 //! repository.
 

@@ -1,6 +1,7 @@
 //! The exported drivers of the crates leaves and drivers, the audit of the crate
-//! store, and the run of the crate script. A slice is passed as its address and its length; they test all
-//! that they are given, so any call is sound whose slices are.
+//! store, and the script's run of the crate script_c. A slice is passed as its
+//! address and its length; they test all that they are given, so any call is sound
+//! whose slices are.
 
 extern "C" {
     pub fn leaves_store(records: *mut u8, length: usize, count: usize) -> usize;

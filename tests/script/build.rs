@@ -1,4 +1,4 @@
-//! Where the archive stands that `rt staticlib script` writes. The program names it
+//! Where the archive stands that `tools/archive script_c` writes. The program names it
 //! (linked.rs), not the library.
 
 use std::env;

@@ -1,4 +1,4 @@
-//! Links the archive that `rt staticlib store` writes.
+//! Links the archive that `tools/archive store` writes.
 
 use std::env;
 

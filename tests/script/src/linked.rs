@@ -1,4 +1,4 @@
-//! The run of the store's own script program, exported by the crate script. Safe
+//! The run of the store's own script program, exported by the crate script_c. Safe
 //! for any arguments: it reads and writes nothing outside the slices.
 
 use script::case::{lent_mut, Case, Outcome};
