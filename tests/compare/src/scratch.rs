@@ -47,10 +47,13 @@ impl Scratch {
         let scratch = Scratch { root, jobs };
         // The definitions' own proofs are not compared, and would fail where a
         // definition is changed on purpose; the code beside them has its own.
-        copy(&repository.join("crates/address"), &scratch.crate_directory("address"))?;
-        for part in ["src", "specs", "proofs/rank_of"] {
-            let from = repository.join("crates/definition").join(part);
-            copy(&from, &scratch.crate_directory("definition").join(part))?;
+        let copied: [(&str, &[&str]); 2] =
+            [("address", &["src", "proofs"]), ("definition", &["src", "specs", "proofs/rank_of"])];
+        for (name, parts) in copied {
+            for part in parts {
+                let from = repository.join("crates").join(name).join(part);
+                copy(&from, &scratch.crate_directory(name).join(part))?;
+            }
         }
         scratch.write("observe", "src/lib.rt", NO_CODE)?;
         scratch.write("observe", "specs/Lib.antt", "pub mod Observe\n")?;
