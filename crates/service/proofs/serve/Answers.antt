@@ -1,0 +1,44 @@
+-- As `serve_with`: the counters are read out of the words and written over them.
+use mathlib.Core.Bool.{true, false}
+use mathlib.Core.Path.{◌≡◌, refl, sym, ◌∙◌}
+use native.Mathlib.Omega.{arith}
+use borrow.Author.Rules.{rules}
+use borrow.Author.Tests.{not-true, not-false}
+use Rattle.service.specs.Serving.{Lent, is_lent}
+use Rattle.service.proofs.Serving.{in_words, lent_words, serves_torn}
+use Rattle.service.proofs.serve.Goals as goal
+use Rattle.service.proofs.serve.Goals.{After-is_lent, Else-not-is_lent, Start, Then-not-is_lent}
+
+-- the loans as they were given, and that they are a state's
+abbrev start : After-is_lent → Start
+start d = (goal.at.After-is_lent d).Start
+
+abbrev loans : Start → Lent
+loans s =
+    record {
+      words = s.args.words.now;
+      records = s.args.records.now;
+      memory = s.args.memory.now;
+      queue = s.args.queue.now;
+      answer = s.args.answer.now;
+    }
+
+lent : (c : Else-not-is_lent) → is_lent (loans (start (goal.at.Else-not-is_lent c).After-is_lent)) ≡ true
+lent c = sym c.is_lent.ensures ∙ c.if-not-is_lent.false
+
+torn : (c : Then-not-is_lent) → is_lent (loans (start (goal.at.Then-not-is_lent c).After-is_lent)) ≡ false
+torn c = sym c.is_lent.ensures ∙ c.if-not-is_lent.true
+
+pub returns-then-not-is_lent : goal.returns-then-not-is_lent
+returns-then-not-is_lent c = serves_torn _ (loans (start (goal.at.returns-then-not-is_lent c).After-is_lent)) (torn c)
+
+pub counters_in-counters-requires : goal.counters_in-counters-requires
+counters_in-counters-requires c = lent_words (loans (start (goal.at.counters_in-counters-requires c).After-slice_known-5-1)) (lent (goal.at.counters_in-counters-requires c).After-is_lent)
+
+pub put_counters-requires : goal.put_counters-requires
+put_counters-requires c =
+    omega (arith, c.serve_with-c.auto.words, lent_words (loans (start (goal.at.put_counters-requires c).After-slice_known-5-1)) (lent (goal.at.put_counters-requires c).After-is_lent))
+
+pub returns : goal.returns
+returns c =
+    in_words _ (loans (start (goal.at.returns c).After-slice_known-5-1)) (lent (goal.at.returns c).After-is_lent) ∙ rw (← c.counters_in-counters.ensures, c.serve_with-c.ensures, c.put_counters.ensures) refl

@@ -1,0 +1,42 @@
+-- As `serve_stats_with`: the counters are read out of the words, and nothing of them changes.
+use mathlib.Core.Bool.{true, false}
+use mathlib.Core.Path.{◌≡◌, sym, ◌∙◌}
+use borrow.Author.Rules.{rules}
+use borrow.Author.Tests.{not-true, not-false}
+use Rattle.service.specs.Serving.{Lent, is_lent, world_in}
+use Rattle.service.proofs.Serving.{lent_words, reports_in_words, reports_torn, serves_torn}
+use Rattle.service.proofs.serve_stats.Goals as goal
+use Rattle.service.proofs.serve_stats.Goals.{After-is_lent, Else-not-is_lent, Start, Then-not-is_lent}
+
+-- the loans as they were given, and that they are a state's
+abbrev start : After-is_lent → Start
+start d = (goal.at.After-is_lent d).Start
+
+abbrev loans : Start → Lent
+loans s =
+    record {
+      words = s.args.words.now;
+      records = s.args.records.now;
+      memory = s.args.memory.now;
+      queue = s.args.queue.now;
+      answer = s.args.answer.now;
+    }
+
+lent : (c : Else-not-is_lent) → is_lent (loans (start (goal.at.Else-not-is_lent c).After-is_lent)) ≡ true
+lent c = sym c.is_lent.ensures ∙ c.if-not-is_lent.false
+
+torn : (c : Then-not-is_lent) → is_lent (loans (start (goal.at.Then-not-is_lent c).After-is_lent)) ≡ false
+torn c = sym c.is_lent.ensures ∙ c.if-not-is_lent.true
+
+pub returns-then-not-is_lent : goal.returns-then-not-is_lent
+returns-then-not-is_lent c =
+    let s = start (goal.at.returns-then-not-is_lent c).After-is_lent in
+    reports_torn (is_lent (loans s)) (world_in (loans s)) s.args.text.now (torn c) (serves_torn _ (loans s) (torn c))
+
+pub counters_in-counters-requires : goal.counters_in-counters-requires
+counters_in-counters-requires c = lent_words (loans (start (goal.at.counters_in-counters-requires c).After-is_lent)) (lent c)
+
+pub returns : goal.returns
+returns c =
+    let s = start (goal.at.returns c).After-is_lent in
+    reports_in_words (loans s) s.args.text.now (lent (goal.at.returns c).Else-not-is_lent) (rw c.counters_in-counters.ensures at c.serve_stats_with.ensures)
