@@ -3,6 +3,7 @@
 // promise is `served` or `booted` of specs/Serving.antt. What ends in `_with` takes the counters apart from the words; beside it stands the
 // same with those of the words, which are read out and written back.
 #![tactic(auto)]
+
 ghost use Rattle.std.specs.Prelude.{[], ◌≡◌, ◌≤◌, length, get_or};
 ghost use Rattle.definition.specs.Calls.{Alloc, Free, Find, Write};
 ghost use Rattle.definition.specs.Script.{flags_of};

@@ -7,12 +7,9 @@ use borrow.Author.Tests.{not-true, not-false}
 use Rattle.service.specs.Serving.{Lent, is_lent}
 use Rattle.service.proofs.Serving.{in_words, lent_words, serves_torn}
 use Rattle.service.proofs.serve.Goals as goal
-use Rattle.service.proofs.serve.Goals.{After-is_lent, Else-not-is_lent, Start, Then-not-is_lent}
+use Rattle.service.proofs.serve.Goals.{Else-not-is_lent, Start, Then-not-is_lent}
 
 -- the loans as they were given, and that they are a state's
-abbrev start : After-is_lent → Start
-start d = (goal.at.After-is_lent d).Start
-
 abbrev loans : Start → Lent
 loans s =
     record {
@@ -23,22 +20,22 @@ loans s =
       answer = s.args.answer.now;
     }
 
-lent : (c : Else-not-is_lent) → is_lent (loans (start (goal.at.Else-not-is_lent c).After-is_lent)) ≡ true
+lent : (c : Else-not-is_lent) → is_lent (loans (goal.at.Else-not-is_lent c).Start) ≡ true
 lent c = sym c.is_lent.ensures ∙ c.if-not-is_lent.false
 
-torn : (c : Then-not-is_lent) → is_lent (loans (start (goal.at.Then-not-is_lent c).After-is_lent)) ≡ false
+torn : (c : Then-not-is_lent) → is_lent (loans (goal.at.Then-not-is_lent c).Start) ≡ false
 torn c = sym c.is_lent.ensures ∙ c.if-not-is_lent.true
 
 pub returns-then-not-is_lent : goal.returns-then-not-is_lent
-returns-then-not-is_lent c = serves_torn _ (loans (start (goal.at.returns-then-not-is_lent c).After-is_lent)) (torn c)
+returns-then-not-is_lent c = serves_torn _ (loans (goal.at.returns-then-not-is_lent c).Start) (torn c)
 
 pub counters_in-counters-requires : goal.counters_in-counters-requires
-counters_in-counters-requires c = lent_words (loans (start (goal.at.counters_in-counters-requires c).After-slice_known-5-1)) (lent (goal.at.counters_in-counters-requires c).After-is_lent)
+counters_in-counters-requires c = lent_words (loans (goal.at.counters_in-counters-requires c).Start) (lent (goal.at.counters_in-counters-requires c).Else-not-is_lent)
 
 pub put_counters-requires : goal.put_counters-requires
 put_counters-requires c =
-    omega (arith, c.serve_with-c.auto.words, lent_words (loans (start (goal.at.put_counters-requires c).After-slice_known-5-1)) (lent (goal.at.put_counters-requires c).After-is_lent))
+    omega (arith, c.serve_with-c.auto.words, lent_words (loans (goal.at.put_counters-requires c).Start) (lent (goal.at.put_counters-requires c).Else-not-is_lent))
 
 pub returns : goal.returns
 returns c =
-    in_words _ (loans (start (goal.at.returns c).After-slice_known-5-1)) (lent (goal.at.returns c).After-is_lent) ∙ rw (← c.counters_in-counters.ensures, c.serve_with-c.ensures, c.put_counters.ensures) refl
+    in_words _ (loans (goal.at.returns c).Start) (lent (goal.at.returns c).Else-not-is_lent) ∙ rw (← c.counters_in-counters.ensures, c.serve_with-c.ensures, c.put_counters.ensures) refl

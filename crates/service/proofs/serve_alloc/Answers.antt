@@ -8,12 +8,9 @@ use Rattle.words.specs.Words.{counters_in}
 use Rattle.service.specs.Serving.{Lent, is_lent}
 use Rattle.service.proofs.Serving.{lent_words, lent_room, made_in_words, serves_torn, serves_with}
 use Rattle.service.proofs.serve_alloc.Goals as goal
-use Rattle.service.proofs.serve_alloc.Goals.{After-is_lent, Else-not-is_lent, Start, Then-not-is_lent}
+use Rattle.service.proofs.serve_alloc.Goals.{Else-not-is_lent, Start, Then-not-is_lent}
 
 -- the loans as they were given, and that they are a state's
-abbrev start : After-is_lent → Start
-start d = (goal.at.After-is_lent d).Start
-
 abbrev loans : Start → Lent
 loans s =
     record {
@@ -24,36 +21,36 @@ loans s =
       answer = s.args.answer.now;
     }
 
-lent : (c : Else-not-is_lent) → is_lent (loans (start (goal.at.Else-not-is_lent c).After-is_lent)) ≡ true
+lent : (c : Else-not-is_lent) → is_lent (loans (goal.at.Else-not-is_lent c).Start) ≡ true
 lent c = sym c.is_lent.ensures ∙ c.if-not-is_lent.false
 
-torn : (c : Then-not-is_lent) → is_lent (loans (start (goal.at.Then-not-is_lent c).After-is_lent)) ≡ false
+torn : (c : Then-not-is_lent) → is_lent (loans (goal.at.Then-not-is_lent c).Start) ≡ false
 torn c = sym c.is_lent.ensures ∙ c.if-not-is_lent.true
 
 pub returns-then-not-is_lent : goal.returns-then-not-is_lent
-returns-then-not-is_lent c = serves_torn _ (loans (start (goal.at.returns-then-not-is_lent c).After-is_lent)) (torn c)
+returns-then-not-is_lent c = serves_torn _ (loans (goal.at.returns-then-not-is_lent c).Start) (torn c)
 
 pub counters_in-counters-requires : goal.counters_in-counters-requires
-counters_in-counters-requires c = lent_words (loans (start (goal.at.counters_in-counters-requires c).After-slice_known-4-1)) (lent (goal.at.counters_in-counters-requires c).After-is_lent)
+counters_in-counters-requires c = lent_words (loans (goal.at.counters_in-counters-requires c).Start) (lent (goal.at.counters_in-counters-requires c).Else-not-is_lent)
 
 pub alloc-o-requires : goal.alloc-o-requires
 alloc-o-requires c =
-    let l = loans (start (goal.at.alloc-o-requires c).After-slice_known-4-1) in
-    lent_words l (lent (goal.at.alloc-o-requires c).After-is_lent)
+    let l = loans (goal.at.alloc-o-requires c).Start in
+    lent_words l (lent (goal.at.alloc-o-requires c).Else-not-is_lent)
 
 pub put_counters-requires : goal.put_counters-requires
 put_counters-requires c =
-    omega (arith, c.alloc-o.auto.words, lent_words (loans (start (goal.at.put_counters-requires c).After-slice_known-4-1)) (lent (goal.at.put_counters-requires c).After-is_lent))
+    omega (arith, c.alloc-o.auto.words, lent_words (loans (goal.at.put_counters-requires c).Start) (lent (goal.at.put_counters-requires c).Else-not-is_lent))
 
 pub tell-requires : goal.tell-requires
 tell-requires c =
-    let l = loans (start (goal.at.tell-requires c).After-is_lent) in
+    let l = loans (goal.at.tell-requires c).Start in
     lent_room l (lent (goal.at.tell-requires c).Else-not-is_lent)
 
 pub returns : goal.returns
 returns c =
     let else_not_is_lent = (goal.at.returns c).Else-not-is_lent in
-    let l = loans (start (goal.at.returns c).After-is_lent) in
+    let l = loans (goal.at.returns c).Start in
     made_in_words _ l (lent else_not_is_lent)
     (serves_with l (counters_in l.words) (rw (c.counters_in-counters.ensures, c.flags_of.ensures) at c.alloc-o.ensures.leaves) c.tell.ensures.1 c.tell.ensures.0 (lent else_not_is_lent) c.alloc-o.auto.words c.alloc-o.ensures.beside)
     ∙ rw c.put_counters.ensures refl

@@ -22,15 +22,10 @@ loans s =
 pub returns-then-words-lt-STATE_WORDS : goal.returns-then-words-lt-STATE_WORDS
 returns-then-words-lt-STATE_WORDS c =
     λ ms e f.
-    
     boots_short ms (loans (goal.at.returns-then-words-lt-STATE_WORDS c).Start) (rw (lt-leb state_words (length c.args.words.now) c.if-words-lt-STATE_WORDS.true) refl) (c.short_boot.ensures ms e f)
 
 pub returns : goal.returns
 returns c =
     λ ms e f.
-    
-    
-    
-    
     boot_in_words ms (loans (goal.at.returns c).Start) c.if-words-lt-STATE_WORDS.false
     ∙ rw (← c.counters_in-counters.ensures, c.serve_boot_with-c.ensures ms e f, c.put_counters.ensures) refl

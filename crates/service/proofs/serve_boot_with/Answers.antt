@@ -7,12 +7,9 @@ use Rattle.definition.proofs.Boards.{standard_fit}
 use Rattle.service.specs.Serving.{Lent, is_roomy}
 use Rattle.service.proofs.Serving.{boots, boots_with_short, roomy_room, roomy_words}
 use Rattle.service.proofs.serve_boot_with.Goals as goal
-use Rattle.service.proofs.serve_boot_with.Goals.{After-is_roomy, Else-not-is_roomy, Start}
+use Rattle.service.proofs.serve_boot_with.Goals.{Else-not-is_roomy, Start}
 
--- the loans as they were given, and that they are long enough
-abbrev start : After-is_roomy → Start
-start d = (goal.at.After-is_roomy d).Start
-
+-- the loans as they were given, and that they are a state's
 abbrev loans : Start → Lent
 loans s =
     record {
@@ -23,14 +20,13 @@ loans s =
       answer = s.args.answer.now;
     }
 
-roomy : (c : Else-not-is_roomy) → is_roomy (loans (start (goal.at.Else-not-is_roomy c).After-is_roomy)) ≡ true
+roomy : (c : Else-not-is_roomy) → is_roomy (loans (goal.at.Else-not-is_roomy c).Start) ≡ true
 roomy c = sym c.is_roomy.ensures ∙ c.if-not-is_roomy.false
 
 pub returns-then-not-is_roomy : goal.returns-then-not-is_roomy
 returns-then-not-is_roomy c =
     λ ms e f.
-    
-    let s = start (goal.at.returns-then-not-is_roomy c).After-is_roomy in
+    let s = (goal.at.returns-then-not-is_roomy c).Start in
     boots_with_short ms (loans s) s.args.counters (sym c.is_roomy.ensures ∙ c.if-not-is_roomy.true)
     (c.short_boot-number.ensures ms e f)
 
@@ -38,18 +34,15 @@ pub boot-o-requires : goal.boot-o-requires
 boot-o-requires c =
     record {
       fit = rw c.standard-board.ensures standard_fit;
-      long = roomy_words (loans (start (goal.at.boot-o-requires c).After-is_roomy)) (roomy (goal.at.boot-o-requires c).Else-not-is_roomy);
+      long = roomy_words (loans (goal.at.boot-o-requires c).Start) (roomy (goal.at.boot-o-requires c).Else-not-is_roomy);
     }
 
 pub tell-number-requires : goal.tell-number-requires
-tell-number-requires c = roomy_room (loans (start (goal.at.tell-number-requires c).Else-not-is_roomy)) (roomy (goal.at.tell-number-requires c).After-standard-board)
+tell-number-requires c = roomy_room (loans (goal.at.tell-number-requires c).Start) (roomy (goal.at.tell-number-requires c).Else-not-is_roomy)
 
 pub returns : goal.returns
 returns c =
     λ ms e f.
-    
-    
-    
     let b = rw c.standard-board.ensures at (c.boot-o.ensures.boots_all ms e f) in
-    let s = start (goal.at.returns c).Else-not-is_roomy in
-    boots ms (loans s) s.args.counters (roomy (goal.at.returns c).After-standard-board) b c.boot-o.ensures.boots_over c.tell-number.ensures.1 c.tell-number.ensures.0
+    let s = (goal.at.returns c).Start in
+    boots ms (loans s) s.args.counters (roomy (goal.at.returns c).Else-not-is_roomy) b c.boot-o.ensures.boots_over c.tell-number.ensures.1 c.tell-number.ensures.0

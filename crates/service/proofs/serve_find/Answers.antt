@@ -8,12 +8,9 @@ use Rattle.words.proofs.Words.{beside_same}
 use Rattle.service.specs.Serving.{Lent, is_lent}
 use Rattle.service.proofs.Serving.{kept_in_words, lent_words, lent_room, serves_torn, serves_with}
 use Rattle.service.proofs.serve_find.Goals as goal
-use Rattle.service.proofs.serve_find.Goals.{After-is_lent, Else-not-is_lent, Start, Then-not-is_lent}
+use Rattle.service.proofs.serve_find.Goals.{Else-not-is_lent, Start, Then-not-is_lent}
 
 -- the loans as they were given, and that they are a state's
-abbrev start : After-is_lent → Start
-start d = (goal.at.After-is_lent d).Start
-
 abbrev loans : Start → Lent
 loans s =
     record {
@@ -24,31 +21,31 @@ loans s =
       answer = s.args.answer.now;
     }
 
-lent : (c : Else-not-is_lent) → is_lent (loans (start (goal.at.Else-not-is_lent c).After-is_lent)) ≡ true
+lent : (c : Else-not-is_lent) → is_lent (loans (goal.at.Else-not-is_lent c).Start) ≡ true
 lent c = sym c.is_lent.ensures ∙ c.if-not-is_lent.false
 
-torn : (c : Then-not-is_lent) → is_lent (loans (start (goal.at.Then-not-is_lent c).After-is_lent)) ≡ false
+torn : (c : Then-not-is_lent) → is_lent (loans (goal.at.Then-not-is_lent c).Start) ≡ false
 torn c = sym c.is_lent.ensures ∙ c.if-not-is_lent.true
 
 pub returns-then-not-is_lent : goal.returns-then-not-is_lent
-returns-then-not-is_lent c = serves_torn _ (loans (start (goal.at.returns-then-not-is_lent c).After-is_lent)) (torn c)
+returns-then-not-is_lent c = serves_torn _ (loans (goal.at.returns-then-not-is_lent c).Start) (torn c)
 
 pub counters_in-counters-requires : goal.counters_in-counters-requires
-counters_in-counters-requires c = lent_words (loans (start (goal.at.counters_in-counters-requires c).After-is_lent)) (lent c)
+counters_in-counters-requires c = lent_words (loans (goal.at.counters_in-counters-requires c).Start) (lent c)
 
 pub find-y-requires : goal.find-y-requires
 find-y-requires c =
-    let l = loans (start (goal.at.find-y-requires c).After-is_lent) in
+    let l = loans (goal.at.find-y-requires c).Start in
     lent_words l (lent (goal.at.find-y-requires c).Else-not-is_lent)
 
 pub tell-requires : goal.tell-requires
 tell-requires c =
-    let l = loans (start (goal.at.tell-requires c).After-is_lent) in
+    let l = loans (goal.at.tell-requires c).Start in
     lent_room l (lent (goal.at.tell-requires c).Else-not-is_lent)
 
 pub returns : goal.returns
 returns c =
     let else_not_is_lent = (goal.at.returns c).Else-not-is_lent in
-    let l = loans (start (goal.at.returns c).After-is_lent) in
+    let l = loans (goal.at.returns c).Start in
     kept_in_words _ l (lent else_not_is_lent)
     (serves_with l (counters_in l.words) (rw c.counters_in-counters.ensures at c.find-y.ensures) c.tell.ensures.1 c.tell.ensures.0 (lent else_not_is_lent) refl beside_same)

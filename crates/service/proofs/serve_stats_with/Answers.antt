@@ -5,7 +5,7 @@ use mathlib.Core.Path.{◌≡◌, sym, ◌∙◌}
 use native.Mathlib.Omega.{arith}
 use borrow.Author.Rules.{rules}
 use borrow.Author.Tests.{not-true, not-false}
-use lib.ListN.{length, take, length-map}
+use lib.ListN.{length, take}
 use lib.Seq.{length-take-le}
 use mir.Val.{Val}
 use denote.Laws.{Is}
@@ -14,12 +14,9 @@ use Rattle.counts.specs.contracts.Report as P
 use Rattle.service.specs.Serving.{Lent, is_lent, world_with}
 use Rattle.service.proofs.Serving.{lent_room, lent_words, report_short, reports, reports_short, reports_torn, serves_with_torn}
 use Rattle.service.proofs.serve_stats_with.Goals as goal
-use Rattle.service.proofs.serve_stats_with.Goals.{After-is_lent, After-stats-report, Else-not-is_lent, Start}
+use Rattle.service.proofs.serve_stats_with.Goals.{After-stats-report, Else-not-is_lent, Start}
 
 -- the loans as they were given, and that they are a state's
-abbrev start : After-is_lent → Start
-start d = (goal.at.After-is_lent d).Start
-
 abbrev loans : Start → Lent
 loans s =
     record {
@@ -30,12 +27,12 @@ loans s =
       answer = s.args.answer.now;
     }
 
-lent : (c : Else-not-is_lent) → is_lent (loans (start (goal.at.Else-not-is_lent c).After-is_lent)) ≡ true
+lent : (c : Else-not-is_lent) → is_lent (loans (goal.at.Else-not-is_lent c).Start) ≡ true
 lent c = sym c.is_lent.ensures ∙ c.if-not-is_lent.false
 
 -- the report's text is its third field, and what is owned of an array says its length
 report_long : (r : Report) (vs : List Val) → Is P.the_row r vs → length r.text ≡ 368
-report_long r vs p = sym (length-map r.text (λ v. v)) ∙ p.1.1.1.1.0.1.0.1
+report_long r vs p = p.1.1.1.1.0.1.0.1
 
 part : (c : After-stats-report) → let r = c.stats-report.result in length (take r.len r.text) ≡ r.len
 part c = let r = c.stats-report.result in length-take-le r.len r.text (report_short c.stats-report.ensures)
@@ -47,13 +44,13 @@ returns-then-text-lt368 c =
 
 pub returns-then-not-is_lent : goal.returns-then-not-is_lent
 returns-then-not-is_lent c =
-    let s = start (goal.at.returns-then-not-is_lent c).After-is_lent in
+    let s = (goal.at.returns-then-not-is_lent c).Start in
     let e = sym c.is_lent.ensures ∙ c.if-not-is_lent.true in
     let k = s.args.counters in
     reports_torn (is_lent (loans s)) (world_with k (loans s)) s.args.text.now e (serves_with_torn _ (loans s) k e)
 
 pub stats-report-requires : goal.stats-report-requires
-stats-report-requires c = lent_words (loans (start (goal.at.stats-report-requires c).After-is_lent)) (lent c)
+stats-report-requires c = lent_words (loans (goal.at.stats-report-requires c).Start) (lent c)
 
 pub slice_bounds-told-end : goal.slice_bounds-told-end
 slice_bounds-told-end c = report_short c.stats-report.ensures
@@ -68,10 +65,10 @@ put_text-requires c =
 
 pub tell-requires : goal.tell-requires
 tell-requires c =
-    lent_room (loans (start (goal.at.tell-requires c).After-is_lent)) (lent (goal.at.tell-requires c).Else-not-is_lent)
+    lent_room (loans (goal.at.tell-requires c).Start) (lent (goal.at.tell-requires c).Else-not-is_lent)
 
 pub returns : goal.returns
 returns c =
-    let s = start (goal.at.returns c).After-is_lent in
+    let s = (goal.at.returns c).Start in
     reports (loans s) s.args.text.now s.args.counters c.stats-report.ensures c.tell.ensures.1 c.tell.ensures.0
     c.if-text-lt368.false (lent (goal.at.returns c).Else-not-is_lent) c.put_text.ensures.bytes

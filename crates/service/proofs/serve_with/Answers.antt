@@ -6,12 +6,9 @@ use borrow.Author.Tests.{not-true, not-false}
 use Rattle.service.specs.Serving.{Lent, is_lent}
 use Rattle.service.proofs.Serving.{lent_room, lent_words, serves_with, serves_with_torn}
 use Rattle.service.proofs.serve_with.Goals as goal
-use Rattle.service.proofs.serve_with.Goals.{After-is_lent, Else-not-is_lent, Start}
+use Rattle.service.proofs.serve_with.Goals.{Else-not-is_lent, Start}
 
 -- the loans as they were given, and that they are a state's
-abbrev start : After-is_lent → Start
-start d = (goal.at.After-is_lent d).Start
-
 abbrev loans : Start → Lent
 loans s =
     record {
@@ -22,21 +19,21 @@ loans s =
       answer = s.args.answer.now;
     }
 
-lent : (c : Else-not-is_lent) → is_lent (loans (start (goal.at.Else-not-is_lent c).After-is_lent)) ≡ true
+lent : (c : Else-not-is_lent) → is_lent (loans (goal.at.Else-not-is_lent c).Start) ≡ true
 lent c = sym c.is_lent.ensures ∙ c.if-not-is_lent.false
 
 pub returns-then-not-is_lent : goal.returns-then-not-is_lent
 returns-then-not-is_lent c =
-    let s = start (goal.at.returns-then-not-is_lent c).After-is_lent in
+    let s = (goal.at.returns-then-not-is_lent c).Start in
     serves_with_torn _ (loans s) s.args.counters (sym c.is_lent.ensures ∙ c.if-not-is_lent.true)
 
 pub ask-o-requires : goal.ask-o-requires
-ask-o-requires c = lent_words (loans (start (goal.at.ask-o-requires c).After-is_lent)) (lent (goal.at.ask-o-requires c).Else-not-is_lent)
+ask-o-requires c = lent_words (loans (goal.at.ask-o-requires c).Start) (lent (goal.at.ask-o-requires c).Else-not-is_lent)
 
 pub tell-number-requires : goal.tell-number-requires
-tell-number-requires c = lent_room (loans (start (goal.at.tell-number-requires c).Else-not-is_lent)) (lent (goal.at.tell-number-requires c).After-ask-arg-1)
+tell-number-requires c = lent_room (loans (goal.at.tell-number-requires c).Start) (lent (goal.at.tell-number-requires c).Else-not-is_lent)
 
 pub returns : goal.returns
 returns c =
-    let s = start (goal.at.returns c).Else-not-is_lent in
-    serves_with (loans s) s.args.counters c.ask-o.ensures.leaves c.tell-number.ensures.1 c.tell-number.ensures.0 (lent (goal.at.returns c).After-ask-arg-1) c.ask-o.auto.words c.ask-o.ensures.beside
+    let s = (goal.at.returns c).Start in
+    serves_with (loans s) s.args.counters c.ask-o.ensures.leaves c.tell-number.ensures.1 c.tell-number.ensures.0 (lent (goal.at.returns c).Else-not-is_lent) c.ask-o.auto.words c.ask-o.ensures.beside

@@ -7,12 +7,9 @@ use Rattle.words.proofs.Words.{beside_same}
 use Rattle.service.specs.Serving.{Lent, is_lent}
 use Rattle.service.proofs.Serving.{lent_room, lent_words, serves_with, serves_with_torn}
 use Rattle.service.proofs.serve_write_with.Goals as goal
-use Rattle.service.proofs.serve_write_with.Goals.{After-is_lent, Else-not-is_lent, Start}
+use Rattle.service.proofs.serve_write_with.Goals.{Else-not-is_lent, Start}
 
 -- the loans as they were given, and that they are a state's
-abbrev start : After-is_lent → Start
-start d = (goal.at.After-is_lent d).Start
-
 abbrev loans : Start → Lent
 loans s =
     record {
@@ -23,21 +20,21 @@ loans s =
       answer = s.args.answer.now;
     }
 
-lent : (c : Else-not-is_lent) → is_lent (loans (start (goal.at.Else-not-is_lent c).After-is_lent)) ≡ true
+lent : (c : Else-not-is_lent) → is_lent (loans (goal.at.Else-not-is_lent c).Start) ≡ true
 lent c = sym c.is_lent.ensures ∙ c.if-not-is_lent.false
 
 pub returns-then-not-is_lent : goal.returns-then-not-is_lent
 returns-then-not-is_lent c =
-    let s = start (goal.at.returns-then-not-is_lent c).After-is_lent in
+    let s = (goal.at.returns-then-not-is_lent c).Start in
     serves_with_torn _ (loans s) s.args.counters (sym c.is_lent.ensures ∙ c.if-not-is_lent.true)
 
 pub write-y-requires : goal.write-y-requires
-write-y-requires c = lent_words (loans (start (goal.at.write-y-requires c).After-is_lent)) (lent (goal.at.write-y-requires c).Else-not-is_lent)
+write-y-requires c = lent_words (loans (goal.at.write-y-requires c).Start) (lent (goal.at.write-y-requires c).Else-not-is_lent)
 
 pub tell-requires : goal.tell-requires
-tell-requires c = lent_room (loans (start (goal.at.tell-requires c).After-is_lent)) (lent (goal.at.tell-requires c).Else-not-is_lent)
+tell-requires c = lent_room (loans (goal.at.tell-requires c).Start) (lent (goal.at.tell-requires c).Else-not-is_lent)
 
 pub returns : goal.returns
 returns c =
-    let s = start (goal.at.returns c).After-is_lent in
+    let s = (goal.at.returns c).Start in
     serves_with (loans s) s.args.counters c.write-y.ensures c.tell.ensures.1 c.tell.ensures.0 (lent (goal.at.returns c).Else-not-is_lent) refl beside_same
