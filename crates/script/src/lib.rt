@@ -1,6 +1,7 @@
 // The run of a script: each line is read, done and answered, and the answers follow one another (01, "The script program"). `jilakkor_run`
-// is exported for C and Rust, and the program `jilakkor` calls it.
+// is exported for C and Rust by script_c, and the program `jilakkor` calls it.
 #![tactic(auto)]
+
 ghost use Rattle.std.specs.Prelude.{true, ◌≡◌, ◌+◌, ◌≤◌, ◌<◌, ◌^◌, length, get_or, replicate};
 ghost use Rattle.definition.specs.Script.{BootNow, Ask as Asks, line_of, room};
 ghost use Rattle.exam.specs.Making.{Few};
@@ -194,8 +195,8 @@ fn boot_now(
     requires long { Long words.old }
     requires at_in_bounds { at + 512 ≤ length answer.old }
     ensures does { Does program_board BootNow (name_of (Op.Boot)) (running_with running words.old)
-        (record { records = records.entry.now; memory = memory.now; queue = queue.now }) answer.old at
-        (record { records = records.exit.now; memory = memory.now; queue = queue.now }) answer.new
+        (record { records = records.old; memory = memory.now; queue = queue.now }) answer.old at
+        (record { records = records.new; memory = memory.now; queue = queue.now }) answer.new
         (turn_with result words.new) }
     ensures bounded { Bounded running at result }
 {
@@ -261,8 +262,8 @@ fn call_now(
         (record { records = records.now; memory = memory.old; queue = queue.old }) }
     requires at_in_bounds { at + 512 ≤ length answer.old }
     ensures does { Does program_board (Asks (call_of op (λ i. get_or n i 0))) (ask_name op) (running_with running words.old)
-        (record { records = records.entry.now; memory = memory.old; queue = queue.old }) answer.old at
-        (record { records = records.exit.now; memory = memory.new; queue = queue.new }) answer.new
+        (record { records = records.old; memory = memory.old; queue = queue.old }) answer.old at
+        (record { records = records.new; memory = memory.new; queue = queue.new }) answer.new
         (turn_with result words.new) }
     ensures bounded { Bounded running at result }
 {
@@ -299,8 +300,8 @@ fn take_turn(
         (record { records = records.now; memory = memory.old; queue = queue.old }) }
     requires at_in_bounds { (at + 512 ≤ length answer.old) × (running.count + 1 < 2 ^ 64) }
     ensures turns { Turns program_board (running_with running words.old)
-        (record { records = records.entry.now; memory = memory.old; queue = queue.old }) line.now
-        answer.old at (record { records = records.exit.now; memory = memory.new; queue = queue.new })
+        (record { records = records.old; memory = memory.old; queue = queue.old }) line.now
+        answer.old at (record { records = records.new; memory = memory.new; queue = queue.new })
         answer.new (turn_with result words.new) }
     ensures bounded { Bounded running at result }
 {
@@ -328,8 +329,8 @@ fn run_all(
     requires words_value { words.old ≡ replicate state_words 0 }
     requires script_in_bounds { room script.now ≤ length answer.old }
     ensures { RanAll program_board script.now
-        (record { records = records.entry.now; memory = memory.old; queue = queue.old }) answer.old
-        (record { records = records.exit.now; memory = memory.new; queue = queue.new }) answer.new result }
+        (record { records = records.old; memory = memory.old; queue = queue.old }) answer.old
+        (record { records = records.new; memory = memory.new; queue = queue.new }) answer.new result }
 {
     let mut w = text::put_text(answer, 0, b"op,refusal,address,bytes\n");
     let mut running = fresh();
@@ -356,8 +357,7 @@ fn run_all(
 
 // The whole script. Returns the bytes written; 0 with nothing written and nothing run where the answer slice is under 512 bytes for each
 // line plus 512.
-#[unsafe(no_mangle)]
-pub extern "C" fn jilakkor_run(
+pub fn jilakkor_run(
     script: &[u8],
     records: &mut [u8],
     memory: &mut [u8],
@@ -365,8 +365,8 @@ pub extern "C" fn jilakkor_run(
     answer: &mut [u8],
 ) -> usize
     ensures { Ran program_board script.now
-        (record { records = records.entry.now; memory = memory.old; queue = queue.old }) answer.old
-        (record { records = records.exit.now; memory = memory.new; queue = queue.new }) answer.new result }
+        (record { records = records.old; memory = memory.old; queue = queue.old }) answer.old
+        (record { records = records.new; memory = memory.new; queue = queue.new }) answer.new result }
 {
     if answer.len() < 512 {
         return 0;

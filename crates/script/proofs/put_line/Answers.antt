@@ -1,0 +1,16 @@
+-- The texts follow one another, and are the line.
+use native.Mathlib.Omega.{arith}
+use Rattle.definition.specs.Text.{bytes_of}
+use Rattle.text.proofs.Writing.{wrote_then}
+use Rattle.script.proofs.put_line.Goals as goal
+
+pub returns : goal.returns
+unfolding bytes_of
+returns c =
+    let w4 = wrote_then c.put_named-next-3.ensures.wrote c.put_text.ensures (omega arith) in
+    let w3 = wrote_then c.put_named-next-2.ensures.wrote w4 (omega arith) in
+    let w2 = wrote_then c.put_named-next.ensures.wrote w3 (omega arith) in
+    let w1 = wrote_then c.put_op-next.ensures.wrote w2 (omega arith) in record {
+      wrote = w1;
+      upper_bound = omega arith;
+    }

@@ -1,0 +1,24 @@
+-- Numbers that do not come in threes are refused; else what was gathered is the map's: its first eight entries and their number are all that a boot looks at.
+use mathlib.Core.List.{map}
+use mathlib.Core.Path.{refl, ap, sym, ◌∙◌}
+use Prim.Native.Nat.{◌%◌}
+use borrow.Author.Rules.{rules}
+use borrow.Author.Tests.{eq-eqb, ne_eqb}
+use lib.ListN.{length, take}
+use Rattle.map.specs.declared.Gathered.{Gathered}
+use Rattle.store.specs.Lending.{region_of, entries_of}
+use Rattle.map.proofs.Gathering.{gathered_count, gathered_front}
+use Rattle.store.proofs.boot_counted.Goals as goal
+
+pub returns-then-n-ne0 : goal.returns-then-n-ne0
+returns-then-n-ne0 c = rw (ne_eqb (length c.args.n.now % 3) 0 c.if-n-ne0.true) refl
+
+pub returns : goal.returns
+returns c =
+    let e = sym c.gather_numbers-g.ensures in
+    
+    let ns = c.args.n.now in
+    let es = entries_of ns in
+    rw (eq-eqb (length ns % 3) 0 c.if-n-ne0.false)
+    (c.serve_boot_with.ensures (map region_of es) (gathered_count (map region_of es) ∙ ap (λ (g : Gathered). g.count) e)
+    (gathered_front (map region_of es) ∙ ap (λ (g : Gathered). take g.count g.map) e))

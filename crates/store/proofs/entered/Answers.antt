@@ -1,0 +1,6 @@
+-- `entered` meets its contract: the entry is entered as a region.
+use borrow.Author.Rules.{rules}
+use Rattle.store.proofs.entered.Goals as goal
+
+pub returns : goal.returns
+returns c = rw c.region_of.ensures at c.entered.ensures
