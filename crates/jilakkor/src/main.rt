@@ -1,46 +1,74 @@
 // The script program of 01: it reads a script from standard input, to its end, and prints what `program::run_once` promises, definition's
-// `output_of` on the program's loans. A script has at most 262,144 bytes and 8,191 lines. Where it has more, or can't be read, one line on
-// standard error says so and nothing is printed; where the answers can't be written whole, a line on standard error says so too. A program
-// of Rattle has no exit status but 0 to tell it by.
+// `output_of` on the program's loans. A script has at most 262,144 bytes and 8,191 lines. Where it has more, one line on standard error
+// says so and nothing is printed. Where it can't be read, nothing is printed, and there as where the answers can't be written whole, a
+// line on standard error says so and the exit status is 1.
 #![tactic(auto)]
-use program::Input;
 
-fn complain(line: &[u8]) {
-    io::write_all(libc::STDERR_FILENO, line);
+ghost use Rattle.std.specs.Prelude.{length, OnOk, IfSome};
+ghost use Rattle.jilakkor.specs.Answering.{Answers, Prints};
+
+use anyhow::{Context, Result};
+use program::Input;
+use std::alloc::Global;
+use std::io::{Read, Write};
+
+// Where standard error can't be written there is nowhere left to say so.
+fn complain(rt: &impl Eprint, line: &str) {
+    let _ = rt.eprintln(line);
 }
 
 // 0 bytes say that the lines are more than there is room for, and then nothing was run.
-fn print_answers(script: &[u8], answers: &mut [u8]) {
+fn print_answers<W: Write>(
+    rt: &impl Eprint,
+    script: &[u8],
+    answers: &mut [u8],
+    out: &mut W,
+) -> Result<()>
+    ensures { OnOk result (Prints script.now (length answers.old) (W.contents out.old) (W.contents out.new)) }
+{
     let n = program::run_once(script, answers);
     if n == 0 {
-        complain(b"jilakkor: the script has more than 8191 lines\n");
-        return;
+        complain(rt, "jilakkor: the script has more than 8191 lines");
+        return Ok(());
     }
-    if !io::write_all(libc::STDOUT_FILENO, &answers[..n]) {
-        os::fail(b"jilakkor: standard output");
-    }
+    out.write_all(&answers[..n])
+        .context("jilakkor: standard output")
 }
 
-fn answer(script: &[u8]) {
-    let mut answers = program::answer_room();
-    print_answers(script, &mut answers);
+fn answer<W: Write>(rt: &impl Eprint, alloc: Global, script: &[u8], out: &mut W) -> Result<()>
+    ensures { OnOk result (Prints script.now 4194304 (W.contents out.old) (W.contents out.new)) }
+{
+    let mut answers = program::answer_room(alloc)?;
+    print_answers(rt, script, &mut answers, out)
 }
 
-fn answer_input(script: &mut [u8]) {
-    let input = program::read_all(script);
-    match input {
-        Input::Whole(n) => answer(&script[..n]),
-        Input::TooLong => complain(b"jilakkor: the script is longer than 262144 bytes\n"),
-        Input::Failed => os::fail(b"jilakkor: standard input"),
-    }
-}
-
-// Room for the script and a byte more, as `program::answer_room`.
+// Room for the script and a byte more. It is a function of its own so that a proof takes the length from its type: one that sees the zeros
+// themselves counts them.
 fn script_room() -> [u8; 262145] {
     [0; 262145]
 }
 
-fn main() {
+fn answer_input<R: Read, W: Write>(
+    rt: &impl Eprint,
+    alloc: Global,
+    reader: &mut R,
+    out: &mut W,
+) -> Result<()>
+    ensures { OnOk result (IfSome (R.remaining reader.old)
+        (λ script. Answers script (W.contents out.old) (W.contents out.new))) }
+{
     let mut script = script_room();
-    answer_input(&mut script);
+    let input = program::read_all(reader, &mut script);
+    match input {
+        Input::Whole(n) => answer(rt, alloc, &script[..n], out),
+        Input::TooLong => {
+            complain(rt, "jilakkor: the script is longer than 262144 bytes");
+            Ok(())
+        }
+        Input::Failed(error) => Err(error).context("jilakkor: standard input"),
+    }
+}
+
+fn main(rt: HostRuntime) -> Result<()> {
+    answer_input(&rt, rt.alloc(), &mut rt.stdin(), &mut rt.stdout())
 }

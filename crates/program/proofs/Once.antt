@@ -1,19 +1,17 @@
 -- From the promise of a run on any loans to that of a run on the program's own: `once`. What is printed begins with the header, so 0 bytes are never an answer.
-use Prim.Native.Nat.{ℕ, ◌+◌, ◌≤◌, ◌<◌}
+use Prim.Native.Nat.{ℕ, ◌≤◌, ◌<◌}
 use mathlib.Core.List.{List, ◌++◌}
 use mathlib.Core.Path.{◌≡◌, refl, ap, sym}
 use native.Mathlib.Decide.{dec_le}
 use native.Mathlib.Omega.{arith}
-use lib.ListN.{length, drop, replicate, length-append, length-drop}
+use lib.ListN.{length, replicate, length-append, length-drop}
 use lib.Seq.{length-take-le}
 use Rattle.definition.specs.Board.{standard}
 use Rattle.definition.specs.Cases.{program}
 use Rattle.definition.specs.Script.{header, lines, output_of, room, run_lines, started}
 use Rattle.definition.specs.Text.{bytes_of}
 use Rattle.script.specs.Running.{Loans, Ran}
-use Rattle.program.specs.declared.Input.{Input}
-use Rattle.program.specs.declared.Input.TheVariants.{Whole}
-use Rattle.program.specs.Once.{RanOnce, Below, printed}
+use Rattle.program.specs.Once.{RanOnce, printed}
 
 -- the loans of the program
 abbrev pub zeros : Loans
@@ -40,7 +38,3 @@ once {script} {out} {out'} {l'} {r} long ran =
     go : Dec (room script ≤ length out) → r ≤ length out'
     go (yes h) = omega (arith, ran.written h, long, simp (length-append, length-drop) at (ap length (ran.text h)))
     go (no h) = omega (arith, (ran.too_short (omega arith)).0)
-
--- an input that was read whole is shorter than the slice
-pub whole : {n k : ℕ} {i : Input} → Below n i → i ≡ Whole k → k < n
-whole b e = rw e at b

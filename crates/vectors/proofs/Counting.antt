@@ -1,5 +1,5 @@
 -- Laws of the count: bytes compared, one case more, and the end of the file.
-use Prim.Native.Nat.{ℕ, suc, ◌+◌, ◌-◌, ◌≤◌, ◌<◌}
+use Prim.Native.Nat.{ℕ, ◌+◌, ◌-◌, ◌≤◌}
 use mathlib.Core.Bool.{Bool, true, false, not, ◌&&◌}
 use mathlib.Core.List.{List, [], ◌∷◌, ◌++◌}
 use mathlib.Core.Path.{◌≡◌, refl, ap, sym, ◌∙◌}
@@ -9,7 +9,7 @@ use lib.ListN.{length, take, drop}
 use lib.Seq.{take-add, take_all, take_at}
 use borrow.Author.Tests.{eq-eqb, eqb-true}
 use Rattle.definition.specs.Basics.{bit}
-use Rattle.definition.specs.Script.{lines, room, same_bytes}
+use Rattle.definition.specs.Script.{room, same_bytes}
 use Rattle.program.specs.Once.{RanOnce, printed}
 use Rattle.vectors.specs.declared.Places.{Places}
 use Rattle.vectors.specs.declared.Tally.{Tally}

@@ -1,9 +1,9 @@
 -- Laws of the framing: what a heading that was spelt and found says of the file, that two headings, a script and its answers are a case, and that a case joins
 -- those that were replayed before it.
-use Prim.Native.Nat.{ℕ, suc, ◌+◌, ◌-◌, ◌≤◌, ◌<◌}
-use mathlib.Core.Bool.{Bool, true, false, ◌&&◌}
-use mathlib.Core.List.{List, [], ◌∷◌, ◌++◌, append_assoc}
-use mathlib.Core.Path.{◌≡◌, refl, ap, sym, ◌∙◌}
+use Prim.Native.Nat.{ℕ, ◌+◌, ◌-◌, ◌≤◌}
+use mathlib.Core.Bool.{true}
+use mathlib.Core.List.{List, ◌++◌, append_assoc}
+use mathlib.Core.Path.{◌≡◌, ap, sym, ◌∙◌}
 use native.Mathlib.Omega.{arith}
 use lib.ListN.{length, take, drop, length-append, length-drop, take-append-drop}
 use lib.Seq.{length-take-le, drop-drop, take_at}
@@ -15,7 +15,7 @@ use Rattle.text.specs.Writing.{Wrote}
 use Rattle.vectors.specs.declared.Heading.{Heading}
 use Rattle.vectors.specs.declared.Places.{Places}
 use Rattle.vectors.specs.declared.Tally.{Tally}
-use Rattle.vectors.specs.Framing.{headed, framed, tallied, part, case_at, Spelt, Heads, Frames}
+use Rattle.vectors.specs.Framing.{headed, tallied, part, case_at, Spelt, Heads, Frames}
 
 pub spelt : {out text out' : List ℕ} {r : ℕ} → Wrote out 0 text out' r → r ≤ length out → Spelt text out' r
 unfolding with_bytes

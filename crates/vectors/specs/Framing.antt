@@ -1,6 +1,6 @@
 -- Scripts with the answers that are expected of them, one after another in a file, and what a replay of the file counts. A reader takes from `Replayed` what
 -- the line `N scripts, M lines, D differ` says: the file is N cases, framed, and of these D print something else than the file has.
-use Rattle.std.specs.Prelude.{ℕ, ◌+◌, ◌-◌, ◌*◌, ◌≤◌, ◌<◌, Bool, true, not, List, [], ◌∷◌, ◌++◌, ◌≡◌, length, take, drop}
+use Rattle.std.specs.Prelude.{ℕ, ◌+◌, ◌-◌, ◌*◌, ◌≤◌, ◌<◌, Bool, true, not, cond, List, [], ◌∷◌, ◌++◌, ◌≡◌, length, take, drop}
 use Rattle.definition.specs.Basics.{bit}
 use Rattle.definition.specs.Cases.{Case}
 use Rattle.definition.specs.Script.{lines, same_bytes}
@@ -59,6 +59,10 @@ abbrev pub tallied : Tally → List ℕ
 tallied t =
     digits_of t.scripts
     ++ (bytes_of " scripts, " ++ (digits_of t.lines ++ (bytes_of " lines, " ++ (digits_of t.differ ++ bytes_of " differ\n"))))
+
+-- the one line at the end
+abbrev pub told : Tally → List ℕ
+told t = cond t.framed (tallied t) (headed (bytes_of "bad framing at byte ") t.at)
 
 -- ---- on the way
 

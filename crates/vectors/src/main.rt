@@ -1,15 +1,20 @@
 // Replays scripts against the answers that are expected of them, all in one file on standard input, and prints how many there were and how
 // many differ. The file has for each script a line `script,LINES`, that many lines, a line `answers,BYTES` and that many bytes; the numbers
-// are decimal, without leading zeros. At most 1,048,576 bytes, and 8,191 lines to a script. Standard error says where the file can't be
-// read or is longer; a program of Rattle has no exit status to say it by.
+// are decimal, without leading zeros. At most 1,048,576 bytes, and 8,191 lines to a script. Standard error says where the file is longer.
+// Where it can't be read, or the count can't be written, a line there says so and the exit status is 1.
 #![tactic(auto)]
-ghost use Rattle.std.specs.Prelude.{◌+◌, ◌≤◌, ◌<◌, true, false, not, ◌≡◌, length};
+
+ghost use Rattle.std.specs.Prelude.{◌+◌, ◌≤◌, ◌<◌, true, false, not, ◌≡◌, length, OnOk};
+ghost use Rattle.std.specs.Io.KnownBytes.{Appends};
 ghost use Rattle.definition.specs.Basics.{bit};
 ghost use Rattle.definition.specs.Script.{room, same_bytes};
 ghost use Rattle.program.specs.Once.{printed};
-ghost use Rattle.vectors.specs.Framing.{headed, tallied, Spelt, Heads, Frames, Seen, Replayed, counted as counted_def};
+ghost use Rattle.vectors.specs.Framing.{headed, tallied, told, Spelt, Heads, Frames, Seen, Replayed, counted as counted_def};
 
+use anyhow::{Context, Result};
 use program::Input;
+use std::alloc::Global;
+use std::io::{self, Read, Write};
 
 // ---- the framing
 
@@ -45,6 +50,14 @@ fn put_heading(line: &mut [u8], name: &[u8], n: u64) -> usize
     text::put_text(line, k, b"\n")
 }
 
+// Whether two slices hold the same bytes.
+fn same(a: &[u8], b: &[u8]) -> bool
+    ensures only { result ≡ true → a.now ≡ b.now }
+    ensures always { a.now ≡ b.now → result ≡ true }
+{
+    a == b
+}
+
 // A heading, and the place behind it.
 #[derive(Clone, Copy)]
 struct Heading {
@@ -77,7 +90,7 @@ fn heading_at(file: &[u8], at: usize, name: &[u8]) -> Heading
         return no_heading();
     }
     let next = at + k;
-    if !check::same(&line[..k], &file[at..next]) {
+    if !same(&line[..k], &file[at..next]) {
         return no_heading();
     }
     Heading {
@@ -172,7 +185,7 @@ fn agrees(script: &[u8], expected: &[u8], answers: &mut [u8]) -> bool
     ensures { result ≡ same_bytes (printed script.now) expected.now }
 {
     let n = program::run_once(script, answers);
-    check::same(&answers[..n], expected)
+    same(&answers[..n], expected)
 }
 
 // What was replayed so far, up to `at`. Where the file is not framed, `at` is the place where that shows.
@@ -185,19 +198,30 @@ struct Tally {
     differ: u64,
 }
 
-// A line of a name and a number on standard output.
-fn say(name: &[u8], n: u64)
+// A line of a name and a number.
+fn say<W: Write>(out: &mut W, name: &[u8], n: u64) -> io::Result<()>
     requires { length name.now ≤ 40 }
+    ensures { OnOk result (Appends (W.contents out.old) (W.contents out.new) (headed name.now n)) }
 {
     let mut line = [0u8; 64];
     let k = put_heading(&mut line, name, n);
-    if !io::write_all(libc::STDOUT_FILENO, &line[..k]) {
-        os::fail(b"vectors: standard output");
-    }
+    out.write_all(&line[..k])
 }
 
-// How many differ after one script more. The first ten that do are named, by their number from 1 on.
-fn differences(before: u64, script: u64, is_same: bool) -> u64
+// A line on standard error. Where it can't be written there is nowhere left to say so.
+fn complain(rt: &impl Eprint, error: &io::Error) {
+    let _ = eprintln!(rt; "vectors: standard output: {error}");
+}
+
+// How many differ after one script more. The first ten that do are named, by their number from 1 on; where such a line can't be written,
+// one on standard error says so, and the count goes on.
+fn differences<W: Write>(
+    rt: &impl Eprint,
+    out: &mut W,
+    before: u64,
+    script: u64,
+    is_same: bool,
+) -> u64
     requires { before < 2097152 }
     ensures { result ≡ before + bit (not is_same) }
 {
@@ -205,17 +229,26 @@ fn differences(before: u64, script: u64, is_same: bool) -> u64
         return before;
     }
     if before < 10 {
-        say(b"differs at script ", script);
+        if let Err(error) = say(out, b"differs at script ", script) {
+            complain(rt, &error);
+        }
     }
     before + 1
 }
 
-fn counted(t: Tally, lines: usize, next: usize, is_same: bool) -> Tally
+fn counted<W: Write>(
+    rt: &impl Eprint,
+    out: &mut W,
+    t: Tally,
+    lines: usize,
+    next: usize,
+    is_same: bool,
+) -> Tally
     requires { (t.scripts < 2097152) × (t.lines < 17179869184) × (t.differ < 2097152) × (lines ≤ 8191) }
     ensures { result ≡ counted_def t lines next is_same }
 {
     let scripts = t.scripts + 1;
-    let differ = differences(t.differ, scripts, is_same);
+    let differ = differences(rt, out, t.differ, scripts, is_same);
     Tally {
         framed: true,
         at: next,
@@ -225,7 +258,13 @@ fn counted(t: Tally, lines: usize, next: usize, is_same: bool) -> Tally
     }
 }
 
-fn replay_one(file: &[u8], answers: &mut [u8], t: Tally) -> Tally
+fn replay_one<W: Write>(
+    rt: &impl Eprint,
+    out: &mut W,
+    file: &[u8],
+    answers: &mut [u8],
+    t: Tally,
+) -> Tally
     requires { (length file.now ≤ 1048576) × (length answers.old ≡ 4194304) × Seen file.now t }
     ensures { result.framed ≡ true → Seen file.now result × (t.at < result.at) }
 {
@@ -244,10 +283,10 @@ fn replay_one(file: &[u8], answers: &mut [u8], t: Tally) -> Tally
     let end = p.end;
     let from = p.answers;
     let is_same = agrees(&file[script..end], &file[from..next], answers);
-    counted(t, p.lines, next, is_same)
+    counted(rt, out, t, p.lines, next, is_same)
 }
 
-fn replay(file: &[u8], answers: &mut [u8]) -> Tally
+fn replay<W: Write>(rt: &impl Eprint, out: &mut W, file: &[u8], answers: &mut [u8]) -> Tally
     requires { (length file.now ≤ 1048576) × (length answers.old ≡ 4194304) }
     ensures { result.framed ≡ true → Replayed file.now result }
 {
@@ -259,7 +298,7 @@ fn replay(file: &[u8], answers: &mut [u8]) -> Tally
         differ: 0,
     };
     while t.at < file.len() {
-        t = replay_one(file, answers, t);
+        t = replay_one(rt, out, file, answers, t);
         if !t.framed {
             return t;
         }
@@ -279,48 +318,58 @@ fn put_tally(line: &mut [u8], t: Tally) -> usize
     text::put_text(line, k, b" differ\n")
 }
 
-fn report(t: Tally) {
+fn report<W: Write>(out: &mut W, t: Tally) -> io::Result<()>
+    ensures { OnOk result (Appends (W.contents out.old) (W.contents out.new) (told t)) }
+{
     if !t.framed {
-        say(b"bad framing at byte ", t.at as u64);
-        return;
+        return say(out, b"bad framing at byte ", t.at as u64);
     }
     let mut line = [0u8; 128];
     let k = put_tally(&mut line, t);
-    if !io::write_all(libc::STDOUT_FILENO, &line[..k]) {
-        os::fail(b"vectors: standard output");
-    }
+    out.write_all(&line[..k])
 }
 
-fn replay_all(file: &[u8])
+fn replay_all<W: Write>(rt: &impl Eprint, alloc: Global, out: &mut W, file: &[u8]) -> Result<()>
     requires { length file.now ≤ 1048576 }
 {
-    let mut answers = program::answer_room();
-    let t = replay(file, &mut answers);
-    report(t);
+    let mut answers = program::answer_room(alloc)?;
+    let t = replay(rt, out, file, &mut answers);
+    report(out, t).context("vectors: standard output")
 }
 
-fn replay_input(file: &mut [u8])
+fn replay_input<R: Read, W: Write>(
+    rt: &impl Eprint,
+    alloc: Global,
+    reader: &mut R,
+    out: &mut W,
+    file: &mut [u8],
+) -> Result<()>
     requires { length file.old ≤ 1048577 }
 {
-    let input = program::read_all(file);
+    let input = program::read_all(reader, file);
     match input {
-        Input::Whole(n) => replay_all(&file[..n]),
+        Input::Whole(n) => replay_all(rt, alloc, out, &file[..n]),
         Input::TooLong => {
-            io::write_all(
-                libc::STDERR_FILENO,
-                b"vectors: the file is longer than 1048576 bytes\n",
-            );
+            let _ = eprintln!(rt; "vectors: the file is longer than 1048576 bytes");
+            Ok(())
         }
-        Input::Failed => os::fail(b"vectors: standard input"),
+        Input::Failed(error) => Err(error).context("vectors: standard input"),
     }
 }
 
-// Room for the file and a byte more, as `program::answer_room`.
+// Room for the file and a byte more. It is a function of its own so that a proof takes the length from its type: one that sees the zeros
+// themselves counts them.
 fn file_room() -> [u8; 1048577] {
     [0; 1048577]
 }
 
-fn main() {
+fn main(rt: HostRuntime) -> Result<()> {
     let mut file = file_room();
-    replay_input(&mut file);
+    replay_input(
+        &rt,
+        rt.alloc(),
+        &mut rt.stdin(),
+        &mut rt.stdout(),
+        &mut file,
+    )
 }
