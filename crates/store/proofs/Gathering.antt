@@ -5,15 +5,16 @@ use mathlib.Core.Path.{◌≡◌, refl, ap, sym, ◌∙◌}
 use native.Mathlib.Omega.{arith}
 use lib.ListN.{length, get_or, take, length-map}
 use Rattle.map.specs.declared.Gathered.{Gathered}
-use Rattle.map.specs.Lending.{no_region, nothing, entered_all}
-use Rattle.map.proofs.Gathering.{Capped, Onward as OnwardRegions, onward_next as onward-region, onward_end as onward-ended}
+use Rattle.map.specs.Lending.{nothing, entered_all}
+use Rattle.map.proofs.Gathering.{Capped, Onward as OnwardRegions, onward_next as onward_region, onward_end as onward_ended}
 use Rattle.store.specs.declared.Entry.{Entry}
 use Rattle.store.specs.Lending.{no_entry, region_of, entered, gathered, entry_in, entries_from, entries_of}
 
-map_at : (es : List Entry) (i : ℕ) → i < length es → get_or (map region_of es) i no_region ≡ region_of (get_or es i no_entry)
-map_at [] i h = absurd (omega arith)
-map_at (e ∷ es) zero h = refl
-map_at (e ∷ es) (suc i) h = map_at es i (omega arith)
+-- `d` stands for an entry past the last one, and there is none
+map_at : (d : Entry) (es : List Entry) (i : ℕ) → i < length es → get_or (map region_of es) i (region_of d) ≡ region_of (get_or es i d)
+map_at d [] i h = absurd (omega arith)
+map_at d (e ∷ es) zero h = refl
+map_at d (e ∷ es) (suc i) h = map_at d es i (omega arith)
 
 -- with the entries that are left, what is gathered so far comes to all of it
 abbrev pub Onward : List Entry → ℕ → Gathered → Type 0
@@ -26,11 +27,11 @@ module _ (es : List Entry) (m : ℕ) (c : Capped (length es) m) (i : ℕ) (s : G
   as_regions : Capped (length (map region_of es)) m
   as_regions = rw (length-map es region_of) c
 
-  pub onward_next : i < m → (r : Gathered) → r ≡ entered s i (get_or es i no_entry) → Onward es (i + 1) r
-  onward_next small r e = onward-region (map region_of es) m as_regions i s o small r (rw (map_at es i (omega (arith, c.0))) e)
+  pub onward_next : (d : Entry) → i < m → (r : Gathered) → r ≡ entered s i (get_or es i d) → Onward es (i + 1) r
+  onward_next d small r e = onward_region (map region_of es) m as_regions i s o (region_of d) small r (rw (map_at d es i (omega (arith, c.0))) e)
 
   pub onward_end : m ≤ i → s ≡ gathered es
-  onward_end = onward-ended (map region_of es) m as_regions i s o
+  onward_end = onward_ended (map region_of es) m as_regions i s o
 
 -- ---- a map that is lent as numbers
 
@@ -55,7 +56,7 @@ module _ (ns : List ℕ) (m : ℕ) (c : Capped (length ns / 3) m) (i : ℕ) (s :
   pub numbers_next : i < m → (r : Gathered) → r ≡ entered s i (entry_in ns i) → Onward (entries_of ns) (i + 1) r
   numbers_next h r e =
       let z : 0 + i ≡ i = omega arith in
-      onward_next (entries_of ns) m capped i s o h r (e ∙ ap (entered s i) (sym (rw z at (entries_at ns 0 (length ns / 3) i (omega (arith, c.0))))))
+      onward_next (entries_of ns) m capped i s o no_entry h r (e ∙ ap (entered s i) (sym (rw z at (entries_at ns 0 (length ns / 3) i (omega (arith, c.0))))))
 
   pub numbers_end : m ≤ i → s ≡ gathered (entries_of ns)
   numbers_end = onward_end (entries_of ns) m capped i s o

@@ -3,6 +3,7 @@
 // returned. Every promise is `served` or `booted` of service/specs/Serving.antt: what stands in the loans afterwards, to the last word and
 // byte, and the number.
 #![tactic(auto)]
+
 ghost use Rattle.std.specs.Prelude.{◌≡◌, ◌%◌, ◌≤◌, ◌<◌};
 ghost use Rattle.definition.specs.Script.{flags_of};
 ghost use Rattle.definition.specs.Calls.{

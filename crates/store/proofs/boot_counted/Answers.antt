@@ -16,7 +16,6 @@ returns-then-n-ne0 c = rw (ne_eqb (length c.args.n.now % 3) 0 c.if-n-ne0.true) r
 pub returns : goal.returns
 returns c =
     let e = sym c.gather_numbers-g.ensures in
-    
     let ns = c.args.n.now in
     let es = entries_of ns in
     rw (eq-eqb (length ns % 3) 0 c.if-n-ne0.false)

@@ -19,12 +19,11 @@ pub loop-i-smaller : goal.loop-i-smaller
 loop-i-smaller c = omega arith
 
 pub loop-i-preserved : goal.loop-i-preserved
-loop-i-preserved c =
-    (
-      omega arith,
-      numbers_next c.args.numbers.now c.at_most_eight-n.result c.at_most_eight-n.ensures c.loop-i.i c.loop-i.g c.loop-i.invariant.1 (omega arith) c.entered-g.result
-          (rw c.entry_in.ensures at c.entered-g.ensures),
-    )
+loop-i-preserved c = (
+  omega arith,
+  numbers_next c.args.numbers.now c.at_most_eight-n.result c.at_most_eight-n.ensures c.loop-i.i c.loop-i.g c.loop-i.invariant.1 (omega arith) c.entered-g.result
+      (rw c.entry_in.ensures at c.entered-g.ensures),
+)
 
 pub returns : goal.returns
 returns c =
