@@ -2,6 +2,7 @@
 // store first, and stops at the first call that is refused, so that its answer says how many were accepted. What it leaves in the loans is
 // what those calls leave (`Drives`).
 #![tactic(auto)]
+
 ghost use Rattle.std.specs.Prelude.{◌≡◌, length, replicate};
 ghost use Rattle.definition.specs.Calls.{Alloc, Find, Zero, Fill, Copy};
 ghost use Rattle.words.specs.Words.{board_in, Long, state_words};

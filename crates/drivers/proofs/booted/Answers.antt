@@ -1,0 +1,22 @@
+-- The map is the array with one entry counted.
+use Prim.Native.Nat.{ℕ}
+use mathlib.Core.Path.{refl, sym, ap}
+use Rattle.definition.proofs.Boards.{standard_fit}
+use native.Mathlib.Omega.{arith}
+use Rattle.drivers.specs.Driving.{booted_world, usable}
+use borrow.Author.Rules.{rules}
+use Rattle.drivers.proofs.booted.Goals as goal
+
+pub boot-outcome-requires : goal.boot-outcome-requires
+boot-outcome-requires c =
+    record {
+      fit = rw c.standard-board.ensures standard_fit;
+      long = omega arith;
+    }
+
+pub returns : goal.returns
+unfolding booted_world
+returns c =
+    let a = c.args in
+    let map = ap (λ (n : ℕ). usable n a.bytes) (sym c.new-2.ensures) in
+    rw (c.standard-board.ensures, c.started.ensures) at (c.boot-outcome.ensures.boots_all (usable a.start a.bytes) refl map).world

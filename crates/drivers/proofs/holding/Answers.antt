@@ -1,0 +1,6 @@
+-- The boot, and the turn on the world that it leaves.
+use borrow.Author.Rules.{rules}
+use Rattle.drivers.proofs.holding.Goals as goal
+
+pub returns : goal.returns
+returns c = rw c.booted-counters.ensures c.granted.ensures
