@@ -1,13 +1,13 @@
 -- What the functions of the allocator promise, for every allocator that the table stands for: `Sees` what stands at an address, `TurnsBy` what a free, a split
 -- or other marks make of the table, `PicksBy` what a search for a frame does.
-use Rattle.std.specs.Prelude.{ℕ, ◌-◌, ◌*◌, ◌/◌, Bool, true, false, not, List, ◌≡◌, eqb, get_or}
+use Rattle.std.specs.Prelude.{ℕ, ◌-◌, ◌*◌, Bool, true, false, not, List, ◌≡◌, eqb, get_or}
 use Rattle.std.proofs.Math.Option.{none, some}
 use Rattle.definition.specs.declared.Record.{Record}
 use Rattle.definition.specs.declared.Row.{Row}
 use Rattle.definition.specs.Basics.{upd, any, range, everywhere}
 use Rattle.definition.specs.Board.{Board}
 use Rattle.definition.specs.Frame.{Frames, split_and_keep}
-use Rattle.definition.specs.Allocator.{PhysicalFrameAllocator, Allocated, free_in, is_managed, is_listed, do_alloc, pass}
+use Rattle.definition.specs.Allocator.{PhysicalFrameAllocator, Allocated, free_in, is_managed, is_listed, pass}
 use Rattle.definition.specs.World.{frame_of, no_links, record_at}
 use Rattle.record.specs.Records.{pages_in}
 use Rattle.region.specs.Rep.{Held, from_of, marked, state_of}

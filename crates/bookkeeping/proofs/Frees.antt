@@ -9,7 +9,7 @@ use mathlib.Core.Path.{◌≡◌, refl, sym, ◌∙◌}
 use borrow.Author.Tests.{le-leb, lt-ltb}
 use Rattle.definition.specs.Board.{Board}
 use Rattle.definition.specs.Basics.{upd, sum}
-use Rattle.definition.specs.Frame.{Frame, Frames, size, slot, with_allocated, freed, free}
+use Rattle.definition.specs.Frame.{Frame, Frames, size, slot, with_allocated, free}
 use Rattle.definition.specs.Allocator.{AllocationRegion, PhysicalFrameAllocator, first, end, contains, levels_of, laid_out, behind_region, free_in}
 use Rattle.definition.specs.Store.{Store}
 use Rattle.definition.specs.Tracker.{count_free, free_frame}

@@ -1,6 +1,6 @@
 -- After every list of calls from an accepted boot the store is `Good`: what a proof that no call finds the records torn takes from here. What the boot's sheet
 -- lets pass is `Accepted`.
-use Prim.Native.Nat.{ℕ, suc, ◌+◌, ◌-◌, ◌≤◌}
+use Prim.Native.Nat.{ℕ, suc, ◌+◌, ◌≤◌}
 use native.Mathlib.Omega.{arith}
 use mathlib.Core.Bool.{true, false}
 use mathlib.Core.List.{List, [], ◌∷◌, ◌++◌}

@@ -6,13 +6,11 @@ use mathlib.Core.Bool.{Bool, true, false, not, cond, ◌&&◌}
 use mathlib.Core.List.{List, ◌∷◌, ◌++◌}
 use mathlib.Core.Path.{◌≡◌, refl}
 use lib.Dec.{leb, ltb}
-use lib.ListN.{length}
 use borrow.Author.Tests.{ltb-false, le-leb, not-false}
 use Rattle.definition.proofs.Passing.{Passed}
 use Rattle.definition.proofs.Tests.{any_head}
 use Rattle.definition.specs.Board.{Board}
 use Rattle.definition.specs.Basics.{any}
-use Rattle.definition.specs.Frame.{size}
 use Rattle.definition.specs.Allocator.{is_listed}
 use Rattle.definition.specs.Store.{Store}
 use Rattle.definition.specs.Contents.{frame_bytes}

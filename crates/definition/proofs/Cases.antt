@@ -1,7 +1,6 @@
 -- Each case of specs/Cases comes out as the paper says, and a small world is sound and is its own encoding.
-use Prim.Native.Nat.{ℕ}
 use mathlib.Core.Bool.{true}
-use mathlib.Core.List.{List, map}
+use mathlib.Core.List.{map}
 use mathlib.Core.Path.{◌≡◌, refl}
 use Rattle.definition.specs.Board.{standard}
 use Rattle.definition.specs.Calls.{Low, answer_number}

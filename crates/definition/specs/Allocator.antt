@@ -1,13 +1,13 @@
 -- The allocator over all regions, after frame.rs: which entries of the boot map are kept, how their pages are laid out, the two passes of a
 -- grant, and the lookup of a page.
-use Rattle.std.specs.Prelude.{ℕ, zero, suc, ◌+◌, ◌-◌, ◌*◌, ◌/◌, Bool, true, false, cond, ◌&&◌, ◌||◌, List, [], ◌∷◌, leb, ltb}
+use Rattle.std.specs.Prelude.{ℕ, ◌+◌, ◌-◌, ◌*◌, ◌/◌, Bool, true, false, cond, ◌&&◌, List, [], ◌∷◌, leb, ltb}
 use Rattle.std.proofs.Math.Option.{Option, none, some}
 use Rattle.definition.specs.declared.MemoryRegion.{MemoryRegion}
 use Rattle.definition.specs.declared.MemoryRegionKind.{MemoryRegionKind}
 use Rattle.definition.specs.declared.MemoryRegionKind.TheVariants.{UsableRam, Reserved, BootloaderReserved}
 use Rattle.definition.specs.Board.{Board}
 use Rattle.definition.specs.Basics.{any, sum, range}
-use Rattle.definition.specs.Frame.{Frame, Frames, Levels, Found, levels, slot, allocate, free, organize}
+use Rattle.definition.specs.Frame.{Frames, Levels, Found, levels, slot, allocate, free, organize}
 
 -- 76, AllocationRegion: its first page, its pages with its tables, and its six lists
 pub record AllocationRegion : Type 0 where

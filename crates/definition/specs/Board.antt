@@ -1,6 +1,6 @@
 -- The numbers that a board fixes, and what must hold of them. Every definition takes a board as an argument, and every proof is of any board that is fit; `standard`
 -- has the Rust's numbers.
-use Rattle.std.specs.Prelude.{ℕ, ◌≤◌, ◌⊎◌, ◌≡◌}
+use Rattle.std.specs.Prelude.{◌≤◌, ◌⊎◌, ◌≡◌}
 use Rattle.definition.specs.declared.Board.{Board as BoardOf}
 
 abbrev pub Board : Type 0

@@ -1,11 +1,10 @@
 -- The book that demand 3 keeps of a list of calls: the held frames and the queue, as an onlooker has them who "sees arguments, acceptance and
 -- granted address". 01 has its rules before "Common ground and departures".
-use Rattle.std.specs.Prelude.{ℕ, zero, suc, ◌+◌, ◌-◌, ◌*◌, ◌/◌, ◌%◌, Bool, true, false, not, cond, ◌&&◌, List, [], ◌∷◌, ◌++◌, eqb}
+use Rattle.std.specs.Prelude.{ℕ, zero, suc, ◌+◌, ◌/◌, ◌%◌, Bool, cond, List, [], ◌∷◌, ◌++◌, eqb}
 use Rattle.std.proofs.Math.Option.{Option, none, some}
 use Rattle.definition.specs.declared.Counters.{Counters}
-use Rattle.definition.specs.declared.Refusal.{Refusal}
 use Rattle.definition.specs.Board.{Board}
-use Rattle.definition.specs.Basics.{sum, Popped, pop_back}
+use Rattle.definition.specs.Basics.{Popped, pop_back}
 use Rattle.definition.specs.Frame.{size, child_count}
 use Rattle.definition.specs.Allocator.{AllocationRegion, total}
 use Rattle.definition.specs.Boot.{counters_at_boot}

@@ -1,5 +1,5 @@
 -- The calls: what each names, which refusal it meets, and what it does where it meets none.
-use Rattle.std.specs.Prelude.{ℕ, zero, suc, ◌+◌, ◌-◌, ◌*◌, ◌/◌, ◌%◌, ◌^◌, Bool, true, false, not, cond, ◌&&◌, ◌||◌, List, [], ◌∷◌, ◌++◌, leb, ltb, eqb, length}
+use Rattle.std.specs.Prelude.{ℕ, zero, suc, ◌+◌, ◌-◌, ◌*◌, ◌/◌, ◌^◌, Bool, not, cond, ◌&&◌, ◌||◌, List, [], ◌∷◌, ◌++◌, leb, ltb, eqb, length}
 use Rattle.std.proofs.Math.Option.{Option, none, some}
 use Rattle.definition.specs.declared.FrameAllocFlags.{FrameAllocFlags}
 use Rattle.definition.specs.declared.Refusal.{Refusal}
@@ -19,7 +19,7 @@ use Rattle.definition.specs.Board.{Board}
 use Rattle.definition.specs.Basics.{any, range, bit, everywhere}
 use Rattle.definition.specs.Refusal.{number_of, Test, ◌when◌, first_met}
 use Rattle.definition.specs.Frame.{size, levels}
-use Rattle.definition.specs.Allocator.{AllocationRegion, contains, end, is_managed, is_listed}
+use Rattle.definition.specs.Allocator.{contains, end, is_managed, is_listed}
 use Rattle.definition.specs.Store.{Store, with_counters, with_queue}
 use Rattle.definition.specs.Contents.{
   frame_bytes,

@@ -1,39 +1,16 @@
 -- Small cases for each line of the refusal sheet and each clause of the torn sheet, with the numbers that the paper gives. Scripts show refusals 1 to 5
 -- and 7 to 17 as the program prints them, `large` what happens to frames above a page and at the round limit, `damaged` refusal 6. That they hold is proved in proofs/Cases.
-use Rattle.std.specs.Prelude.{ℕ, zero, suc, ◌+◌, ◌-◌, Bool, true, false, List, [], ◌∷◌, ◌++◌, length, take, set, replicate, get_or}
+use Rattle.std.specs.Prelude.{ℕ, zero, suc, Bool, true, false, List, [], ◌∷◌, ◌++◌, length, take, set, replicate, get_or}
 use Prim.Native.String.{String}
-use Rattle.address.specs.declared.PhysAddr.{PhysAddr}
 use Rattle.definition.specs.declared.MemoryRegion.{MemoryRegion}
 use Rattle.definition.specs.declared.Links.{Links}
 use Rattle.definition.specs.declared.Row.{Row}
 use Rattle.definition.specs.declared.Counters.{Counters}
-use Rattle.definition.specs.declared.Pass.{Pass}
-use Rattle.definition.specs.declared.FrameAllocFlags.{FrameAllocFlags}
-use Rattle.definition.specs.declared.Refusal.TheVariants.{NoFrame, MustWait, NoFrameStart, NotHeld, PastTheEnd, Outside}
+use Rattle.definition.specs.declared.Refusal.TheVariants.{NoFrame, NoFrameStart, NotHeld, PastTheEnd}
 use Rattle.definition.specs.Board.{Board, standard}
 use Rattle.definition.specs.Text.{bytes_of}
 use Rattle.definition.specs.Boot.{counters_at_boot, kept_regions, boot}
-use Rattle.definition.specs.Calls.{
-  Layout,
-  Call,
-  Alloc,
-  Take,
-  Split,
-  Free,
-  Zero,
-  Dirty,
-  Find,
-  Queue,
-  Fill,
-  Copy,
-  Pcopy,
-  Round,
-  Low,
-  Answer,
-  Refused,
-  Done,
-  run,
-}
+use Rattle.definition.specs.Calls.{Layout, Call, Alloc, Take, Split, Free, Zero, Find, Queue, Fill, Copy, Round, Answer, Refused, Done, run}
 use Rattle.definition.specs.World.{World, no_row, no_links, memory_of, encode}
 use Rattle.definition.specs.Table as Table
 

@@ -1,6 +1,6 @@
 -- The contents of frames, after the methods of frame.rs's Frame: which bytes a call writes, and what becomes of the ZEROED mark. `write` and
 -- `fill` are added by 01. A range is named by its first address and its length in bytes.
-use Rattle.std.specs.Prelude.{ℕ, zero, suc, ◌+◌, ◌-◌, ◌*◌, Bool, true, false, not, cond, ◌&&◌, List, [], ◌∷◌, leb, ltb, eqb, length, get_or}
+use Rattle.std.specs.Prelude.{ℕ, zero, suc, ◌+◌, ◌-◌, ◌*◌, Bool, true, false, cond, ◌&&◌, List, [], ◌∷◌, leb, ltb, eqb, length, get_or}
 use Rattle.std.proofs.Math.Option.{Option, none, some}
 use Rattle.definition.specs.Board.{Board}
 use Rattle.definition.specs.Frame.{Frame, size, with_zeroed, is_zeroed}

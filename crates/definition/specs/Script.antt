@@ -1,9 +1,8 @@
 -- 01, "The script program": lines in, lines out, to the byte. A script is a list of bytes; `output_of` is what the program prints for it, and `world_after`
 -- what it leaves in the loans, with every call on the bytes that the last one left.
-use Rattle.std.specs.Prelude.{ℕ, zero, suc, ◌+◌, ◌-◌, ◌*◌, ◌/◌, ◌%◌, ◌^◌, Bool, true, false, not, cond, ◌&&◌, ◌||◌, List, [], ◌∷◌, ◌++◌, leb, ltb, eqb, length, get_or}
+use Rattle.std.specs.Prelude.{ℕ, zero, suc, ◌+◌, ◌-◌, ◌*◌, ◌/◌, ◌%◌, ◌^◌, Bool, true, false, cond, ◌&&◌, List, [], ◌∷◌, ◌++◌, leb, ltb, eqb, length, get_or}
 use Prim.Native.String.{String}
 use Rattle.std.proofs.Math.Option.{Option, none, some}
-use Rattle.address.specs.declared.PhysAddr.{PhysAddr}
 use Rattle.definition.specs.declared.MemoryRegion.{MemoryRegion}
 use Rattle.definition.specs.declared.MemoryRegionKind.{MemoryRegionKind}
 use Rattle.definition.specs.declared.MemoryRegionKind.TheVariants.{UsableRam, Reserved, BootloaderReserved}
@@ -11,7 +10,6 @@ use Rattle.definition.specs.declared.FrameAllocFlags.{FrameAllocFlags}
 use Rattle.definition.specs.declared.Refusal.{Refusal}
 use Rattle.definition.specs.declared.Refusal.TheVariants.{BadLine}
 use Rattle.definition.specs.Board.{Board}
-use Rattle.definition.specs.Basics.{is_some}
 use Rattle.definition.specs.Text.{bytes_of, digits_of}
 use Rattle.definition.specs.Refusal.{number_of, first_met}
 use Rattle.definition.specs.Store.{Store}

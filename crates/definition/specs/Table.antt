@@ -1,18 +1,15 @@
 -- 01, "Table T", as one table: a boot map, calls on it, and what the paper says is seen then. `table_t` has its rows T1 to T12, `slips` the runs in
 -- which the four slips that it names would show. That each row holds is one theorem, in proofs/Table.
-use Rattle.std.specs.Prelude.{ℕ, zero, suc, ◌+◌, ◌-◌, ◌*◌, Bool, true, false, List, [], ◌∷◌, ◌++◌, map, length, drop, replicate}
-use Rattle.address.specs.declared.PhysAddr.{PhysAddr}
+use Rattle.std.specs.Prelude.{ℕ, zero, suc, ◌+◌, ◌-◌, Bool, true, false, List, [], ◌∷◌, ◌++◌, length, drop, replicate}
 use Rattle.definition.specs.declared.MemoryRegion.{MemoryRegion}
 use Rattle.definition.specs.declared.MemoryRegionKind.TheVariants.{UsableRam}
-use Rattle.definition.specs.declared.FrameAllocFlags.{FrameAllocFlags}
 use Rattle.definition.specs.declared.Refusal.TheVariants.{NoFrame}
-use Rattle.definition.specs.Board.{Board, standard}
+use Rattle.definition.specs.Board.{standard}
 use Rattle.definition.specs.Basics.{sum}
 use Rattle.definition.specs.Frame.{slot}
-use Rattle.definition.specs.Allocator.{AllocationRegion}
 use Rattle.definition.specs.Store.{Store}
 use Rattle.definition.specs.Boot.{boot, kept_regions, managed_pages}
-use Rattle.definition.specs.Calls.{Layout, Call, Alloc, Free, Zero, Queue, Round, Low, Answer, Refused, Done, Ran, run}
+use Rattle.definition.specs.Calls.{Call, Alloc, Free, Zero, Queue, Round, Low, Answer, Refused, Done, Ran, run}
 
 -- managed pages, the last answers, idle pages, and the frames listed at levels 0, 1 and 2
 pub record Seen : Type 0 where

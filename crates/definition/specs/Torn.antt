@@ -1,6 +1,6 @@
 -- 01's torn sheet, "Torn unless all hold": each sentence is a test of its own over the world, and `Sound` has a field for each. A later call on a
 -- torn world is refused 6 and changes nothing; on a sound one it is the step of the store that the world stands for.
-use Rattle.std.specs.Prelude.{ℕ, zero, suc, ◌+◌, ◌-◌, ◌*◌, ◌/◌, ◌%◌, Bool, true, false, not, cond, ◌&&◌, ◌||◌, List, [], ◌∷◌, ◌++◌, ◌≡◌, leb, ltb, eqb, length, get_or, drop}
+use Rattle.std.specs.Prelude.{ℕ, zero, suc, ◌+◌, ◌-◌, ◌*◌, ◌/◌, ◌%◌, Bool, true, false, not, cond, ◌&&◌, ◌||◌, List, [], ◌∷◌, ◌≡◌, leb, ltb, eqb, length, get_or, drop}
 use Rattle.std.proofs.Math.Option.{Option, none, some}
 use Rattle.definition.specs.declared.Record.{Record}
 use Rattle.definition.specs.declared.Links.{Links}
@@ -13,7 +13,7 @@ use Rattle.definition.specs.declared.Refusal.TheVariants.{Torn}
 use Rattle.definition.specs.Board.{Board}
 use Rattle.definition.specs.Basics.{all, sum, range, member, bit}
 use Rattle.definition.specs.Frame.{size, levels, slot}
-use Rattle.definition.specs.Allocator.{AllocationRegion, table_pages, first, managed, end, total}
+use Rattle.definition.specs.Allocator.{AllocationRegion, table_pages, first, managed, total}
 use Rattle.definition.specs.Boot.{managed_pages, overlap, most_rows, highest_address, most_pages, record_size, boot_sheet, kept_regions, boot}
 use Rattle.definition.specs.Refusal.{first_met}
 use Rattle.definition.specs.Calls.{Call, Answer, Refused, Done, Outcome, step}

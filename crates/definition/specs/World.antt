@@ -1,8 +1,7 @@
 -- All that a call is given: the rows, the counters, the queue's count and the pass, and the loans whole, as lists of bytes and of
 -- addresses. `decode` reads a store out of it, `encode` writes one into it in the format that 01 fixes under "What changes shape".
-use Rattle.std.specs.Prelude.{ℕ, zero, suc, ◌+◌, ◌-◌, ◌*◌, ◌/◌, ◌%◌, Bool, true, false, cond, List, [], ◌∷◌, ◌++◌, map, eqb, length, get_or, take, drop, replicate}
+use Rattle.std.specs.Prelude.{ℕ, zero, suc, ◌+◌, ◌-◌, ◌*◌, ◌/◌, ◌%◌, Bool, false, cond, List, [], ◌∷◌, ◌++◌, map, eqb, length, get_or, take, drop, replicate}
 use Rattle.std.proofs.Math.Option.{Option, none, some}
-use Rattle.address.specs.declared.PhysAddr.{PhysAddr}
 use Rattle.definition.specs.declared.Record.{Record}
 use Rattle.definition.specs.declared.Links.{Links}
 use Rattle.definition.specs.declared.Row.{Row}
@@ -11,7 +10,7 @@ use Rattle.definition.specs.declared.Pass.{Pass}
 use Rattle.definition.specs.Board.{Board}
 use Rattle.definition.specs.Basics.{bit, range}
 use Rattle.definition.specs.Frame.{Frame, Frames, slot, levels}
-use Rattle.definition.specs.Allocator.{AllocationRegion, table_pages, first, managed, contains}
+use Rattle.definition.specs.Allocator.{AllocationRegion, first, managed, contains}
 use Rattle.definition.specs.Store.{Memory, Store}
 use Rattle.definition.specs.Contents.{bytes_at}
 use Rattle.definition.specs.Boot.{managed_pages, most_rows, record_size}

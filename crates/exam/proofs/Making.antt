@@ -2,7 +2,7 @@
 -- it turned, the bytes that it wrote, and the counters, queue and pass. `leaves_made` is the one law at the door: with the torn test before it, a call is
 -- definition's `call`; `sound_ready` is what the test gives.
 use Prim.Native.Nat.{ℕ, ◌+◌, ◌*◌, ◌/◌, ◌%◌, ◌≤◌, ◌<◌}
-use mathlib.Core.Bool.{Bool, true, false}
+use mathlib.Core.Bool.{true}
 use mathlib.Core.List.{List}
 use mathlib.Core.Option.{none, some}
 use mathlib.Core.Path.{◌≡◌, refl, sym, ap, ◌∙◌}
@@ -21,20 +21,19 @@ use Rattle.definition.specs.Refusal.{first_met, number_of}
 use Rattle.definition.specs.Calls.{Call, Outcome, Refused, done, names, perform, sheet, step}
 use Rattle.definition.specs.Store.{Kept, Store}
 use Rattle.definition.specs.World.{World, decode, encode, record_at}
-use Rattle.definition.specs.Torn.{Sound, call, regions_of, sound}
+use Rattle.definition.specs.Torn.{Sound, call, sound}
 use Rattle.definition.proofs.Bytes.{pages_same}
 use Rattle.definition.proofs.Tests.{and_left, and_right}
 use Rattle.record.specs.Records.{pages_in}
-use Rattle.words.specs.Words.{board_in, Long, pass_in, rows_in}
+use Rattle.words.specs.Words.{board_in, Long, pass_in}
 use Rattle.audit.proofs.Sheets.{sound_is}
 use Rattle.world.specs.Refusals.{frame_refusal, range_of, refusal_of}
-use Rattle.world.specs.Stands.{Stands}
 use Rattle.world.specs.Tables.{Table, Turned}
 use Rattle.world.proofs.Calling.{none_met, one_met}
 use Rattle.world.proofs.Encoding.{ends_agree, stands_encode}
 use Rattle.world.proofs.RoundTrip.{decode_stands, sound_sane}
 use Rattle.world.proofs.Sheets.{as_boot_lem}
-use Rattle.world.proofs.Spans.{bared, managed_spans, rewritten_same, spans_bare, spans_turned, turned_bare}
+use Rattle.world.proofs.Spans.{managed_spans, rewritten_same, spans_bare, spans_turned, turned_bare}
 use Rattle.world.proofs.Writing.{Rewritten}
 use Rattle.allocator.specs.Spots.{Sees, number_at}
 use Rattle.allocator.proofs.Turning.{sees_number}

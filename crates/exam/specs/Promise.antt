@@ -1,6 +1,6 @@
 -- What a call promises: `Leaves w c v y`, that what it leaves is v and what it answers is y, as definition's `call` says of the world w that it was given. The
 -- rest names what the parts of a call promise each other.
-use Rattle.std.specs.Prelude.{ℕ, ◌+◌, ◌*◌, ◌/◌, ◌%◌, ◌≤◌, ◌<◌, Bool, true, false, not, cond, ◌&&◌, List, ◌≡◌, eqb, ltb, length}
+use Rattle.std.specs.Prelude.{ℕ, ◌+◌, ◌*◌, ◌/◌, ◌%◌, ◌≤◌, ◌<◌, true, not, cond, ◌&&◌, List, ◌≡◌, eqb, ltb, length}
 use Rattle.definition.specs.declared.Record.{Record}
 use Rattle.definition.specs.declared.Row.{Row}
 use Rattle.definition.specs.declared.Counters.{Counters}

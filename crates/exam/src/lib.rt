@@ -1,6 +1,7 @@
 // What every call shares: its answer, the torn test (refusal 6), which comes before a call or a list of calls, and the refusals of a frame
 // that must be held (11 to 14). A call is lent what it reads and writes of the state, and promises `Makes` of specs/Making.antt.
 #![tactic(auto)]
+
 ghost use Rattle.std.specs.Prelude.{◌≡◌, ℕ, ◌+◌, ◌*◌, ◌/◌, ◌%◌, ◌<◌, ◌^◌};
 ghost use Rattle.definition.specs.Board.{Fit};
 ghost use Rattle.definition.specs.Torn.{sound};

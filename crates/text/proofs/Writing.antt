@@ -1,5 +1,5 @@
 -- Laws of `Wrote`: one text after another is one text, and an equal text serves as well. The last law is of a part that goes to its list's end.
-use Prim.Native.Nat.{ℕ, ◌+◌, ◌-◌, ◌≤◌}
+use Prim.Native.Nat.{ℕ, ◌-◌, ◌≤◌}
 use mathlib.Core.List.{List, ◌++◌}
 use mathlib.Core.Path.{◌≡◌}
 use native.Mathlib.Omega.{arith}

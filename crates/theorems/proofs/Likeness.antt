@@ -13,7 +13,7 @@ use Rattle.definition.specs.declared.Refusal.{Refusal}
 use Rattle.definition.specs.Basics.{is_some}
 use Rattle.definition.specs.Board.{Board}
 use Rattle.definition.specs.Boot.{kept_regions, boot_sheet}
-use Rattle.definition.specs.Calls.{Call, Answer, Ran, step, run}
+use Rattle.definition.specs.Calls.{Call, Answer, Ran, step}
 use Rattle.definition.specs.Refusal.{first_met}
 use Rattle.definition.specs.Rust as Rust
 use Rattle.definition.specs.Rust.{ground_map, common_ground}

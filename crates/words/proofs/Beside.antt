@@ -5,7 +5,7 @@ use mathlib.Core.Path.{◌≡◌, refl, sym, ◌∙◌}
 use native.Mathlib.Decide.{ℕ_discrete}
 use native.Mathlib.Nat.{zero-add}
 use native.Mathlib.Omega.{arith}
-use lib.ListN.{length, drop, set, length-drop, length-set}
+use lib.ListN.{drop, set, length-drop, length-set}
 use lib.Seq.{ext_get_or, get_or-drop, get_or-set_same, get_or-set_other, set-get_or, drop-set-lt}
 use Rattle.definition.specs.declared.Links.{Links}
 use Rattle.definition.specs.declared.Pass.{Pass}

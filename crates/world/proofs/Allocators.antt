@@ -1,41 +1,25 @@
 -- What the definition's allocator does over all regions, where it comes to the region i: a free finds the one region that has the page, and a grant the first
 -- that has a frame. The other regions stay as they were.
 use Prim.Native.Nat.{ℕ, zero, suc, ◌+◌, ◌≤◌, ◌<◌}
-use mathlib.Core.Bool.{Bool, true, false, ◌&&◌}
+use mathlib.Core.Bool.{Bool, true, false}
 use mathlib.Core.List.{List, [], ◌∷◌}
-use mathlib.Core.Option.{Option, none, some}
-use mathlib.Core.Path.{◌≡◌, refl, sym, ap, ◌∙◌, subst}
-use native.Mathlib.Decide.{dec_le, dec_lt}
+use mathlib.Core.Option.{none, some}
+use mathlib.Core.Path.{◌≡◌, refl, ap}
 use native.Mathlib.Omega.{arith}
 use borrow.Author.Tests.{le-leb, lt-ltb, leb-true, ltb-true}
 use lib.Dec.{leb}
 use lib.ListN.{length, set}
 use Rattle.definition.specs.declared.Record.{Record}
 use Rattle.definition.specs.declared.Row.{Row}
-use Rattle.definition.specs.Basics.{everywhere, any}
+use Rattle.definition.specs.Basics.{everywhere}
 use Rattle.definition.specs.Board.{Board}
-use Rattle.definition.specs.Frame.{Found, Frames, Levels, allocate, free}
-use Rattle.definition.specs.Allocator.{
-  AllocationRegion,
-  Allocated,
-  PhysicalFrameAllocator,
-  behind_region,
-  contains,
-  end,
-  first,
-  free_in,
-  is_managed,
-  laid_out,
-  levels_of,
-  or_next_region,
-  pass,
-  with_free,
-}
+use Rattle.definition.specs.Frame.{Found, Frames, allocate, free}
+use Rattle.definition.specs.Allocator.{AllocationRegion, behind_region, contains, end, first, free_in, levels_of, pass, with_free}
 use Rattle.definition.proofs.Tests.{and_left, and_right, and-true}
 use Rattle.region.specs.Rep.{Inside, from_of, managed}
-use Rattle.world.specs.Stands.{Disjoint, Each, Parted, StandRows, StandsRow, region_at, row_at}
-use Rattle.world.specs.Stands.Disjoint.{disjoint_none, disjoint_more}
-use Rattle.world.specs.Stands.StandRows.{stand_none, stand_more}
+use Rattle.world.specs.Stands.{Disjoint, StandRows, StandsRow, region_at, row_at}
+use Rattle.world.specs.Stands.Disjoint.{disjoint_more}
+use Rattle.world.specs.Stands.StandRows.{stand_more}
 use Rattle.world.proofs.Sheets.{each_at}
 
 -- ---- which region has a page

@@ -2,7 +2,7 @@
 use Prim.Native.Nat.{ℕ, ◌<◌}
 use mathlib.Core.Bool.{true, false}
 use mathlib.Core.Option.{Option, none, some}
-use mathlib.Core.Path.{◌≡◌, refl, sym, ap, ◌∙◌}
+use mathlib.Core.Path.{◌≡◌, refl, sym, ap}
 use native.Mathlib.Omega.{arith}
 use Rattle.definition.specs.declared.Refusal.{Refusal}
 use Rattle.definition.specs.declared.Refusal.TheVariants.{
@@ -26,9 +26,9 @@ use Rattle.definition.specs.declared.Refusal.TheVariants.{
 }
 use Rattle.definition.specs.Board.{Board}
 use Rattle.definition.specs.Refusal.{first_met, number_of}
-use Rattle.definition.specs.Calls.{Call, Answer, Refused, Outcome, names, perform, sheet, step}
+use Rattle.definition.specs.Calls.{Call, Refused, Outcome, names, perform, sheet, step}
 use Rattle.definition.specs.World.{World, decode, encode}
-use Rattle.definition.specs.Torn.{Left, call, sound}
+use Rattle.definition.specs.Torn.{call, sound}
 use Rattle.world.specs.Refusals.{number_if}
 
 module _ (board : Board) where

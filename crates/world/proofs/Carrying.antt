@@ -1,9 +1,8 @@
 -- The allocator of one region acts alike on a state by page numbers and on the same state by page frame numbers: each function of definition's Frame
 -- keeps `Shifted`, answers the same page, and changes no frame outside the region.
 use Prim.Native.Nat.{ℕ, zero, suc, ◌+◌, ◌-◌, ◌*◌, ◌≤◌, ◌<◌}
-use mathlib.Core.Bool.{Bool, true, false, cond}
+use mathlib.Core.Bool.{Bool, true, false}
 use mathlib.Core.List.{List, [], ◌∷◌, ◌++◌, map, map-append}
-use mathlib.Core.Logic.{◌≢◌}
 use mathlib.Core.Option.{Option, none, some}
 use mathlib.Core.Path.{◌≡◌, refl, sym, ap, ◌∙◌, subst}
 use native.Mathlib.Decide.{ℕ_discrete}
@@ -12,38 +11,7 @@ use native.Mathlib.Omega.{arith}
 use borrow.Author.Tests.{eq-eqb, ne_eqb}
 use Rattle.definition.specs.Board.{Board}
 use Rattle.definition.specs.Basics.{everywhere, Popped, or_this, pop_last, pop_back, upd}
-use Rattle.definition.specs.Frame.{
-  Found,
-  Frame,
-  Frames,
-  Levels,
-  allocate,
-  change,
-  changed,
-  children,
-  do_allocate,
-  free,
-  freed,
-  is_zeroed,
-  held_child,
-  highest,
-  kept,
-  kept_at,
-  level_allocate,
-  nothing,
-  or_else,
-  organize,
-  pop_from,
-  popped,
-  push,
-  set_allocated,
-  size,
-  slot,
-  split,
-  split_and_keep,
-  then_split,
-  with_allocated,
-}
+use Rattle.definition.specs.Frame.{Found, Frame, Levels, allocate, change, changed, children, do_allocate, free, freed, is_zeroed, held_child, highest, kept, kept_at, level_allocate, nothing, or_else, organize, pop_from, popped, push, set_allocated, size, slot, split, split_and_keep, then_split, with_allocated}
 use Rattle.definition.proofs.Basics.{upd_other, upd_same}
 use Rattle.level.proofs.Sizes.{size_next, size_positive}
 use Rattle.list.proofs.Laws.{all_append}
@@ -52,7 +20,7 @@ use Rattle.list.specs.Linked.All.{all_more, all_none}
 use Rattle.region.proofs.Granting.{granted_none, granted_page}
 use Rattle.region.proofs.Laws.{or_none_lem, or_page}
 use Rattle.region.proofs.Splitting.{child_ends}
-use Rattle.region.proofs.Tiling.{Good, Fine, fine_do, parted_none, parted_page, splits}
+use Rattle.region.proofs.Tiling.{Good, fine_do, parted_none, parted_page, splits}
 use Rattle.region.proofs.Laying.{best}
 use Rattle.region.specs.Rep.{Best, Inside, managed}
 use Rattle.world.specs.Stands.{shift, Shifted, Carried, Alike, shifted}

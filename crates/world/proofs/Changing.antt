@@ -2,9 +2,8 @@
 -- region stays sound, whole and what it stood for.
 use Prim.Native.Nat.{ℕ, zero, suc, ◌+◌, ◌≤◌, ◌<◌}
 use mathlib.Core.List.{List, [], ◌∷◌, map}
-use mathlib.Core.Logic.{◌≢◌}
-use mathlib.Core.Option.{none, some}
-use mathlib.Core.Path.{◌≡◌, refl, sym, ap, ◌∙◌, subst}
+use mathlib.Core.Option.{none}
+use mathlib.Core.Path.{◌≡◌, sym, ap, ◌∙◌, subst}
 use native.Mathlib.Omega.{arith}
 use lib.ListN.{length, set}
 use Rattle.definition.specs.Board.{Board}
@@ -36,7 +35,7 @@ use Rattle.world.specs.Stands.{
 use Rattle.world.specs.Stands.StandRows.{stand_none, stand_more}
 use Rattle.world.specs.Stands.GoodRows.{good_none, good_more}
 use Rattle.world.specs.Stands.Each.{each_none, each_more}
-use Rattle.world.specs.Stands.Disjoint.{disjoint_none, disjoint_more}
+use Rattle.world.specs.Stands.Disjoint.{disjoint_more}
 use Rattle.world.proofs.Carrying.{shift_in}
 use Rattle.world.proofs.Sheets.{base_low, each_at}
 

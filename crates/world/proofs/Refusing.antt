@@ -1,14 +1,11 @@
 -- Which refusal a call gives, from what it names: each kind of call has one law, by which the number is that of its frames, places and layouts alone.
-use Prim.Native.Nat.{ℕ, ◌+◌, ◌*◌, ◌/◌, ◌%◌, ◌≤◌, ◌<◌}
+use Prim.Native.Nat.{ℕ}
 use mathlib.Core.Bool.{Bool, true, false, not, cond, ◌&&◌, ◌||◌}
 use mathlib.Core.List.{List, [], ◌∷◌, ◌++◌}
-use mathlib.Core.Option.{Option, none, some}
+use mathlib.Core.Option.{none}
 use mathlib.Core.Path.{◌≡◌, refl, sym, ap, ◌∙◌}
-use native.Mathlib.Omega.{arith}
-use borrow.Author.Tests.{le-leb, lt-ltb, leb-true, ltb-true}
-use lib.Dec.{eqb, leb, ltb}
+use lib.Dec.{leb, ltb}
 use lib.ListN.{length}
-use Rattle.definition.specs.declared.Refusal.{Refusal}
 use Rattle.definition.specs.declared.Refusal.TheVariants.{
   BadLayout,
   NoLevel,
@@ -23,8 +20,7 @@ use Rattle.definition.specs.declared.Refusal.TheVariants.{
 }
 use Rattle.definition.specs.Basics.{any}
 use Rattle.definition.specs.Board.{Board}
-use Rattle.definition.specs.Refusal.{Test, ◌when◌, number_of, or_later, place_in, first_met}
-use Rattle.definition.specs.Allocator.{AllocationRegion, contains, end}
+use Rattle.definition.specs.Refusal.{Test, ◌when◌, or_later, place_in, first_met}
 use Rattle.definition.specs.Store.{Store}
 use Rattle.definition.specs.Tracker.{starts_frame, is_held}
 use Rattle.definition.specs.Calls.{

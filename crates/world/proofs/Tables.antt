@@ -3,9 +3,8 @@
 use Prim.Native.Nat.{ℕ, zero, suc, ◌+◌, ◌≤◌, ◌<◌}
 use mathlib.Core.Bool.{Bool, true, false, cond}
 use mathlib.Core.List.{List, [], ◌∷◌}
-use mathlib.Core.Path.{◌≡◌, refl, sym, ap, ◌∙◌, subst}
+use mathlib.Core.Path.{◌≡◌, refl, sym, ap, ◌∙◌}
 use native.Mathlib.Omega.{arith}
-use borrow.Author.Tests.{eqb-true, eq-eqb, ne_eqb, eqb-false}
 use lib.Dec.{eqb}
 use lib.ListN.{length, set, drop, length-set}
 use Rattle.definition.specs.declared.Record.{Record}
@@ -17,7 +16,7 @@ use Rattle.definition.specs.Allocator.{AllocationRegion, PhysicalFrameAllocator,
 use Rattle.definition.specs.Boot.{managed_pages}
 use Rattle.definition.specs.World.{bare_region, used_rows}
 use Rattle.definition.specs.Torn.{bare_regions, regions_of}
-use Rattle.region.specs.Rep.{Becomes, Inside, WholeRow, from_of, managed}
+use Rattle.region.specs.Rep.{Becomes, WholeRow, from_of, managed}
 use Rattle.world.specs.Stands.{Carried, Disjoint, Each, Parted, base_at, region_at, row_at}
 use Rattle.world.specs.Stands.Disjoint.{disjoint_none, disjoint_more}
 use Rattle.world.specs.Stands.Each.{each_none, each_more}

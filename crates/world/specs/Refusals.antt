@@ -1,6 +1,6 @@
 -- The refusal sheet by numbers, as a call answers it: 0 where no line is met. A frame that a call names, with a range of it, and a place that it names, each have
 -- their own lines; a call that names two gives the refusal of theirs that is tried first.
-use Rattle.std.specs.Prelude.{ℕ, Bool, not, cond, List, [], ◌∷◌, eqb, ltb}
+use Rattle.std.specs.Prelude.{ℕ, not, cond, List, [], ◌∷◌, eqb, ltb}
 use Rattle.std.proofs.Math.Option.{Option, none, some}
 use Rattle.definition.specs.declared.Refusal.{Refusal}
 use Rattle.definition.specs.declared.Refusal.TheVariants.{Outside, NoFrameStart, NotHeld, PastTheEnd}

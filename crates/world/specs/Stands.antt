@@ -1,7 +1,7 @@
 -- What a world stands for, region by region. A region's records and lists go by page number (`region`), a store's frames and lists by page frame number
 -- (`definition`); `Shifted` says that two states are one but for that, and `Stands` that a whole world, every byte of it, is a store's. `GoodRows` and
 -- `Disjoint` are what the torn sheet says of the rows in use.
-use Rattle.std.specs.Prelude.{ℕ, zero, suc, ◌+◌, ◌-◌, ◌*◌, ◌/◌, ◌%◌, ◌≤◌, ◌<◌, ◌^◌, List, [], ◌∷◌, map, ◌≡◌, get_or, length, take, drop, replicate}
+use Rattle.std.specs.Prelude.{ℕ, zero, suc, ◌+◌, ◌-◌, ◌*◌, ◌/◌, ◌%◌, ◌≤◌, ◌<◌, List, [], ◌∷◌, map, ◌≡◌, get_or, length, take, drop, replicate}
 use Rattle.std.proofs.Math.Option.{Option, none, some}
 use Rattle.definition.specs.declared.Record.{Record}
 use Rattle.definition.specs.declared.Row.{Row}

@@ -1,6 +1,6 @@
 -- The table of a store: its rows and its records, which stand for the allocator of definition's Allocator. `Sane` is what the audit establishes, `Table` names
 -- the allocator, `Turned` says what a call leaves: another table, over the same regions, and every record past the managed pages as it was.
-use Rattle.std.specs.Prelude.{ℕ, ◌-◌, ◌≤◌, ◌<◌, Bool, true, List, ◌≡◌, length, drop, replicate}
+use Rattle.std.specs.Prelude.{ℕ, ◌-◌, ◌≤◌, ◌<◌, List, ◌≡◌, length, drop, replicate}
 use Rattle.definition.specs.declared.Record.{Record}
 use Rattle.definition.specs.declared.Row.{Row}
 use Rattle.definition.specs.Board.{Board}

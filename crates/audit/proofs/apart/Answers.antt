@@ -2,7 +2,6 @@
 use mathlib.Core.Bool.{not}
 use mathlib.Core.Path.{sym, ap}
 use native.Mathlib.Omega.{arith}
-use borrow.Author.Rules.{rules}
 use Rattle.words.specs.Words.{board_in, rows_in}
 use Rattle.audit.proofs.Bare.{overlap_none}
 use Rattle.audit.proofs.apart.Goals as goal

@@ -1,5 +1,5 @@
 -- `managed_pages` meets its contract. The loop's invariant: the pages passed, with those of the rows left, are all, which are at most 2^20.
-use Prim.Native.Nat.{◌+◌, ◌-◌, ◌≤◌}
+use Prim.Native.Nat.{◌+◌}
 use mathlib.Core.Path.{◌≡◌}
 use native.Mathlib.Omega.{arith}
 use borrow.Author.Rules.{rules}

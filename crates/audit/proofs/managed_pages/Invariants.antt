@@ -1,14 +1,9 @@
 -- `managed_pages` meets its contract. The loop's invariant: the pages passed, with those of the rows left, are all, which are at most 2^20.
 use Prim.Native.Nat.{◌+◌, ◌-◌, ◌≤◌}
 use mathlib.Core.Path.{◌≡◌}
-use native.Mathlib.Omega.{arith}
-use borrow.Author.Rules.{rules}
 use Rattle.definition.specs.Boot.{managed_pages}
 use Rattle.definition.specs.Torn.{regions_of}
-use Rattle.audit.specs.Sheet.{row_at}
-use Rattle.audit.proofs.Booted.{few_pages}
-use Rattle.audit.proofs.Counting.{left_of, left_more, left_none, managed_row, managed_all}
-use Rattle.audit.proofs.Regions.{managed_most, Turn, turn}
+use Rattle.audit.proofs.Counting.{left_of, managed_row}
 use Rattle.audit.proofs.managed_pages.Given as goal
 
 abbrev pub invariant-loop-i : goal.invariant-loop-i

@@ -1,12 +1,10 @@
 -- `overlaps` meets its contract. The loop's invariant: two of the regions share a page exactly if two of those that are left do.
-use Prim.Native.Nat.{◌-◌, ◌≤◌}
-use mathlib.Core.Path.{◌≡◌, refl, sym, ap, ◌∙◌}
+use mathlib.Core.Path.{refl, sym, ap, ◌∙◌}
 use native.Mathlib.Omega.{arith}
-use lib.ListN.{drop}
 use borrow.Author.Rules.{rules}
 use Rattle.definition.specs.Boot.{overlap}
 use Rattle.definition.specs.World.{used_rows}
-use Rattle.definition.specs.Torn.{bare_regions, regions_of}
+use Rattle.definition.specs.Torn.{bare_regions}
 use Rattle.audit.proofs.Onward.{drop_past}
 use Rattle.audit.proofs.Used.{used_at}
 use Rattle.audit.proofs.Bare.{overlap_on, overlap_off}

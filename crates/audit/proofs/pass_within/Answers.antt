@@ -1,8 +1,7 @@
 -- `pass_within` meets its contract. Its tests are the sheet's, one by one: with the rounds within the limit the product can't wrap.
-use Prim.Native.Nat.{◌+◌, ◌*◌, ◌≤◌}
+use Prim.Native.Nat.{◌+◌, ◌≤◌}
 use native.Mathlib.Nat.{mul-le-mul}
 use native.Mathlib.Omega.{arith}
-use borrow.Author.Rules.{rules}
 use borrow.Author.Tests.{le-leb, lt-leb}
 use Rattle.audit.proofs.pass_within.Goals as goal
 

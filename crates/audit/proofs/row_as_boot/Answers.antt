@@ -2,8 +2,7 @@
 use Prim.Native.Nat.{◌+◌, ◌*◌, ◌/◌, ◌≤◌, ◌<◌}
 use mathlib.Core.Path.{sym, ◌∙◌}
 use native.Mathlib.Omega.{arith}
-use borrow.Author.Rules.{rules}
-use borrow.Author.Tests.{eqb-true, not-true, not-false}
+use borrow.Author.Tests.{eqb-true}
 use Rattle.definition.specs.Boot.{highest_address}
 use Rattle.definition.proofs.Boards.{page_least}
 use Rattle.definition.proofs.Bytes.{address_is, pages_bound, pages_order}

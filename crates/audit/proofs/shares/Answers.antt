@@ -1,6 +1,5 @@
 -- `shares` meets its contract. The sums of pages are small, since each row ends by 2^40.
 use native.Mathlib.Omega.{arith}
-use borrow.Author.Rules.{rules}
 use Rattle.definition.proofs.Boards.{page_least}
 use Rattle.audit.proofs.Booted.{booted, few_pages}
 use Rattle.audit.proofs.Bare.{shares_on, shares_off}

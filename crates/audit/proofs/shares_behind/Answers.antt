@@ -1,8 +1,6 @@
 -- `shares_behind` meets its contract. The loop's invariant: the row shares a page with one behind it exactly if it does with one of those that are left.
-use Prim.Native.Nat.{◌+◌, ◌-◌, ◌≤◌}
-use mathlib.Core.Path.{◌≡◌, refl, sym, ap, ◌∙◌}
+use mathlib.Core.Path.{refl, sym, ap, ◌∙◌}
 use native.Mathlib.Omega.{arith}
-use lib.ListN.{drop}
 use borrow.Author.Rules.{rules}
 use Rattle.definition.specs.Basics.{any}
 use Rattle.definition.specs.Boot.{shares}

@@ -1,18 +1,11 @@
 -- `shares_behind` meets its contract. The loop's invariant: the row shares a page with one behind it exactly if it does with one of those that are left.
 use Prim.Native.Nat.{◌+◌, ◌-◌, ◌≤◌}
-use mathlib.Core.Path.{◌≡◌, refl, sym, ap, ◌∙◌}
-use native.Mathlib.Omega.{arith}
+use mathlib.Core.Path.{◌≡◌}
 use lib.ListN.{drop}
-use borrow.Author.Rules.{rules}
 use Rattle.definition.specs.Basics.{any}
 use Rattle.definition.specs.Boot.{shares}
 use Rattle.definition.specs.World.{used_rows, bare_region}
 use Rattle.definition.specs.Torn.{bare_regions}
-use Rattle.audit.specs.Sheet.{row_at}
-use Rattle.audit.proofs.Onward.{drop_past, any_on, any_off}
-use Rattle.audit.proofs.Used.{used_eight, used_at}
-use Rattle.audit.proofs.Booted.{used_booted}
-use Rattle.audit.proofs.Bare.{regions_on}
 use Rattle.audit.proofs.shares_behind.Given as goal
 
 abbrev pub invariant-loop-j : goal.invariant-loop-j

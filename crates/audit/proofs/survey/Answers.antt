@@ -1,8 +1,7 @@
 -- `survey` meets its contract. The loop's invariant is `Surveying`: what is left decides as the whole does.
-use Prim.Native.Nat.{◌-◌, ◌/◌}
+use Prim.Native.Nat.{◌/◌}
 use mathlib.Core.Path.{◌≡◌, sym, ◌∙◌}
 use native.Mathlib.Omega.{arith}
-use borrow.Author.Rules.{rules}
 use borrow.Author.Tests.{not-false, not-true}
 use lib.ListN.{length}
 use Rattle.definition.specs.World.{record_at}
@@ -11,7 +10,7 @@ use Rattle.words.proofs.Words.{fit_in}
 use Rattle.words.proofs.Places.{in_use}
 use Rattle.audit.specs.Sheet.{row_at}
 use Rattle.audit.proofs.Arrays.{words_eight}
-use Rattle.audit.proofs.Surveying.{Surveying, survey_none, torn_row, past_row, survey_ended, survey_all}
+use Rattle.audit.proofs.Surveying.{survey_none, torn_row, past_row, survey_ended, survey_all}
 use Rattle.audit.proofs.survey.Goals as goal
 use Rattle.audit.proofs.survey.Goals.{Else-pages_at-eq0}
 

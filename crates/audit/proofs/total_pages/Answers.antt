@@ -1,15 +1,11 @@
 -- `total_pages` meets its contract. The loop's invariant: the pages counted and those of the rows that are left are all, and each row passed has
 -- at most 2^28, since it ends by 2^40.
-use Prim.Native.Nat.{◌+◌, ◌-◌, ◌*◌, ◌≤◌}
-use mathlib.Core.Path.{◌≡◌, ap}
+use mathlib.Core.Path.{ap}
 use native.Mathlib.Omega.{arith}
-use lib.ListN.{drop}
-use borrow.Author.Rules.{rules}
 use Rattle.definition.specs.Basics.{sum}
-use Rattle.definition.specs.Board.{Board}
 use Rattle.definition.specs.Allocator.{total}
 use Rattle.definition.specs.World.{used_rows}
-use Rattle.definition.specs.Torn.{bare_regions, regions_of}
+use Rattle.definition.specs.Torn.{bare_regions}
 use Rattle.audit.proofs.Onward.{drop_past}
 use Rattle.audit.proofs.Used.{used_eight, used_at}
 use Rattle.audit.proofs.Booted.{booted_at, few_pages}

@@ -1,5 +1,4 @@
 -- `within` meets its contract. Its tests are the sheet's, one by one, and the last is `pass_within`.
-use borrow.Author.Rules.{rules}
 use borrow.Author.Tests.{eq-eqb, ne_eqb, le-leb, lt-leb}
 use Rattle.audit.proofs.within.Goals as goal
 

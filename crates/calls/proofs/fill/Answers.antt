@@ -1,5 +1,4 @@
 -- The byte is the fourth number's lowest.
-use borrow.Author.Rules.{rules}
 use Rattle.calls.proofs.fill.Goals as goal
 
 pub returns : goal.returns

@@ -1,7 +1,6 @@
 -- 0, 1, and every other number.
 use Prim.Native.Nat.{ℕ, zero, suc}
 use mathlib.Core.Path.{◌≡◌, refl}
-use borrow.Author.Rules.{rules}
 use Rattle.definition.specs.declared.MemoryRegionKind.TheVariants.{BootloaderReserved}
 use Rattle.definition.specs.Script.{kind_of}
 use Rattle.calls.proofs.kind_of.Goals as goal

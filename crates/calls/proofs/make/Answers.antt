@@ -1,6 +1,5 @@
 -- Each arm is its callee's promise, with what the callee isn't lent given to it; what is left is which op it is, and its numbers as the
 -- callee takes them. What the callees ask for is part of `Ready`. A call that only reads the words leaves all of them.
-use borrow.Author.Rules.{rules}
 use Rattle.words.proofs.Words.{beside_same}
 use Rattle.calls.proofs.make.Goals as goal
 

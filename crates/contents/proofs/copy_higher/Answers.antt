@@ -1,8 +1,8 @@
 -- `contents::copy_higher` meets its contract. The loop's invariant: the bytes behind the first `left` are moved, and the rest of memory is as it was.
-use Prim.Native.Nat.{◌+◌, ◌-◌, ◌≤◌}
+use Prim.Native.Nat.{◌+◌, ◌-◌}
 use mathlib.Core.Path.{◌≡◌, refl}
 use native.Mathlib.Omega.{arith}
-use lib.ListN.{length, take, drop}
+use lib.ListN.{take, drop}
 use Rattle.record.specs.Records.{with_bytes}
 use Rattle.record.proofs.Bytes.{with_none}
 use Rattle.contents.proofs.Moves.{move_higher}

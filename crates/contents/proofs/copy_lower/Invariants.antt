@@ -1,12 +1,8 @@
 -- `contents::copy_lower` meets its contract. The loop's invariant: the first `done` bytes are moved, and the rest of memory is as it was.
 use Prim.Native.Nat.{◌-◌, ◌≤◌}
-use mathlib.Core.Path.{◌≡◌, refl}
-use native.Mathlib.Omega.{arith}
+use mathlib.Core.Path.{◌≡◌}
 use lib.ListN.{length, take, drop}
 use Rattle.record.specs.Records.{with_bytes}
-use Rattle.record.proofs.Bytes.{with_none}
-use Rattle.contents.proofs.Moves.{move_lower}
-use borrow.Author.Rules.{rules}
 use Rattle.contents.proofs.copy_lower.Given as goal
 
 abbrev pub invariant-loop-done : goal.invariant-loop-done

@@ -1,9 +1,7 @@
 -- `contents::fill` meets its contract. The loop's invariant: the bytes passed are `byte`, and all others are as they were.
-use Prim.Native.Nat.{◌-◌, ◌≤◌}
 use mathlib.Core.Path.{◌≡◌, refl}
 use native.Mathlib.Omega.{arith}
-use lib.ListN.{length, length-set, replicate}
-use Rattle.record.specs.Records.{with_bytes}
+use lib.ListN.{length-set}
 use Rattle.record.proofs.Bytes.{with_none, with_more}
 use borrow.Author.Rules.{rules}
 use Rattle.contents.proofs.fill.Goals as goal

@@ -1,11 +1,8 @@
 -- `contents::fill` meets its contract. The loop's invariant: the bytes passed are `byte`, and all others are as they were.
 use Prim.Native.Nat.{◌-◌, ◌≤◌}
-use mathlib.Core.Path.{◌≡◌, refl}
-use native.Mathlib.Omega.{arith}
-use lib.ListN.{length, length-set, replicate}
+use mathlib.Core.Path.{◌≡◌}
+use lib.ListN.{length, replicate}
 use Rattle.record.specs.Records.{with_bytes}
-use Rattle.record.proofs.Bytes.{with_none, with_more}
-use borrow.Author.Rules.{rules}
 use Rattle.contents.proofs.fill.Given as goal
 
 abbrev pub invariant-loop-i : goal.invariant-loop-i

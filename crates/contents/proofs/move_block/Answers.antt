@@ -2,7 +2,6 @@
 use native.Mathlib.Omega.{arith}
 use lib.ListN.{take, drop}
 use Rattle.contents.proofs.Moves.{part_length, with_read}
-use borrow.Author.Rules.{rules}
 use Rattle.contents.proofs.move_block.Goals as goal
 
 pub returns : goal.returns

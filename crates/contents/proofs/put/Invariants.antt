@@ -1,12 +1,8 @@
 -- `contents::put` meets its contract. The loop's invariant: the bytes passed are those of the source, and all others are as they were.
 use Prim.Native.Nat.{◌-◌, ◌≤◌}
-use mathlib.Core.Path.{◌≡◌, refl}
-use native.Mathlib.Omega.{arith}
-use lib.ListN.{length, length-set, take, drop}
+use mathlib.Core.Path.{◌≡◌}
+use lib.ListN.{length, take, drop}
 use Rattle.record.specs.Records.{with_bytes}
-use Rattle.record.proofs.Bytes.{with_none}
-use Rattle.contents.proofs.Moves.{with_next}
-use borrow.Author.Rules.{rules}
 use Rattle.contents.proofs.put.Given as goal
 
 abbrev pub invariant-loop-k : goal.invariant-loop-k

@@ -1,6 +1,5 @@
 -- `contents::write` meets its contract. The part of `bytes` that is put is all of it.
 use lib.Seq.{take-length}
-use borrow.Author.Rules.{rules}
 use Rattle.contents.proofs.write.Goals as goal
 
 pub returns : goal.returns

@@ -1,6 +1,5 @@
 -- What is outstanding decides; then the counters alone change.
 use native.Mathlib.Omega.{arith}
-use borrow.Author.Rules.{rules}
 use Rattle.counts.proofs.Recounted.{back_made, back_short}
 use Rattle.counts.proofs.back.Goals as goal
 

@@ -1,6 +1,5 @@
 -- What `done` answers, beside the counters.
 use mathlib.Core.Path.{refl}
-use borrow.Author.Rules.{rules}
 use Rattle.counts.proofs.counted.Goals as goal
 
 pub returns : goal.returns

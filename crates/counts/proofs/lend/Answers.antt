@@ -1,5 +1,4 @@
 -- The counters alone change.
-use borrow.Author.Rules.{rules}
 use Rattle.counts.proofs.Recounted.{lend_made}
 use Rattle.counts.proofs.lend.Goals as goal
 

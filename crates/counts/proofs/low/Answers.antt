@@ -1,7 +1,6 @@
 -- The counters are read by the board of the words, and nothing changes.
 use mathlib.Core.Bool.{true, false}
 use mathlib.Core.Path.{◌≡◌, sym, ◌∙◌}
-use borrow.Author.Rules.{rules}
 use Rattle.definition.specs.Tracker.{should_reclaim}
 use Rattle.words.specs.Words.{board_in}
 use Rattle.counts.proofs.Recounted.{low_made}

@@ -1,6 +1,5 @@
 -- The statistics are written from the first byte of the text on, and nothing changes.
 use native.Mathlib.Omega.{arith}
-use borrow.Author.Rules.{rules}
 use Rattle.counts.proofs.Recounted.{reports_written}
 use Rattle.counts.proofs.stats.Goals as goal
 

@@ -1,8 +1,6 @@
 -- The test, then the call, of which every store that the loans hold is meant.
 use mathlib.Core.Bool.{true, false}
 use mathlib.Core.Path.{◌≡◌, sym, ◌∙◌}
-use borrow.Author.Rules.{rules}
-use borrow.Author.Tests.{not-true, not-false}
 use lib.ListN.{get_or}
 use Rattle.definition.specs.Torn.{sound}
 use Rattle.words.specs.Words.{board_in}

@@ -1,6 +1,4 @@
 -- The part is the one that `read_place` finds.
-use native.Mathlib.Omega.{arith}
-use borrow.Author.Rules.{rules}
 use Rattle.door.proofs.Reporting.{lends_none, lends_part}
 use Rattle.door.proofs.read.Goals as goal
 

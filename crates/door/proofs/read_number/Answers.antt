@@ -1,5 +1,4 @@
 -- The number that `read_place` gives is the answer's.
-use borrow.Author.Rules.{rules}
 use Rattle.door.proofs.read_number.Goals as goal
 
 pub returns : goal.returns

@@ -1,9 +1,6 @@
 -- The test, then the statistics, which are those of every store that the loans hold.
 use mathlib.Core.Bool.{true, false}
 use mathlib.Core.Path.{◌≡◌, refl, sym, ◌∙◌}
-use borrow.Author.Rules.{rules}
-use borrow.Author.Tests.{not-true, not-false}
-use Rattle.definition.specs.Calls.{Stats}
 use Rattle.definition.specs.Torn.{sound}
 use Rattle.words.specs.Words.{board_in}
 use Rattle.exam.specs.Making.{Ready, world}

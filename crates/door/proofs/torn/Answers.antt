@@ -1,6 +1,5 @@
 -- The refusal's number and the counters as they were.
 use mathlib.Core.Path.{refl}
-use borrow.Author.Rules.{rules}
 use Rattle.door.proofs.torn.Goals as goal
 
 pub returns : goal.returns

@@ -4,7 +4,6 @@ use mathlib.Core.Path.{refl, sym, ap}
 use Rattle.definition.proofs.Boards.{standard_fit}
 use native.Mathlib.Omega.{arith}
 use Rattle.drivers.specs.Driving.{booted_world, usable}
-use borrow.Author.Rules.{rules}
 use Rattle.drivers.proofs.booted.Goals as goal
 
 pub boot-outcome-requires : goal.boot-outcome-requires

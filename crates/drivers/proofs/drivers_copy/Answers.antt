@@ -1,5 +1,4 @@
 -- Two frames are granted one after the other, and all copies are those of `copy_all`.
-use borrow.Author.Rules.{rules}
 use native.Mathlib.Omega.{arith}
 use Rattle.drivers.proofs.drivers_copy.Goals as goal
 

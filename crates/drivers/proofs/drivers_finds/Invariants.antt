@@ -1,12 +1,9 @@
 -- A lookup changes nothing, so that each turn is that of the same world.
-use borrow.Author.Rules.{rules}
 use Prim.Native.Nat.{◌-◌, ◌<◌, ◌^◌}
-use native.Mathlib.Omega.{arith}
 use Rattle.definition.specs.Calls.{Find}
 use Rattle.exam.specs.Promise.{state_with, world_of}
-use Rattle.words.specs.Words.{board_in}
 use Rattle.drivers.specs.Driving.{turn}
-use Rattle.drivers.proofs.Turns.{Onward, begun, ended, leaves_turn, onward, stopped}
+use Rattle.drivers.proofs.Turns.{Onward}
 use Rattle.drivers.proofs.drivers_finds.Given as goal
 
 abbrev pub invariant-loop-i : goal.invariant-loop-i

@@ -1,13 +1,11 @@
 -- Each turn is that of the world as the last left it, and the loans keep their lengths.
 use Rattle.words.specs.Words.{state_words}
-use borrow.Author.Rules.{rules}
 use Prim.Native.Nat.{◌-◌, ◌<◌, ◌^◌}
 use mathlib.Core.Path.{◌≡◌}
-use native.Mathlib.Omega.{arith}
 use lib.ListN.{length}
 use Rattle.exam.specs.Promise.{state_with, world_of}
 use Rattle.drivers.specs.Driving.{grant_and_free}
-use Rattle.drivers.proofs.Turns.{Onward, begun, ended, onward, stopped}
+use Rattle.drivers.proofs.Turns.{Onward}
 use Rattle.drivers.proofs.drivers_grants.Given as goal
 
 abbrev pub invariant-loop-i : goal.invariant-loop-i

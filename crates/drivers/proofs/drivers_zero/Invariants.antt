@@ -1,14 +1,11 @@
 -- The words and the counters stay those of the grant, and the other loans keep their lengths.
-use borrow.Author.Rules.{rules}
 use Prim.Native.Nat.{◌-◌, ◌<◌, ◌^◌}
 use mathlib.Core.Path.{◌≡◌}
-use native.Mathlib.Omega.{arith}
 use lib.ListN.{length}
 use Rattle.definition.specs.Calls.{Zero}
 use Rattle.exam.specs.Promise.{state_with, world_of}
-use Rattle.words.specs.Words.{board_in}
 use Rattle.drivers.specs.Driving.{turn}
-use Rattle.drivers.proofs.Turns.{Onward, begun, ended, leaves_turn, onward, stopped}
+use Rattle.drivers.proofs.Turns.{Onward}
 use Rattle.drivers.proofs.drivers_zero.Given as goal
 
 abbrev pub invariant-loop-i : goal.invariant-loop-i

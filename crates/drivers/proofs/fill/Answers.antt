@@ -1,8 +1,6 @@
 -- The test, then the fill, of which every store that the loans hold is meant.
 use mathlib.Core.Bool.{true, false}
 use mathlib.Core.Path.{◌≡◌, sym, ◌∙◌}
-use borrow.Author.Rules.{rules}
-use borrow.Author.Tests.{not-true, not-false}
 use Rattle.definition.specs.Torn.{sound}
 use Rattle.definition.specs.Calls.{Fill}
 use Rattle.words.specs.Words.{board_in}

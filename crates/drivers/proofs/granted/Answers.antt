@@ -1,7 +1,6 @@
 -- The call is the one that the turn names.
 use Rattle.words.specs.Words.{board_in}
 use Rattle.drivers.proofs.Turns.{leaves_turn}
-use borrow.Author.Rules.{rules}
 use Rattle.drivers.proofs.granted.Goals as goal
 
 pub returns : goal.returns

@@ -3,7 +3,6 @@ use mathlib.Core.Path.{refl}
 use borrow.Author.Tests.{eq-eqb, ne_eqb}
 use Rattle.words.specs.Words.{board_in}
 use Rattle.drivers.proofs.Turns.{leaves_turn}
-use borrow.Author.Rules.{rules}
 use Rattle.drivers.proofs.granted_and_freed.Goals as goal
 
 pub returns-then-frame-ne0 : goal.returns-then-frame-ne0

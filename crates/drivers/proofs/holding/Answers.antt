@@ -1,5 +1,4 @@
 -- The boot, and the turn on the world that it leaves.
-use borrow.Author.Rules.{rules}
 use Rattle.drivers.proofs.holding.Goals as goal
 
 pub returns : goal.returns

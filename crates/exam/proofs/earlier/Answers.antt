@@ -1,7 +1,6 @@
 -- Where both are refusals, the one of the lower rank.
 use mathlib.Core.Path.{refl}
 use native.Mathlib.Omega.{arith}
-use borrow.Author.Rules.{rules}
 use borrow.Author.Tests.{eq-eqb, ne_eqb, lt-ltb, le-ltb}
 use Rattle.definition.specs.Refusal.{rank_of}
 use Rattle.exam.proofs.earlier.Goals as goal

@@ -1,10 +1,9 @@
 -- The bytes of a frame by its level.
 use Prim.Native.Nat.{◌≤◌, ◌<◌, ◌%◌}
-use mathlib.Core.Path.{◌≡◌, refl, sym, ◌∙◌}
+use mathlib.Core.Path.{refl, sym, ◌∙◌}
 use native.Mathlib.Nat.{mul-le-mul}
 use native.Mathlib.Omega.{arith}
-use borrow.Author.Rules.{rules}
-use borrow.Author.Tests.{eqb-true, not-true, not-false}
+use borrow.Author.Tests.{eqb-true}
 use Rattle.definition.proofs.Boards.{page_most}
 use Rattle.level.proofs.Sizes.{size_most}
 use Rattle.exam.proofs.frame_bytes.Goals as goal
@@ -19,7 +18,6 @@ returns-then-not-is_admitted c =
 -- the level is one of the three
 known : (c : Else-not-is_admitted) → c.args.seen.level < 3
 known c =
-    
     let r = c.is_admitted in
     c.requires.level_known (eqb-true (c.args.seen.marks % 2) 1 (sym r.ensures ∙ c.if-not-is_admitted.false))
 

@@ -1,6 +1,5 @@
 -- The audit's answer is the sheet's.
 use mathlib.Core.Path.{refl}
-use borrow.Author.Rules.{rules}
 use Rattle.exam.proofs.is_sound.Goals as goal
 
 pub returns : goal.returns

@@ -1,9 +1,7 @@
 -- What is seen at an address, for every allocator that the table stands for.
 use mathlib.Core.Path.{◌≡◌}
-use borrow.Author.Rules.{rules}
 use Rattle.definition.specs.World.{record_at}
 use Rattle.words.specs.Words.{board_in, rows_in}
-use Rattle.allocator.specs.Spots.{Sees}
 use Rattle.allocator.proofs.Standing.{sane_table, standing}
 use Rattle.exam.specs.Promise.{seen_refusal}
 use Rattle.exam.proofs.Tests.{seen_held, seen_range, sees_leveled}

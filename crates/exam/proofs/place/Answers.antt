@@ -1,7 +1,6 @@
 -- A byte's place, by the board of the words.
 use mathlib.Core.Path.{refl}
 use native.Mathlib.Omega.{arith}
-use borrow.Author.Rules.{rules}
 use Rattle.exam.proofs.place.Goals as goal
 
 pub overflow_mul-result : goal.overflow_mul-result

@@ -1,17 +1,8 @@
 -- Each grant leaves the region sound and whole, as the next one requires.
-use Prim.Native.Nat.{ℕ, ◌-◌, ◌≤◌}
-use mathlib.Core.List.{List}
-use mathlib.Core.Path.{◌≡◌, refl}
+use mathlib.Core.Path.{refl}
 use native.Mathlib.Omega.{arith}
-use lib.ListN.{length}
-use Rattle.definition.specs.Board.{Board}
-use Rattle.definition.specs.World.{record_at}
-use Rattle.record.specs.Records.{pages_in}
-use Rattle.words.specs.Words.{InUse, row_of, rows_in}
 use Rattle.words.proofs.Words.{in_use_then}
-use Rattle.region.specs.Rep.{SoundRow, WholeRow}
 use Rattle.region.proofs.Laws.{rep_sound}
-use Rattle.leaves.proofs.grant_all.Invariants.{Inv}
 use Rattle.leaves.proofs.grant_all.Goals as goal
 
 pub loop-i-init : goal.loop-i-init

@@ -1,16 +1,13 @@
 -- Each grant leaves the region sound and whole, as the next one requires.
 use Prim.Native.Nat.{ℕ, ◌-◌, ◌≤◌}
 use mathlib.Core.List.{List}
-use mathlib.Core.Path.{◌≡◌, refl}
-use native.Mathlib.Omega.{arith}
+use mathlib.Core.Path.{◌≡◌}
 use lib.ListN.{length}
 use Rattle.definition.specs.Board.{Board}
 use Rattle.definition.specs.World.{record_at}
 use Rattle.record.specs.Records.{pages_in}
 use Rattle.words.specs.Words.{InUse, row_of, rows_in}
-use Rattle.words.proofs.Words.{in_use_then}
 use Rattle.region.specs.Rep.{SoundRow, WholeRow}
-use Rattle.region.proofs.Laws.{rep_sound}
 use Rattle.leaves.proofs.grant_all.Given as goal
 
 pub record Inv (board : Board) (records₀ words₀ : List ℕ) (times : ℕ) (records words : List ℕ) (i : ℕ) : Type 0 where

@@ -1,13 +1,8 @@
 -- Each turn fills the bytes that the last left, which are as many.
-use borrow.Author.Rules.{rules}
 use Prim.Native.Nat.{◌+◌, ◌-◌, ◌≤◌}
-use mathlib.Core.Bool.{true, false}
-use mathlib.Core.Path.{◌≡◌, refl, sym, ◌∙◌}
-use native.Mathlib.Omega.{arith}
-use native.Mathlib.Numerals.{add-one}
-use borrow.Author.Tests.{leb-true, not-true, not-false}
+use mathlib.Core.Path.{◌≡◌}
 use lib.ListN.{length}
-use Rattle.leaves.specs.Contents.{filled, inside}
+use Rattle.leaves.specs.Contents.{filled}
 use Rattle.leaves.proofs.leaves_fill.Given as goal
 
 abbrev pub invariant-loop-i : goal.invariant-loop-i

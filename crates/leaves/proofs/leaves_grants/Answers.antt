@@ -1,5 +1,4 @@
 -- The pages that the test counts are those that the region manages, a new region is sound and whole, and its row stands in the words as it was laid out.
-use borrow.Author.Rules.{rules}
 use native.Mathlib.Omega.{arith}
 use Rattle.definition.specs.Board.{standard}
 use Rattle.definition.proofs.Boards.{standard_fit}

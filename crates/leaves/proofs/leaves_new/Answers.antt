@@ -1,5 +1,4 @@
 -- The pages that the test counts are those that the region manages.
-use borrow.Author.Rules.{rules}
 use native.Mathlib.Omega.{arith}
 use Rattle.definition.specs.Board.{standard}
 use Rattle.definition.proofs.Boards.{standard_fit}

@@ -1,6 +1,4 @@
 -- The sum is below 2^34 for each record passed, so that it fits.
-use borrow.Author.Rules.{rules}
-use native.Mathlib.Omega.{arith}
 use Prim.Native.Nat.{◌-◌, ◌*◌, ◌≤◌}
 use Rattle.leaves.proofs.load_all.Given as goal
 

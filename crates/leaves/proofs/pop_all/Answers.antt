@@ -1,16 +1,7 @@
 -- The list is sound, and the pages popped and those left make `count`, so that no pop finds the list empty.
-use borrow.Author.Rules.{rules}
-use Prim.Native.Nat.{ℕ, ◌+◌, ◌-◌}
-use mathlib.Core.List.{List, []}
-use mathlib.Core.Path.{◌≡◌, refl}
+use mathlib.Core.Path.{refl}
 use native.Mathlib.Omega.{arith}
-use lib.ListN.{length}
-use Rattle.definition.specs.declared.Links.{Links}
-use Rattle.definition.specs.World.{record_at, pages_of}
-use Rattle.record.specs.Records.{pages_in}
-use Rattle.list.specs.Linked.{Sound, Taken}
 use Rattle.leaves.proofs.Counts.{count_none, count_less}
-use Rattle.leaves.proofs.pop_all.Invariants.{Inv}
 use Rattle.leaves.proofs.pop_all.Goals as goal
 
 pub loop-i-init : goal.loop-i-init

@@ -1,17 +1,10 @@
 -- The list is sound and has the pages below i, so that the page i is not on it yet.
-use Prim.Native.Nat.{ℕ, ◌-◌, ◌≤◌, ◌<◌}
-use mathlib.Core.List.{List}
-use mathlib.Core.Path.{◌≡◌, refl}
+use mathlib.Core.Path.{refl}
 use native.Mathlib.Omega.{arith}
-use lib.ListN.{length}
-use Rattle.definition.specs.declared.Links.{Links}
-use Rattle.definition.specs.World.{record_at, pages_of}
-use Rattle.record.specs.Records.{pages_in}
-use Rattle.list.specs.Linked.{All, Sound}
+use Rattle.definition.specs.World.{record_at}
 use Rattle.list.specs.Linked.All.{all_none}
 use Rattle.list.proofs.Laws.{all_map, linked_empty, linked_pages, linked_sound}
 use Rattle.leaves.proofs.Counts.{count_more, below_next}
-use Rattle.leaves.proofs.push_all.Invariants.{Inv}
 use Rattle.leaves.proofs.push_all.Goals as goal
 
 pub loop-i-init : goal.loop-i-init

@@ -1,9 +1,5 @@
 -- The loop only passes over pages that have a record.
-use borrow.Author.Rules.{rules}
 use native.Mathlib.Omega.{arith}
-use Prim.Native.Nat.{◌-◌, ◌≤◌}
-use mathlib.Core.Path.{◌≡◌}
-use lib.ListN.{length}
 use Rattle.leaves.proofs.store_all.Goals as goal
 
 pub loop-i-init : goal.loop-i-init

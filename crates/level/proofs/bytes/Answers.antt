@@ -1,5 +1,4 @@
 -- `bytes` meets its contract: a page of a fit board has at most 65,536 bytes, and a frame at most 262,144 pages.
-use borrow.Author.Rules.{rules}
 use native.Mathlib.Omega.{arith}
 use Rattle.definition.proofs.Boards.{page_most}
 use Rattle.definition.proofs.Bytes.{pages_order}

@@ -1,6 +1,5 @@
 -- `level_at` meets its contract: it tries the levels from the highest down, as the definition does.
 use mathlib.Core.Path.{sym, ◌∙◌}
-use borrow.Author.Rules.{rules}
 use Rattle.definition.specs.Frame.{highest}
 use Rattle.level.proofs.level_at.Goals as goal
 

@@ -1,6 +1,5 @@
 -- `pages_at` meets its contract: each arm names the level of its number, and below the count of levels there are three.
 use mathlib.Core.Path.{◌≡◌, sym, ap, ◌∙◌}
-use borrow.Author.Rules.{rules}
 use native.Mathlib.Omega.{arith}
 use Rattle.definition.specs.Frame.{size}
 use Rattle.level.proofs.pages_at.Goals as goal

@@ -1,5 +1,4 @@
 -- `list::later_at` meets its contract: where the neighbour is none, nothing changes.
-use borrow.Author.Rules.{rules}
 use borrow.Author.Tests.{eq-eqb, ne_eqb}
 use Rattle.list.specs.Linked.{upd_neighbour}
 use Rattle.list.proofs.later_at.Goals as goal

@@ -1,7 +1,6 @@
 -- `list::pop_back` meets its contract: a list with a back has it as its last page, which `remove` takes out.
 use mathlib.Core.Path.{refl}
 use native.Mathlib.Omega.{arith}
-use borrow.Author.Rules.{rules}
 use Rattle.list.proofs.Laws.{empty, back_in}
 use Rattle.list.proofs.Removal.{taken}
 use Rattle.list.proofs.pop_back.Goals as goal

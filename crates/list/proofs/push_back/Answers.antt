@@ -1,5 +1,4 @@
 -- `list::push_back` meets its contract: the page is put behind the old back, which, where there is one, is followed by it.
-use borrow.Author.Rules.{rules}
 use Rattle.list.proofs.Laws.{back_of_lem}
 use Rattle.list.proofs.Pushing.{pushed}
 use Rattle.list.proofs.push_back.Goals as goal

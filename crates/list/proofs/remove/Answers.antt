@@ -1,5 +1,4 @@
 -- `list::remove` meets its contract: the page's neighbours are joined, and it is left with none.
-use borrow.Author.Rules.{rules}
 use Rattle.list.proofs.Removal.{page_inside, earlier_inside, later_inside, count_some, removed}
 use Rattle.list.proofs.remove.Goals as goal
 

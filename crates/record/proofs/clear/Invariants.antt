@@ -1,12 +1,8 @@
 -- `record::clear` meets its contract. The loop's invariant: the bytes passed are zeros, and all others are as they were.
-use Prim.Native.Nat.{◌-◌, ◌*◌, ◌≤◌}
-use mathlib.Core.Path.{◌≡◌, refl}
-use native.Mathlib.Omega.{arith}
-use borrow.Author.Rules.{rules}
-use lib.ListN.{length, length-set, replicate}
+use Prim.Native.Nat.{◌-◌, ◌≤◌}
+use mathlib.Core.Path.{◌≡◌}
+use lib.ListN.{length, replicate}
 use Rattle.record.specs.Records.{with_bytes}
-use Rattle.record.proofs.Bytes.{with_none, with_more}
-use Rattle.record.proofs.Records.{clear_records}
 use Rattle.record.proofs.clear.Given as goal
 
 abbrev pub invariant-loop-i : goal.invariant-loop-i

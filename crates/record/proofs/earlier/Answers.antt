@@ -1,5 +1,4 @@
 -- `record::earlier` meets its contract: it reads the third number of the record.
-use borrow.Author.Rules.{rules}
 use Rattle.definition.specs.World.{record_at}
 use Rattle.record.proofs.earlier.Goals as goal
 

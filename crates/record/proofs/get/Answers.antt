@@ -1,6 +1,5 @@
 -- `record::get` meets its contract: the sum of its four bytes, each in its place, is the number.
 use native.Mathlib.Omega.{arith}
-use borrow.Author.Rules.{rules}
 use Rattle.definition.specs.World.{word_at}
 use Rattle.record.proofs.get.Goals as goal
 

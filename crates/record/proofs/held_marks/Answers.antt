@@ -1,6 +1,5 @@
 -- `held_marks` meets its contract: the marks of an unheld frame, with ALLOCATED set.
 use mathlib.Core.Bool.{false}
-use borrow.Author.Rules.{rules}
 use Rattle.record.proofs.Decoding.{marks_with_lem}
 use Rattle.record.proofs.held_marks.Goals as goal
 

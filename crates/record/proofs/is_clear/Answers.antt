@@ -1,10 +1,9 @@
 -- `record::is_clear` meets its contract. The loop's invariant: the largest byte passed is 0 just where all of them are.
-use Prim.Native.Nat.{◌-◌, ◌*◌, ◌≤◌}
+use Prim.Native.Nat.{◌*◌}
 use mathlib.Core.Path.{◌≡◌, ◌∙◌}
-use lib.Dec.{eqb}
 use native.Mathlib.Omega.{arith}
 use borrow.Author.Rules.{rules}
-use Rattle.record.proofs.Blanks.{zeros, zeros_none, zeros_larger, zeros_largest, zeros_blank}
+use Rattle.record.proofs.Blanks.{zeros_none, zeros_larger, zeros_largest, zeros_blank}
 use Rattle.record.proofs.is_clear.Goals as goal
 use Rattle.record.proofs.is_clear.Goals.{then-largest-byte, else-largest-byte}
 

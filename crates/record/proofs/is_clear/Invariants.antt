@@ -1,11 +1,8 @@
 -- `record::is_clear` meets its contract. The loop's invariant: the largest byte passed is 0 just where all of them are.
-use Prim.Native.Nat.{◌-◌, ◌*◌, ◌≤◌}
-use mathlib.Core.Logic.{⊎_elim}
-use mathlib.Core.Path.{◌≡◌, ◌∙◌}
+use Prim.Native.Nat.{◌-◌, ◌≤◌}
+use mathlib.Core.Path.{◌≡◌}
 use lib.Dec.{eqb}
-use native.Mathlib.Omega.{arith}
-use borrow.Author.Rules.{rules}
-use Rattle.record.proofs.Blanks.{zeros, zeros_none, zeros_larger, zeros_largest, zeros_blank}
+use Rattle.record.proofs.Blanks.{zeros}
 use Rattle.record.proofs.is_clear.Given as goal
 
 abbrev pub invariant-loop-i : goal.invariant-loop-i

@@ -3,7 +3,6 @@ use Prim.Native.Nat.{◌%◌, ◌<◌}
 use mathlib.Core.Bool.{true}
 use mathlib.Core.Path.{◌≡◌, sym}
 use native.Mathlib.Omega.{arith}
-use borrow.Author.Rules.{rules}
 use borrow.Author.Tests.{eq-eqb, eqb-true}
 use Rattle.definition.specs.World.{record_at}
 use Rattle.definition.proofs.Tests.{same_test}

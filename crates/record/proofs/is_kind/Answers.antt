@@ -1,5 +1,4 @@
 -- `record::is_kind` meets its contract: the two numbers decide.
-use borrow.Author.Rules.{rules}
 use borrow.Author.Tests.{eq-eqb, ne_eqb}
 use Rattle.record.proofs.is_kind.Goals as goal
 

@@ -1,6 +1,5 @@
 -- `record::kind_at` meets its contract: the first two numbers of the record, each read by `get`, side by side.
 use native.Mathlib.Omega.{arith}
-use borrow.Author.Rules.{rules}
 use Rattle.definition.specs.World.{record_at}
 use Rattle.record.proofs.kind_at.Goals as goal
 

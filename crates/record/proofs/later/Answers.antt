@@ -1,5 +1,4 @@
 -- `record::later` meets its contract: it reads the fourth number of the record.
-use borrow.Author.Rules.{rules}
 use Rattle.definition.specs.World.{record_at}
 use Rattle.record.proofs.later.Goals as goal
 

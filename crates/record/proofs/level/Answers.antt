@@ -1,5 +1,4 @@
 -- `record::level` meets its contract: it reads the second number of the record.
-use borrow.Author.Rules.{rules}
 use Rattle.definition.specs.World.{record_at}
 use Rattle.record.proofs.level.Goals as goal
 

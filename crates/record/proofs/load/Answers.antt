@@ -1,5 +1,4 @@
 -- `record::load` meets its contract: the four numbers, each read by `get`.
-use borrow.Author.Rules.{rules}
 use Rattle.definition.specs.World.{record_at}
 use Rattle.record.proofs.load.Goals as goal
 

@@ -1,5 +1,4 @@
 -- `record::marks` meets its contract: it reads the first number of the record.
-use borrow.Author.Rules.{rules}
 use Rattle.definition.specs.World.{record_at}
 use Rattle.record.proofs.marks.Goals as goal
 

@@ -1,7 +1,6 @@
 -- `record::put` meets its contract: its four stores are one write of four bytes, and these are the number.
 use Prim.Native.Nat.{◌*◌, ◌/◌, ◌%◌}
 use native.Mathlib.Omega.{arith}
-use borrow.Author.Rules.{rules}
 use lib.ListN.{length-set}
 use Rattle.record.proofs.Bytes.{with_four}
 use Rattle.record.proofs.Words.{put_words}

@@ -1,6 +1,5 @@
 -- `set_allocated` meets its contract: with ALLOCATED clear, 2 more still fits.
 use native.Mathlib.Omega.{arith}
-use borrow.Author.Rules.{rules}
 use borrow.Author.Tests.{eqb-false}
 use Rattle.definition.specs.World.{allocated_bit}
 use Rattle.record.proofs.set_allocated.Goals as goal

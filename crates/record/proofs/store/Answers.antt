@@ -3,7 +3,6 @@ use Prim.Native.Nat.{◌+◌, ◌*◌}
 use mathlib.Core.List.{◌++◌}
 use mathlib.Core.Path.{◌≡◌}
 use native.Mathlib.Omega.{arith}
-use borrow.Author.Rules.{rules}
 use Rattle.definition.proofs.Basics.{upd_same, upd_upd}
 use Rattle.definition.specs.World.{word_bytes}
 use Rattle.record.proofs.Bytes.{with_then}

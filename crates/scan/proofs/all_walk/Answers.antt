@@ -1,5 +1,5 @@
 -- `all_walk` meets its contract. The loop's invariant: the lists of the levels passed walk.
-use Rattle.std.proofs.Common.{◌≡◌, ℕ, ◌+◌, ◌-◌, ◌*◌, ◌<◌, ◌≤◌, Bool, true, false, not, ◌&&◌, sym, refl, ap, ◌∙◌, arith, rules}
+use Rattle.std.proofs.Common.{◌≡◌, ℕ, ◌+◌, ◌*◌, ◌<◌, Bool, true, false, not, ◌&&◌, sym, refl, ap, ◌∙◌, arith, rules}
 use mathlib.Core.Bool.{false≢true}
 use borrow.Author.Tests.{not-false, not-true}
 use Rattle.definition.specs.Basics.{all, range}

@@ -1,13 +1,9 @@
 -- `all_walk` meets its contract. The loop's invariant: the lists of the levels passed walk.
-use Rattle.std.proofs.Common.{◌≡◌, ℕ, ◌+◌, ◌-◌, ◌*◌, ◌<◌, ◌≤◌, Bool, true, false, not, ◌&&◌, sym, refl, ap, ◌∙◌, arith, rules}
-use mathlib.Core.Bool.{false≢true}
-use borrow.Author.Tests.{not-false, not-true}
+use Rattle.std.proofs.Common.{◌≡◌, ◌-◌, ◌*◌, ◌≤◌, true}
 use Rattle.definition.specs.Basics.{all, range}
 use Rattle.definition.specs.World.{record_at}
-use Rattle.definition.proofs.Tests.{and_left, and_right, and-true, range_in, range_last}
 use Rattle.words.specs.Words.{row_of, rows_in}
 use Rattle.scan.specs.Sheet.{list_at}
-use Rattle.scan.proofs.Members.{refuse}
 use Rattle.scan.proofs.all_walk.Given as goal
 
 abbrev pub invariant-loop-level : goal.invariant-loop-level

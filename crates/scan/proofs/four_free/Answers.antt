@@ -1,7 +1,6 @@
 -- `four_free` meets its contract: each of the four pages is read, and a refusal claims nothing.
-use Rattle.std.proofs.Common.{◌+◌, sym, ◌∙◌, arith, rules}
+use Rattle.std.proofs.Common.{◌+◌, sym, ◌∙◌, arith}
 use mathlib.Core.Bool.{false≢true}
-use borrow.Author.Tests.{not-false}
 use Rattle.definition.specs.World.{record_at}
 use Rattle.scan.specs.Sheet.{Free}
 use Rattle.scan.proofs.Marks.{free_more}

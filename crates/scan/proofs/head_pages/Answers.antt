@@ -1,6 +1,6 @@
 -- `head_pages` meets its contract: each refusal contradicts one fact of a head, and past them all the zeros inside decide.
-use Rattle.std.proofs.Common.{◌≡◌, ◌<◌, sym, ap, ◌∙◌, arith, rules, ltb-false, ltb-true, eqb-true}
-use borrow.Author.Tests.{eqb-false, not-true, not-false}
+use Rattle.std.proofs.Common.{◌≡◌, ◌<◌, sym, ap, ◌∙◌, arith, ltb-false, ltb-true, eqb-true}
+use borrow.Author.Tests.{eqb-false}
 use Rattle.definition.specs.declared.Record.{Record}
 use Rattle.definition.specs.Frame.{size}
 use Rattle.definition.specs.World.{record_at, admitted_bit, named_marks, level_in}

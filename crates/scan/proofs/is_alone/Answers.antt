@@ -1,5 +1,5 @@
 -- `is_alone` meets its contract: one test for each neighbour.
-use Rattle.std.proofs.Common.{rules, eq-eqb, ne_eqb}
+use Rattle.std.proofs.Common.{eq-eqb, ne_eqb}
 use Rattle.scan.proofs.is_alone.Goals as goal
 
 pub returns-then-earlier-ne0 : goal.returns-then-earlier-ne0

@@ -1,5 +1,5 @@
 -- `is_node` meets its contract: the neighbour is looked at where the page is such a frame.
-use Rattle.std.proofs.Common.{◌<◌, ◌≤◌, sym, ◌∙◌, arith, rules}
+use Rattle.std.proofs.Common.{◌<◌, ◌≤◌, sym, ◌∙◌, arith}
 use Rattle.definition.specs.World.{record_at}
 use Rattle.scan.proofs.Marks.{kind_place}
 use Rattle.scan.proofs.is_node.Goals as goal

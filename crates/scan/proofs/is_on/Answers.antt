@@ -1,5 +1,5 @@
 -- `is_on` meets its contract: a number outside the region is refused, and inside it the number of the record decides.
-use Rattle.std.proofs.Common.{sym, ◌∙◌, arith, rules}
+use Rattle.std.proofs.Common.{sym, ◌∙◌, arith}
 use Rattle.definition.specs.World.{record_at}
 use Rattle.scan.proofs.Members.{refuse}
 use Rattle.scan.proofs.Marks.{kind_place, kind_in}

@@ -1,6 +1,5 @@
 -- `level_walks` meets its contract: an empty list walks, and of another `walk` says whether it does.
-use Rattle.std.proofs.Common.{◌≡◌, ℕ, ◌+◌, ◌*◌, Bool, true, sym, refl, ◌∙◌, ⊎_elim, rules}
-use borrow.Author.Tests.{not-false, not-true}
+use Rattle.std.proofs.Common.{◌≡◌, ℕ, ◌+◌, ◌*◌, Bool, true, sym, refl, ◌∙◌}
 use Rattle.definition.specs.declared.Links.{Links}
 use Rattle.definition.specs.declared.Row.{Row}
 use Rattle.definition.specs.Torn.{Records, is_no_links}

@@ -1,5 +1,5 @@
 -- `listed_pages` meets its contract. The loop's invariant: the pages are those of the lists passed, at most 2^50 of each.
-use Rattle.std.proofs.Common.{◌≡◌, ◌+◌, ◌-◌, ◌*◌, ◌^◌, ◌≤◌, get_or, arith, rules}
+use Rattle.std.proofs.Common.{◌≡◌, ◌+◌, ◌*◌, ◌^◌, ◌≤◌, get_or, arith, rules}
 use Rattle.definition.specs.Basics.{sum, range}
 use Rattle.definition.specs.World.{no_links}
 use Rattle.scan.proofs.Pages.{sum_last, list_weight, weight_most}

@@ -1,8 +1,6 @@
 -- `past_free` meets its contract. The loop's invariant: up to `at` there are only unheld frames of one page.
-use Rattle.std.proofs.Common.{◌+◌, ◌-◌, ◌≤◌, arith, rules}
-use borrow.Author.Tests.{not-false}
+use Rattle.std.proofs.Common.{◌+◌, arith}
 use Rattle.definition.specs.World.{record_at}
-use Rattle.scan.specs.Sheet.{Free}
 use Rattle.scan.proofs.Marks.{free_then}
 use Rattle.scan.proofs.past_free.Goals as goal
 

@@ -1,9 +1,7 @@
 -- `past_free` meets its contract. The loop's invariant: up to `at` there are only unheld frames of one page.
-use Rattle.std.proofs.Common.{◌+◌, ◌-◌, ◌≤◌, arith, rules}
-use borrow.Author.Tests.{not-false}
+use Rattle.std.proofs.Common.{◌-◌, ◌≤◌}
 use Rattle.definition.specs.World.{record_at}
 use Rattle.scan.specs.Sheet.{Free}
-use Rattle.scan.proofs.Marks.{free_then}
 use Rattle.scan.proofs.past_free.Given as goal
 
 abbrev pub invariant-loop-at : goal.invariant-loop-at

@@ -1,6 +1,5 @@
 -- `scan` meets its contract. The loop's invariant is `Scanning`: what is left decides as the whole does.
-use Rattle.std.proofs.Common.{◌≡◌, ◌+◌, ◌-◌, ◌<◌, ◌≤◌, true, false, sym, ◌∙◌, ⊎_elim, arith, rules}
-use borrow.Author.Tests.{not-true, not-false}
+use Rattle.std.proofs.Common.{◌≡◌, ◌+◌, ◌<◌, ◌≤◌, true, false, sym, ◌∙◌, arith}
 use Rattle.definition.specs.World.{record_at}
 use Rattle.definition.specs.Torn.{pages_of_record, held_as, alone_if_held}
 use Rattle.definition.proofs.Tests.{and-true}

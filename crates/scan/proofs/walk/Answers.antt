@@ -1,6 +1,5 @@
 -- `walk` meets its contract. The loop's invariant: what is left of the walk, between its two ends, decides as the whole does.
-use Rattle.std.proofs.Common.{◌≡◌, ◌-◌, ◌<◌, ◌&&◌, eqb, sym, ◌∙◌, ⊎_elim, arith, rules, eq-eqb, ne_eqb}
-use borrow.Author.Tests.{not-true, not-false}
+use Rattle.std.proofs.Common.{◌≡◌, ◌-◌, ◌&&◌, eqb, sym, ◌∙◌, arith, rules, eq-eqb, ne_eqb}
 use Rattle.definition.specs.World.{record_at}
 use Rattle.definition.proofs.Tests.{and_left}
 use Rattle.scan.specs.Sheet.{node_at, back_node_at, walks_at}

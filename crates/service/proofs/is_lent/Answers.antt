@@ -1,7 +1,6 @@
 -- `is_lent` meets its contract: its two tests are `is_lent`'s, the other way round.
 use mathlib.Core.Bool.{and-true, and-false}
 use mathlib.Core.Path.{sym, ◌∙◌}
-use borrow.Author.Rules.{rules}
 use borrow.Author.Tests.{le-leb, lt-leb}
 use lib.ListN.{length}
 use Rattle.words.specs.Words.{is_kept}

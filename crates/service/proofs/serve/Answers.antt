@@ -2,8 +2,6 @@
 use mathlib.Core.Bool.{true, false}
 use mathlib.Core.Path.{◌≡◌, refl, sym, ◌∙◌}
 use native.Mathlib.Omega.{arith}
-use borrow.Author.Rules.{rules}
-use borrow.Author.Tests.{not-true, not-false}
 use Rattle.service.specs.Serving.{Lent, is_lent}
 use Rattle.service.proofs.Serving.{in_words, lent_words, serves_torn}
 use Rattle.service.proofs.serve.Goals as goal

@@ -1,6 +1,5 @@
 -- Words that are too few are refused by the map or as 5; else as `serve_boot_with`, and the counters are written over the words.
 use mathlib.Core.Path.{refl, ◌∙◌}
-use borrow.Author.Rules.{rules}
 use borrow.Author.Tests.{lt-leb}
 use lib.ListN.{length}
 use Rattle.words.specs.Words.{state_words}

@@ -1,8 +1,6 @@
 -- Loans that are too short are refused by the map or as 5; else `boot` promises what it leaves of them, and its answer is told.
 use mathlib.Core.Bool.{true}
 use mathlib.Core.Path.{◌≡◌, sym, ◌∙◌}
-use borrow.Author.Rules.{rules}
-use borrow.Author.Tests.{not-true, not-false}
 use Rattle.definition.proofs.Boards.{standard_fit}
 use Rattle.service.specs.Serving.{Lent, is_roomy}
 use Rattle.service.proofs.Serving.{boots, boots_with_short, roomy_room, roomy_words}

@@ -1,8 +1,6 @@
 -- As `serve_write`, with no form over lent counters between: what `find` promises is told of the words.
 use mathlib.Core.Bool.{true, false}
 use mathlib.Core.Path.{◌≡◌, refl, sym, ◌∙◌}
-use borrow.Author.Rules.{rules}
-use borrow.Author.Tests.{not-true, not-false}
 use Rattle.words.specs.Words.{counters_in}
 use Rattle.words.proofs.Words.{beside_same}
 use Rattle.service.specs.Serving.{Lent, is_lent}

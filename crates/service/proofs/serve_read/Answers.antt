@@ -1,8 +1,6 @@
 -- As `serve_read_with`: the counters are read out of the words.
 use mathlib.Core.Bool.{true, false}
 use mathlib.Core.Path.{◌≡◌, ap, sym, ◌∙◌}
-use borrow.Author.Rules.{rules}
-use borrow.Author.Tests.{not-true, not-false}
 use Rattle.service.specs.Serving.{Lent, Served, is_lent, world_in}
 use Rattle.service.proofs.Serving.{lent_words, places_in_words, places_refused, serves_torn}
 use Rattle.service.proofs.serve_read.Goals as goal

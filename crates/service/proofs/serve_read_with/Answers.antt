@@ -1,8 +1,6 @@
 -- The place that `read_place` finds is told in front of the answer, and nothing else changes.
 use mathlib.Core.Bool.{true}
 use mathlib.Core.Path.{◌≡◌, ap, sym, ◌∙◌}
-use borrow.Author.Rules.{rules}
-use borrow.Author.Tests.{not-true, not-false}
 use Rattle.service.specs.Serving.{Lent, Counted, is_lent, world_with}
 use Rattle.service.proofs.Serving.{lent_room, lent_words, places, places_refused, serves_with_torn}
 use Rattle.service.proofs.serve_read_with.Goals as goal

@@ -1,8 +1,6 @@
 -- As `serve_stats_with`: the counters are read out of the words, and nothing of them changes.
 use mathlib.Core.Bool.{true, false}
 use mathlib.Core.Path.{◌≡◌, sym, ◌∙◌}
-use borrow.Author.Rules.{rules}
-use borrow.Author.Tests.{not-true, not-false}
 use Rattle.service.specs.Serving.{Lent, is_lent, world_in}
 use Rattle.service.proofs.Serving.{lent_words, reports_in_words, reports_torn, serves_torn}
 use Rattle.service.proofs.serve_stats.Goals as goal

@@ -1,8 +1,6 @@
 -- Loans that are no state's are refused as they are; else `ask` promises what the call leaves of them, and its answer is told.
 use mathlib.Core.Bool.{true}
 use mathlib.Core.Path.{◌≡◌, sym, ◌∙◌}
-use borrow.Author.Rules.{rules}
-use borrow.Author.Tests.{not-true, not-false}
 use Rattle.service.specs.Serving.{Lent, is_lent}
 use Rattle.service.proofs.Serving.{lent_room, lent_words, serves_with, serves_with_torn}
 use Rattle.service.proofs.serve_with.Goals as goal

@@ -1,8 +1,6 @@
 -- As `serve_write_with`: the counters are read out of the words, and nothing of them changes.
 use mathlib.Core.Bool.{true, false}
 use mathlib.Core.Path.{◌≡◌, sym, ◌∙◌}
-use borrow.Author.Rules.{rules}
-use borrow.Author.Tests.{not-true, not-false}
 use Rattle.service.specs.Serving.{Lent, is_lent}
 use Rattle.service.proofs.Serving.{kept_in_words, lent_words, serves_torn}
 use Rattle.service.proofs.serve_write.Goals as goal

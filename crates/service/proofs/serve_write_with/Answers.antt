@@ -1,8 +1,6 @@
 -- As `serve_with`, of `write`, which only reads the words.
 use mathlib.Core.Bool.{true}
 use mathlib.Core.Path.{◌≡◌, refl, sym, ◌∙◌}
-use borrow.Author.Rules.{rules}
-use borrow.Author.Tests.{not-true, not-false}
 use Rattle.words.proofs.Words.{beside_same}
 use Rattle.service.specs.Serving.{Lent, is_lent}
 use Rattle.service.proofs.Serving.{lent_room, lent_words, serves_with, serves_with_torn}

@@ -1,7 +1,6 @@
 -- `tell` meets its contract: two stores in front where the call was accepted, else none.
 use mathlib.Core.List.{[], ◌∷◌}
 use mathlib.Core.Path.{refl}
-use borrow.Author.Rules.{rules}
 use borrow.Author.Tests.{eq-eqb, ne_eqb}
 use Rattle.words.proofs.Stores.{stores}
 use Rattle.service.specs.Serving.{tells}

@@ -2,7 +2,6 @@
 use mathlib.Core.List.{map}
 use mathlib.Core.Path.{refl, ap, sym, ◌∙◌}
 use Prim.Native.Nat.{◌%◌}
-use borrow.Author.Rules.{rules}
 use borrow.Author.Tests.{eq-eqb, ne_eqb}
 use lib.ListN.{length, take}
 use Rattle.map.specs.declared.Gathered.{Gathered}

@@ -1,7 +1,6 @@
 -- What was gathered is the map's: its first eight entries and their number are all that a boot looks at.
 use mathlib.Core.List.{map}
-use mathlib.Core.Path.{◌≡◌, ap, sym, ◌∙◌}
-use borrow.Author.Rules.{rules}
+use mathlib.Core.Path.{ap, sym, ◌∙◌}
 use lib.ListN.{take}
 use Rattle.map.specs.declared.Gathered.{Gathered}
 use Rattle.store.specs.Lending.{region_of}

@@ -1,6 +1,5 @@
 -- By what the number asks for: each call as its function promises; any other number is refused 17.
-use mathlib.Core.Path.{◌≡◌, refl, sym, ◌∙◌}
-use borrow.Author.Rules.{rules}
+use mathlib.Core.Path.{◌≡◌, refl, sym}
 use Rattle.store.specs.declared.Asked.TheVariants.{Known, Write, Read, Stats, Boot, Unknown}
 use Rattle.store.specs.Lending.{ask_of}
 use Rattle.store.proofs.call_counted.Goals as goal

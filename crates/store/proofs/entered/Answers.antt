@@ -1,5 +1,4 @@
 -- `entered` meets its contract: the entry is entered as a region.
-use borrow.Author.Rules.{rules}
 use Rattle.store.proofs.entered.Goals as goal
 
 pub returns : goal.returns

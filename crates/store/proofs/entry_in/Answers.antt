@@ -1,6 +1,5 @@
 -- `entry_in` meets its contract: the three numbers of the entry.
 use mathlib.Core.Path.{refl}
-use borrow.Author.Rules.{rules}
 use Rattle.store.proofs.entry_in.Goals as goal
 
 pub returns : goal.returns

@@ -1,9 +1,6 @@
 -- As `gather`, of the numbers: each turn enters the next entry.
-use Prim.Native.Nat.{◌≤◌, ◌-◌}
 use native.Mathlib.Omega.{arith}
-use borrow.Author.Rules.{rules}
-use Rattle.store.specs.Lending.{entries_of}
-use Rattle.store.proofs.Gathering.{Onward, numbers_begun, numbers_end, numbers_next}
+use Rattle.store.proofs.Gathering.{numbers_begun, numbers_end, numbers_next}
 use Rattle.store.proofs.gather_numbers.Goals as goal
 
 pub loop-i-init : goal.loop-i-init

@@ -1,7 +1,6 @@
 -- The five numbers are read, and the call is served by them.
 use mathlib.Core.List.{[], ◌∷◌}
 use mathlib.Core.Path.{refl}
-use borrow.Author.Rules.{rules}
 use Rattle.store.proofs.Asking.{serves_five}
 use Rattle.store.proofs.known_counted.Goals as goal
 

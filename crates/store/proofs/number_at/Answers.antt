@@ -1,7 +1,6 @@
 -- A number that is not there is 0.
 use mathlib.Core.Path.{sym}
 use lib.ListN.{get_or-eq_default}
-use borrow.Author.Rules.{rules}
 use Rattle.store.proofs.number_at.Goals as goal
 
 pub returns-else-i-numbers : goal.returns-else-i-numbers

@@ -1,6 +1,5 @@
 -- As `serve_read_with`, by the three numbers.
 use mathlib.Core.Path.{refl}
-use borrow.Author.Rules.{rules}
 use Rattle.store.proofs.read_counted.Goals as goal
 
 pub returns : goal.returns

@@ -1,5 +1,4 @@
 -- As `serve_write_with`, by the two numbers.
-use borrow.Author.Rules.{rules}
 use Rattle.store.proofs.write_counted.Goals as goal
 
 pub returns : goal.returns

@@ -1,7 +1,6 @@
 -- `text::put_named` meets its contract. The digits follow the text.
 use native.Mathlib.Omega.{arith}
 use Rattle.text.proofs.Writing.{wrote_then}
-use borrow.Author.Rules.{rules}
 use Rattle.text.proofs.put_named.Goals as goal
 
 pub returns : goal.returns

@@ -7,7 +7,6 @@ use Rattle.definition.specs.Text.{digits_of}
 use Rattle.text.specs.Writing.{Wrote}
 use Rattle.text.proofs.Digits.{length_digits}
 use Rattle.text.proofs.Writing.{to_the_end}
-use borrow.Author.Rules.{rules}
 use Rattle.text.proofs.put_number.Goals as goal
 
 pub returns : goal.returns

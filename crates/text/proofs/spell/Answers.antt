@@ -1,10 +1,10 @@
 -- `text::spell` meets its contract. The loop's invariant: the digits that are left, with those that stand behind i, are the number's.
-use Prim.Native.Nat.{◌+◌, ◌-◌, ◌≤◌}
-use mathlib.Core.List.{◌++◌, append-nil}
+use Prim.Native.Nat.{◌+◌, ◌-◌}
+use mathlib.Core.List.{append-nil}
 use mathlib.Core.Path.{◌≡◌, sym, ◌∙◌}
 use native.Mathlib.Omega.{arith}
-use lib.ListN.{length, drop, length-set, drop_of_length-le}
-use Rattle.definition.specs.Text.{digits_of, last_digits}
+use lib.ListN.{length-set, drop_of_length-le}
+use Rattle.definition.specs.Text.{digits_of}
 use Rattle.text.proofs.Digits.{digits_done, digits_more, no_digits}
 use borrow.Author.Rules.{rules}
 use Rattle.text.proofs.spell.Goals as goal

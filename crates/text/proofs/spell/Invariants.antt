@@ -1,12 +1,9 @@
 -- `text::spell` meets its contract. The loop's invariant: the digits that are left, with those that stand behind i, are the number's.
-use Prim.Native.Nat.{◌+◌, ◌-◌, ◌≤◌}
-use mathlib.Core.List.{◌++◌, append-nil}
-use mathlib.Core.Path.{◌≡◌, sym, ◌∙◌}
-use native.Mathlib.Omega.{arith}
-use lib.ListN.{length, drop, length-set, drop_of_length-le}
+use Prim.Native.Nat.{◌≤◌}
+use mathlib.Core.List.{◌++◌}
+use mathlib.Core.Path.{◌≡◌}
+use lib.ListN.{length, drop}
 use Rattle.definition.specs.Text.{digits_of, last_digits}
-use Rattle.text.proofs.Digits.{digits_done, digits_more, no_digits}
-use borrow.Author.Rules.{rules}
 use Rattle.text.proofs.spell.Given as goal
 
 abbrev pub invariant-loop-i : goal.invariant-loop-i

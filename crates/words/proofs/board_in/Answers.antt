@@ -1,6 +1,5 @@
 -- The board of the words is the standard one, which is fit.
 use mathlib.Core.Path.{refl}
-use borrow.Author.Rules.{rules}
 use Rattle.definition.proofs.Boards.{standard_fit}
 use Rattle.words.specs.Words.{board_in}
 use Rattle.words.proofs.board_in.Goals as goal

@@ -1,5 +1,4 @@
 -- `first_at` meets its contract: the halves of two words.
-use borrow.Author.Rules.{rules}
 use Rattle.words.proofs.first_at.Goals as goal
 
 pub returns : goal.returns

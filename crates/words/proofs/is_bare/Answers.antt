@@ -2,7 +2,6 @@
 use mathlib.Core.Bool.{and-false}
 use Prim.Native.Nat.{◌+◌}
 use native.Mathlib.Omega.{arith}
-use borrow.Author.Rules.{rules}
 use borrow.Author.Tests.{eq-eqb, ne_eqb}
 use Rattle.words.specs.Words.{word_in}
 use Rattle.words.proofs.Places.{place}

@@ -1,6 +1,5 @@
 -- `is_kept` meets its contract: few words are no state, and of enough the first says.
 use mathlib.Core.Path.{refl}
-use borrow.Author.Rules.{rules}
 use borrow.Author.Tests.{eq-eqb, le-leb, lt-leb, ne_eqb}
 use lib.ListN.{length}
 use Rattle.words.specs.Words.{version, state_words}

@@ -1,15 +1,8 @@
 -- `is_no_row` meets its contract. The loop's invariant: what was found so far is whether the words passed are zeros.
-use Prim.Native.Nat.{◌+◌, ◌-◌, ◌≤◌}
-use mathlib.Core.Bool.{and-true, and-false}
-use mathlib.Core.Logic.{⊎_elim}
-use mathlib.Core.Path.{◌≡◌, refl, ◌∙◌}
-use borrow.Author.Rules.{rules}
-use borrow.Author.Tests.{eq-eqb, ne_eqb}
-use native.Mathlib.Omega.{arith}
+use Prim.Native.Nat.{◌-◌, ◌≤◌}
+use mathlib.Core.Path.{◌≡◌}
 use Rattle.definition.specs.Basics.{all, range}
-use Rattle.definition.proofs.Tests.{range_last}
-use Rattle.words.specs.Words.{word_in}
-use Rattle.words.proofs.Unused.{is_zero, unused}
+use Rattle.words.proofs.Unused.{is_zero}
 use Rattle.words.proofs.is_no_row.Given as goal
 
 abbrev pub invariant-loop-k : goal.invariant-loop-k

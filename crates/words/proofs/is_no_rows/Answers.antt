@@ -1,14 +1,7 @@
 -- `is_no_rows` meets its contract. The loop's invariant: the rows that are left decide as all of them do, and the loop ends behind the rows in use or behind all eight.
-use Prim.Native.Nat.{◌+◌, ◌*◌, ◌-◌, ◌%◌, ◌≤◌, ◌<◌}
-use mathlib.Core.Path.{◌≡◌, refl, sym, ◌∙◌}
+use mathlib.Core.Path.{refl, sym, ◌∙◌}
 use native.Mathlib.Omega.{arith}
-use lib.ListN.{drop}
-use borrow.Author.Rules.{rules}
-use borrow.Author.Tests.{not-true, not-false}
-use Rattle.definition.specs.Basics.{all}
-use Rattle.definition.specs.Torn.{is_no_row}
-use Rattle.words.specs.Words.{rows_in, used_in}
-use Rattle.words.proofs.Unused.{unused_from, unused_from_lem, unused_next, unused_end}
+use Rattle.words.proofs.Unused.{unused_from_lem, unused_next, unused_end}
 use Rattle.words.proofs.is_no_rows.Goals as goal
 
 pub loop-at-init : goal.loop-at-init

@@ -1,14 +1,11 @@
 -- `is_no_rows` meets its contract. The loop's invariant: the rows that are left decide as all of them do, and the loop ends behind the rows in use or behind all eight.
 use Prim.Native.Nat.{◌+◌, ◌*◌, ◌-◌, ◌%◌, ◌≤◌, ◌<◌}
-use mathlib.Core.Path.{◌≡◌, refl, sym, ◌∙◌}
-use native.Mathlib.Omega.{arith}
+use mathlib.Core.Path.{◌≡◌}
 use lib.ListN.{drop}
-use borrow.Author.Rules.{rules}
-use borrow.Author.Tests.{not-true, not-false}
 use Rattle.definition.specs.Basics.{all}
 use Rattle.definition.specs.Torn.{is_no_row}
 use Rattle.words.specs.Words.{rows_in, used_in}
-use Rattle.words.proofs.Unused.{unused_from, unused_from_lem, unused_next, unused_end}
+use Rattle.words.proofs.Unused.{unused_from}
 use Rattle.words.proofs.is_no_rows.Given as goal
 
 abbrev pub invariant-loop-at : goal.invariant-loop-at

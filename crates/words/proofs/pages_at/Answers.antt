@@ -2,7 +2,6 @@
 use mathlib.Core.Path.{◌≡◌, refl}
 use Prim.Native.Nat.{◌+◌, ◌*◌}
 use native.Mathlib.Omega.{arith}
-use borrow.Author.Rules.{rules}
 use Rattle.words.specs.Words.{row_in}
 use Rattle.words.proofs.Places.{row_place, row_none}
 use Rattle.words.proofs.pages_at.Goals as goal

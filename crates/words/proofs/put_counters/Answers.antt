@@ -3,7 +3,6 @@ use native.Mathlib.Omega.{arith}
 use lib.ListN.{length-set}
 use Rattle.words.specs.Words.{counters_at, counter_words}
 use Rattle.words.proofs.Stores.{stores}
-use borrow.Author.Rules.{rules}
 use Rattle.words.proofs.put_counters.Goals as goal
 
 pub bounds-words-93 : goal.bounds-words-93

@@ -1,15 +1,12 @@
 -- `put_kept` meets its contract. The loop's invariant: behind the first word stand the words of the rows passed, and there are as many words as before.
-use Prim.Native.Nat.{◌-◌, ◌≤◌}
-use mathlib.Core.Path.{◌≡◌, refl, ◌∙◌}
+use mathlib.Core.Path.{refl, ◌∙◌}
 use native.Mathlib.Omega.{arith}
-use lib.ListN.{length, take, length-set}
+use lib.ListN.{length-set}
 use lib.Seq.{take_all}
-use Rattle.record.specs.Records.{with_bytes}
 use Rattle.record.proofs.Bytes.{with_none}
-use Rattle.words.specs.Words.{Long, rows_words}
+use Rattle.words.specs.Words.{rows_words}
 use Rattle.words.proofs.Owned.{rows_eight}
 use Rattle.words.proofs.Rows.{row_more, kept_stores}
-use borrow.Author.Rules.{rules}
 use Rattle.words.proofs.put_kept.Goals as goal
 
 pub loop-i-init : goal.loop-i-init

@@ -1,15 +1,9 @@
 -- `put_kept` meets its contract. The loop's invariant: behind the first word stand the words of the rows passed, and there are as many words as before.
 use Prim.Native.Nat.{◌-◌, ◌≤◌}
-use mathlib.Core.Path.{◌≡◌, refl, ◌∙◌}
-use native.Mathlib.Omega.{arith}
-use lib.ListN.{length, take, length-set}
-use lib.Seq.{take_all}
+use mathlib.Core.Path.{◌≡◌}
+use lib.ListN.{length, take}
 use Rattle.record.specs.Records.{with_bytes}
-use Rattle.record.proofs.Bytes.{with_none}
 use Rattle.words.specs.Words.{Long, rows_words}
-use Rattle.words.proofs.Owned.{rows_eight}
-use Rattle.words.proofs.Rows.{row_more, kept_stores}
-use borrow.Author.Rules.{rules}
 use Rattle.words.proofs.put_kept.Given as goal
 
 abbrev pub invariant-loop-i : goal.invariant-loop-i

@@ -2,7 +2,6 @@
 use native.Mathlib.Omega.{arith}
 use lib.ListN.{length-set}
 use Rattle.words.proofs.Stores.{three_stores}
-use borrow.Author.Rules.{rules}
 use Rattle.words.proofs.put_pair.Goals as goal
 
 pub bounds-words-at-2 : goal.bounds-words-at-2

@@ -1,5 +1,4 @@
 -- `put_queued` meets its contract: its store changes the queue's count alone.
-use borrow.Author.Rules.{rules}
 use Rattle.words.proofs.Beside.{queued_beside}
 use Rattle.words.proofs.put_queued.Goals as goal
 

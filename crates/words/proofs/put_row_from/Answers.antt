@@ -1,10 +1,9 @@
 -- `put_row_from` meets its contract: its two stores and its three pairs are one `with_bytes`.
-use mathlib.Core.Path.{refl, ◌∙◌}
+use mathlib.Core.Path.{refl}
 use native.Mathlib.Omega.{arith}
 use lib.ListN.{length-set}
 use Rattle.words.specs.Words.{row_words}
 use Rattle.words.proofs.Stores.{row_stores}
-use borrow.Author.Rules.{rules}
 use Rattle.words.proofs.put_row_from.Goals as goal
 
 pub bounds-words-at-2 : goal.bounds-words-at-2

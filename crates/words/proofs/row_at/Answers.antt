@@ -1,7 +1,6 @@
 -- `row_at` meets its contract: the row i, if it is in use, begins at the word 1 + 11 * i.
 use mathlib.Core.Path.{sym, ◌∙◌}
 use native.Mathlib.Omega.{arith}
-use borrow.Author.Rules.{rules}
 use Rattle.words.proofs.Places.{row_place, row_none}
 use Rattle.words.proofs.row_at.Goals as goal
 

@@ -1,6 +1,5 @@
 -- `row_from` meets its contract: its six lists are read by `first_at` and `second_at`.
 use Rattle.words.specs.Words.{row_in}
-use borrow.Author.Rules.{rules}
 use Rattle.words.proofs.row_from.Goals as goal
 
 pub returns : goal.returns

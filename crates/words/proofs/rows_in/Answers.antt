@@ -1,6 +1,5 @@
 -- `rows_in` meets its contract: each row is read by `row_at`.
 use Rattle.words.specs.Words.{rows_from}
-use borrow.Author.Rules.{rules}
 use Rattle.words.proofs.rows_in.Goals as goal
 
 pub returns : goal.returns

@@ -1,5 +1,4 @@
 -- `fits` meets its contract: its two tests, on what `align` and `pages` give.
-use borrow.Author.Rules.{rules}
 use borrow.Author.Tests.{eq-eqb, ne_eqb}
 use Rattle.level.specs.Level.{rank}
 use Rattle.level.proofs.Sizes.{size_positive}

@@ -1,7 +1,6 @@
 -- `size` meets its contract: the bytes of as many pages as `pages` gives.
 use Prim.Native.Nat.{ℕ, ◌*◌}
 use mathlib.Core.Path.{ap, ◌∙◌}
-use borrow.Author.Rules.{rules}
 use Rattle.level.proofs.Ranks.{rank_below}
 use Rattle.level.proofs.Sizes.{size_most}
 use Rattle.level.proofs.Level.size.Goals as goal

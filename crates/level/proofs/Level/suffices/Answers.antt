@@ -1,5 +1,4 @@
 -- `suffices` meets its contract: its two tests, on the bytes of the size and of the alignment.
-use borrow.Author.Rules.{rules}
 use borrow.Author.Tests.{le-leb, lt-leb}
 use Rattle.level.proofs.Ranks.{rank_below}
 use Rattle.level.proofs.Sizes.{size_most}
