@@ -9,7 +9,6 @@ ghost use Rattle.jilakkor.specs.Answering.{Answers, Prints};
 
 use anyhow::{Context, Result};
 use program::Input;
-use std::alloc::Global;
 use std::io::{Read, Write};
 
 // Where standard error can't be written there is nowhere left to say so.
@@ -35,10 +34,10 @@ fn print_answers<W: Write>(
         .context("jilakkor: standard output")
 }
 
-fn answer<W: Write>(rt: &impl Eprint, alloc: Global, script: &[u8], out: &mut W) -> Result<()>
+fn answer<W: Write>(rt: &impl Eprint, script: &[u8], out: &mut W) -> Result<()>
     ensures { OnOk result (Prints script.now 4194304 (W.contents out.old) (W.contents out.new)) }
 {
-    let mut answers = program::answer_room(alloc)?;
+    let mut answers = program::answer_room();
     print_answers(rt, script, &mut answers, out)
 }
 
@@ -48,19 +47,14 @@ fn script_room() -> [u8; 262145] {
     [0; 262145]
 }
 
-fn answer_input<R: Read, W: Write>(
-    rt: &impl Eprint,
-    alloc: Global,
-    reader: &mut R,
-    out: &mut W,
-) -> Result<()>
+fn answer_input<R: Read, W: Write>(rt: &impl Eprint, reader: &mut R, out: &mut W) -> Result<()>
     ensures { OnOk result (IfSome (R.remaining reader.old)
         (λ script. Answers script (W.contents out.old) (W.contents out.new))) }
 {
     let mut script = script_room();
     let input = program::read_all(reader, &mut script);
     match input {
-        Input::Whole(n) => answer(rt, alloc, &script[..n], out),
+        Input::Whole(n) => answer(rt, &script[..n], out),
         Input::TooLong => {
             complain(rt, "jilakkor: the script is longer than 262144 bytes");
             Ok(())
@@ -70,5 +64,5 @@ fn answer_input<R: Read, W: Write>(
 }
 
 fn main(rt: HostRuntime) -> Result<()> {
-    answer_input(&rt, rt.alloc(), &mut rt.stdin(), &mut rt.stdout())
+    answer_input(&rt, &mut rt.stdin(), &mut rt.stdout())
 }

@@ -259,7 +259,7 @@ fn call_now(
 ) -> Turn
     requires long { Long words.old }
     requires sure { Sure program_board (running_with running words.old)
-        (record { records = records.now; memory = memory.old; queue = queue.old }) }
+        (record { records = records.old; memory = memory.old; queue = queue.old }) }
     requires at_in_bounds { at + 512 ≤ length answer.old }
     ensures does { Does program_board (Asks (call_of op (λ i. get_or n i 0))) (ask_name op) (running_with running words.old)
         (record { records = records.old; memory = memory.old; queue = queue.old }) answer.old at
@@ -297,7 +297,7 @@ fn take_turn(
 ) -> Turn
     requires long { Long words.old }
     requires sure { Sure program_board (running_with running words.old)
-        (record { records = records.now; memory = memory.old; queue = queue.old }) }
+        (record { records = records.old; memory = memory.old; queue = queue.old }) }
     requires at_in_bounds { (at + 512 ≤ length answer.old) × (running.count + 1 < 2 ^ 64) }
     ensures turns { Turns program_board (running_with running words.old)
         (record { records = records.old; memory = memory.old; queue = queue.old }) line.now

@@ -13,7 +13,6 @@ ghost use Rattle.vectors.specs.Framing.{headed, tallied, told, Spelt, Heads, Fra
 
 use anyhow::{Context, Result};
 use program::Input;
-use std::alloc::Global;
 use std::io::{self, Read, Write};
 
 // ---- the framing
@@ -329,17 +328,16 @@ fn report<W: Write>(out: &mut W, t: Tally) -> io::Result<()>
     out.write_all(&line[..k])
 }
 
-fn replay_all<W: Write>(rt: &impl Eprint, alloc: Global, out: &mut W, file: &[u8]) -> Result<()>
+fn replay_all<W: Write>(rt: &impl Eprint, out: &mut W, file: &[u8]) -> Result<()>
     requires { length file.now ≤ 1048576 }
 {
-    let mut answers = program::answer_room(alloc)?;
+    let mut answers = program::answer_room();
     let t = replay(rt, out, file, &mut answers);
     report(out, t).context("vectors: standard output")
 }
 
 fn replay_input<R: Read, W: Write>(
     rt: &impl Eprint,
-    alloc: Global,
     reader: &mut R,
     out: &mut W,
     file: &mut [u8],
@@ -348,7 +346,7 @@ fn replay_input<R: Read, W: Write>(
 {
     let input = program::read_all(reader, file);
     match input {
-        Input::Whole(n) => replay_all(rt, alloc, out, &file[..n]),
+        Input::Whole(n) => replay_all(rt, out, &file[..n]),
         Input::TooLong => {
             let _ = eprintln!(rt; "vectors: the file is longer than 1048576 bytes");
             Ok(())
@@ -365,11 +363,5 @@ fn file_room() -> [u8; 1048577] {
 
 fn main(rt: HostRuntime) -> Result<()> {
     let mut file = file_room();
-    replay_input(
-        &rt,
-        rt.alloc(),
-        &mut rt.stdin(),
-        &mut rt.stdout(),
-        &mut file,
-    )
+    replay_input(&rt, &mut rt.stdin(), &mut rt.stdout(), &mut file)
 }
