@@ -34,7 +34,7 @@ use lines::Ask;
 // Whether the words are a state's, and the answer has room.
 fn is_lent(words: &[u64], answer: &[u64]) -> bool
     ensures { result ≡ is_lent
-        (record { words = words.entry.now; records = []; memory = []; queue = []; answer = answer.now }) }
+        (record { words = words.now; records = []; memory = []; queue = []; answer = answer.now }) }
 {
     if answer.len() < 2 {
         return false;
@@ -363,7 +363,7 @@ pub fn serve_stats(
 
 fn is_roomy(words: &[u64], answer: &[u64]) -> bool
     ensures { result ≡ is_roomy
-        (record { words = words.entry.now; records = []; memory = []; queue = []; answer = answer.now }) }
+        (record { words = words.now; records = []; memory = []; queue = []; answer = answer.now }) }
 {
     if words.len() < words::STATE_WORDS {
         return false;
