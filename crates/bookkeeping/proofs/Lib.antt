@@ -19,4 +19,6 @@ pub mod Tilings
 pub mod Listings
 pub mod Good
 pub mod Kept
+pub mod Leveled
+pub mod Moves
 pub mod Regions

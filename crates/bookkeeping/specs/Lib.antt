@@ -1,3 +1,4 @@
 pub mod Blocks
 pub mod Claim
 pub mod Good
+pub mod Moves
