@@ -18,7 +18,7 @@ pub mod Bookkeeping
 pub mod Tilings
 pub mod Listings
 pub mod Good
-pub mod Kept
 pub mod Leveled
 pub mod Moves
+pub mod Kept
 pub mod Regions

@@ -1,5 +1,5 @@
 -- What every call leaves of the bounds that calls ask for (specs/Moves), in one walk over the calls: `step_moves`, `step_pass`, `step_leveled`. The same walk shows
--- that no call changes what is kept from boot, as Kept shows by one of its own. Then the same of a list of calls, whatever its length: `run_moves`, `run_pass`,
+-- that no call changes what is kept from boot, which Kept takes from here. Then the same of a list of calls, whatever its length: `run_moves`, `run_pass`,
 -- and `run_under`, by which counts that a test found small stay small.
 use Prim.Native.Nat.{ℕ, zero, suc, ◌+◌, ◌*◌, ◌/◌, ◌≤◌, ◌<◌, ◌^◌}
 use native.Mathlib.Nat.{le_of_suc-le-suc, pow-le-pow_right}

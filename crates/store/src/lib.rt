@@ -600,6 +600,7 @@ pub enum Asked {
     Unknown,
 }
 
+#[tactic(auto, unfolding(crate::specs::Lending::ask_of))]
 fn ask_of(op: u64) -> Asked
     ensures { result ≡ ask_of op }
 {
