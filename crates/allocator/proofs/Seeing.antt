@@ -1,7 +1,7 @@
 -- What a look for a page in one row tells of all regions: a row that has the page is where it stands, and a row that doesn't leaves it to those behind it
 -- (`Looking`).
 use Prim.Native.Nat.{ℕ, ◌+◌, ◌≤◌, ◌<◌, ◌^◌}
-use mathlib.Core.Bool.{Bool, true, false, cond, false≢true}
+use mathlib.Core.Bool.{Bool, true, false, cond}
 use mathlib.Core.List.{List}
 use mathlib.Core.Option.{none, some}
 use mathlib.Core.Path.{◌≡◌, refl, sym, ap, ◌∙◌}
@@ -23,7 +23,10 @@ use Rattle.world.specs.Stands.{StandsRow, base_at, region_at, row_at, shift}
 use Rattle.world.specs.Tables.{Sane}
 use Rattle.world.proofs.Sheets.{good_few}
 use Rattle.allocator.specs.declared.Seen.{Seen}
-use Rattle.allocator.specs.Spots.{SeesAll}
+use Rattle.std.specs.Prelude.{Option, None, Some}
+use Rattle.definition.specs.Allocator.{PhysicalFrameAllocator}
+use Rattle.world.specs.Tables.{Spotted}
+use Rattle.allocator.specs.Spots.{SeesAll, SeesPage}
 use Rattle.allocator.proofs.Arrays.{Onward, onward_none, onward_row, onward_found, onward_end, row_good, row_used, base_first, base_row, region_stands}
 
 -- ---- a look at one row
@@ -109,16 +112,9 @@ module _ {board : Board} where
         }
 
     -- no row is left
-    pub nothing_left : (r : Seen) → r.managed ≡ false → length (used_rows rows) ≤ i → SeesAll board f n rows p r
+    pub nothing_left : length (used_rows rows) ≤ i → SeesAll board f n rows p None
     unfolding is_managed
-    nothing_left r e h a T =
-        record {
-          managed = e ∙ sym (onward_end K.onward T h);
-          spot = λ t. absurd (false≢true (sym e ∙ t));
-          marks = λ t. absurd (false≢true (sym e ∙ t));
-          level = λ t. absurd (false≢true (sym e ∙ t));
-          frame = λ t. absurd (false≢true (sym e ∙ t));
-        }
+    nothing_left h a T = record { managed = sym (onward_end K.onward T h); page = λ r e. let z : ◌≡◌ {A = ℕ} 0 1 = cc in absurd (omega arith) }
 
     module _ (H : Here board n rows base i) (r : FoundPage) (e : page_of r ≡ lookup board (row_at rows i) base p) where
       pub not_here : r ≡ Nothing → Looking board f n rows p (base + managed board (row_at rows i).pages) (i + 1)
@@ -134,16 +130,23 @@ module _ {board : Board} where
         pub found_inside : q < n
         found_inside = omega (arith, (looked board (row_at rows i) base p r q e k).inside.high, H.fits)
 
+        found_page
+            : (m l : ℕ) → m ≡ (f q).marks → l ≡ (f q).level → (a : PhysicalFrameAllocator) → Spotted board rows i base q p → a.frames p ≡ frame_of (f q)
+            → (t : Seen) → ◌≡◌ {A = Option Seen} (Some (record { spot = record { index = i; base = base; page = q }; marks = m; level = l })) (Some t)
+            → SeesPage board f rows p a t
+        found_page m l x y a S F t k =
+            let z : ◌≡◌ {A = Seen} (record { spot = record { index = i; base = base; page = q }; marks = m; level = l }) t = cc in
+            let seen : SeesPage board f rows p a (record { spot = record { index = i; base = base; page = q }; marks = m; level = l }) =
+            record { spot = S; marks = x; level = y; frame = F } in
+            rw z at seen
+
         pub found_here : (m l : ℕ) → m ≡ (f q).marks → l ≡ (f q).level
-            → SeesAll board f n rows p (record { managed = true; spot = record { index = i; base = base; page = q }; marks = m; level = l })
+            → SeesAll board f n rows p (Some (record { spot = record { index = i; base = base; page = q }; marks = m; level = l }))
         unfolding is_managed
         found_here m l x y a T =
             let L = looked board (row_at rows i) base p r q e k in
             let S : StandsRow board f n base (row_at rows i) a.frames (region_at a.regions i) = rw K.based (region_stands T i H.used) in
             record {
               managed = sym (onward_found K.onward T H.used (manages_same S p ∙ L.has));
-              spot = λ t. record { used = H.used; based = K.based; inside = L.inside; number = L.number };
-              marks = λ t. x;
-              level = λ t. y;
-              frame = λ t. looked_frame S p q L;
+              page = found_page m l x y a (record { used = H.used; based = K.based; inside = L.inside; number = L.number }) (looked_frame S p q L);
             }

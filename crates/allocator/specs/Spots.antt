@@ -1,6 +1,6 @@
 -- What the functions of the allocator promise, for every allocator that the table stands for: `Sees` what stands at an address, `TurnsBy` what a free, a split
 -- or other marks make of the table, `PicksBy` what a search for a frame does.
-use Rattle.std.specs.Prelude.{ℕ, ◌-◌, ◌*◌, Bool, true, false, not, List, ◌≡◌, eqb, get_or}
+use Rattle.std.specs.Prelude.{ℕ, ◌-◌, ◌*◌, Bool, true, false, not, List, Option, Some, is_some, ◌≡◌, eqb, get_or}
 use Rattle.std.proofs.Math.Option.{none, some}
 use Rattle.definition.specs.declared.Record.{Record}
 use Rattle.definition.specs.declared.Row.{Row}
@@ -54,16 +54,20 @@ module _ (board : Board) where
   abbrev pub HeldAt : (ℕ → Record) → List Row → Spot → Type 0
   HeldAt f rows s = Held board (state_of f (row_at rows s.index)) s.base (row_at rows s.index).pages s.page
 
-  -- what stands at the page frame number p
-  pub record Sees (f : ℕ → Record) (rows : List Row) (p : ℕ) (a : PhysicalFrameAllocator) (r : Seen) : Type 0 where
-    pub managed : r.managed ≡ is_managed board a.regions p
-    pub spot : r.managed ≡ true → Spotted board rows r.spot.index r.spot.base r.spot.page p
-    pub marks : r.managed ≡ true → r.marks ≡ (f r.spot.page).marks
-    pub level : r.managed ≡ true → r.level ≡ (f r.spot.page).level
-    pub frame : r.managed ≡ true → a.frames p ≡ frame_of (f r.spot.page)
+  -- a page that was seen, whose page frame number is p
+  pub record SeesPage (f : ℕ → Record) (rows : List Row) (p : ℕ) (a : PhysicalFrameAllocator) (r : Seen) : Type 0 where
+    pub spot : Spotted board rows r.spot.index r.spot.base r.spot.page p
+    pub marks : r.marks ≡ (f r.spot.page).marks
+    pub level : r.level ≡ (f r.spot.page).level
+    pub frame : a.frames p ≡ frame_of (f r.spot.page)
 
-  abbrev pub SeesAll : (ℕ → Record) → ℕ → List Row → ℕ → Seen → Type 0
-  SeesAll f n rows p r = (a : PhysicalFrameAllocator) → Table board f n rows a → Sees f rows p a r
+  -- what stands at the page frame number p: its page where a region manages it, and only there
+  pub record Sees (f : ℕ → Record) (rows : List Row) (p : ℕ) (a : PhysicalFrameAllocator) (o : Option Seen) : Type 0 where
+    pub managed : is_some o ≡ is_managed board a.regions p
+    pub page : (r : Seen) → o ≡ Some r → SeesPage f rows p a r
+
+  abbrev pub SeesAll : (ℕ → Record) → ℕ → List Row → ℕ → Option Seen → Type 0
+  SeesAll f n rows p o = (a : PhysicalFrameAllocator) → Table board f n rows a → Sees f rows p a o
 
   -- the table became that of what `op` makes of its allocator
   abbrev pub TurnsBy : (PhysicalFrameAllocator → PhysicalFrameAllocator) → (ℕ → Record) → List Row → (ℕ → Record) → ℕ → List Row → Type 0
@@ -99,8 +103,8 @@ number_in words s = number_at (board_in words) (rows_in words) s
 abbrev pub HeldIn : (records words : List ℕ) → Spot → Type 0
 HeldIn records words s = InRows (board_in words) (rows_in words) s × HeldAt (board_in words) (record_at records) (rows_in words) s
 
-abbrev pub SeesIn : (records words : List ℕ) → ℕ → Seen → Type 0
-SeesIn records words p r = SeesAll (board_in words) (record_at records) (pages_in records) (rows_in words) p r
+abbrev pub SeesIn : (records words : List ℕ) → ℕ → Option Seen → Type 0
+SeesIn records words p o = SeesAll (board_in words) (record_at records) (pages_in records) (rows_in words) p o
 
 abbrev pub ListedIn : (records words : List ℕ) → ℕ → Bool → Type 0
 ListedIn records words level r = ListedAll (board_in words) (record_at records) (pages_in records) (rows_in words) level r

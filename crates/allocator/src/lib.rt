@@ -35,17 +35,16 @@ pub struct Spot {
     pub page: usize,
 }
 
-// What stands at an address: whether a region manages it, and if so where, with the marks and the level of its page's record.
+// What stands at an address that a region manages: where, with the marks and the level of its page's record.
 #[derive(Clone, Copy)]
 pub struct Seen {
-    pub managed: bool,
     pub spot: Spot,
     pub marks: u32,
     pub level: u32,
 }
 
 // get_frame, frame.rs 742.
-pub fn see(words: &[u64], records: &[u8], pa: PhysAddr) -> Seen
+pub fn see(words: &[u64], records: &[u8], pa: PhysAddr) -> Option<Seen>
     requires { Long words.now × SaneIn records.now words.now }
     ensures { SeesIn records.now words.now (pa.0 / (board_in words.now).page) result }
 {
@@ -55,12 +54,11 @@ pub fn see(words: &[u64], records: &[u8], pa: PhysAddr) -> Seen
     while i < 8 {
         let row = words::row_at(words, i);
         if row.pages == 0 {
-            return nothing_seen();
+            return None;
         }
         match region::get_frame(board, row, base, pa) {
             FoundPage::At(page) => {
-                return Seen {
-                    managed: true,
+                return Some(Seen {
                     spot: Spot {
                         index: i,
                         base,
@@ -68,30 +66,14 @@ pub fn see(words: &[u64], records: &[u8], pa: PhysAddr) -> Seen
                     },
                     marks: record::marks(records, page),
                     level: record::level(records, page),
-                };
+                });
             }
             FoundPage::Nothing => {}
         }
         base += row.pages - region::table_pages(board, row.pages);
         i += 1;
     }
-    nothing_seen()
-}
-
-// Nothing is managed there.
-pub fn nothing_seen() -> Seen
-    ensures { result.managed ≡ false }
-{
-    Seen {
-        managed: false,
-        spot: Spot {
-            index: 0,
-            base: 0,
-            page: 0,
-        },
-        marks: 0,
-        level: 0,
-    }
+    None
 }
 
 // Whether some list holds a frame of the level or above.

@@ -1,5 +1,5 @@
 -- 01, "The refusal sheet": the numbers of its refusals, and how the one is chosen that a call gives.
-use Rattle.std.specs.Prelude.{ℕ, ◌+◌, Bool, true, false, cond, List, [], ◌∷◌, eqb}
+use Rattle.std.specs.Prelude.{ℕ, ◌+◌, Bool, true, false, cond, List, [], ◌∷◌, eqb, ltb}
 use Rattle.std.proofs.Math.Option.{Option, none, some}
 use Rattle.definition.specs.declared.Refusal.{Refusal}
 use Rattle.definition.specs.declared.Refusal.TheVariants.{
@@ -73,6 +73,10 @@ rank_of n = place_in order n
 
 abbrev pub rank : Refusal → ℕ
 rank r = rank_of (number_of r)
+
+-- of two refusals that which is tried first
+abbrev pub earlier_of : Refusal → Refusal → Refusal
+earlier_of r t = cond (ltb (rank r) (rank t)) r t
 
 -- a line of the sheet: a refusal and whether its condition is met
 pub record Test : Type 0 where

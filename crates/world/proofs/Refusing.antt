@@ -1,11 +1,12 @@
--- Which refusal a call gives, from what it names: each kind of call has one law, by which the number is that of its frames, places and layouts alone.
+-- Which refusal a call gives, from what it names: each kind of call has one law, by which it is that of its frames, places and layouts alone.
 use Prim.Native.Nat.{ℕ}
 use mathlib.Core.Bool.{Bool, true, false, not, cond, ◌&&◌, ◌||◌}
 use mathlib.Core.List.{List, [], ◌∷◌, ◌++◌}
-use mathlib.Core.Option.{none}
+use mathlib.Core.Option.{Option, none, some}
 use mathlib.Core.Path.{◌≡◌, refl, sym, ap, ◌∙◌}
 use lib.Dec.{leb, ltb}
 use lib.ListN.{length}
+use Rattle.definition.specs.declared.Refusal.{Refusal}
 use Rattle.definition.specs.declared.Refusal.TheVariants.{
   BadLayout,
   NoLevel,
@@ -41,19 +42,19 @@ use Rattle.definition.specs.Calls.{
   sheet,
   wants,
 }
-use Rattle.world.specs.Refusals.{number_if, frame_refusal, place_refusal, range_of, earlier}
+use Rattle.world.specs.Refusals.{frame_refusal, place_refusal, range_of, earlier}
 
 -- a sheet of the four lines on frames and places
 abbrev four : (a b c d : Bool) → List Test
 four a b c d = (Outside when a) ∷ (NoFrameStart when b) ∷ (NotHeld when c) ∷ (PastTheEnd when d) ∷ []
 
-abbrev of_four : (a b c d : Bool) → ℕ
-of_four a b c d = number_if (first_met (four a b c d))
+abbrev of_four : (a b c d : Bool) → Option Refusal
+of_four a b c d = first_met (four a b c d)
 
 module _ (board : Board) where
   -- the lines that no range meets
   ranges : (s : Store) (fs ps : List Range)
-      → number_if (first_met (sheet board s (ranges_named fs ps)))
+      → first_met (sheet board s (ranges_named fs ps))
       ≡ of_four (any (outside board s) (fs ++ ps)) (any (λ r. not (starts_frame board s r.address)) fs) (any (λ r. not (is_held board s r.address)) fs)
       (any (leaves_frame board s) fs || any (leaves_region board s) ps)
   unfolding first_met sheet any
@@ -65,62 +66,62 @@ or-false false = refl
 
 -- ---- of two names the refusal that is tried first
 
-low_11 : (e f g h : Bool) → earlier 11 (of_four e f g h) ≡ 11
+outside_first : (e f g h : Bool) → earlier (some Outside) (of_four e f g h) ≡ some Outside
 unfolding first_met place_in
-low_11 true f g h = refl
-low_11 false true g h = refl
-low_11 false false true h = refl
-low_11 false false false true = refl
-low_11 false false false false = refl
+outside_first true f g h = refl
+outside_first false true g h = refl
+outside_first false false true h = refl
+outside_first false false false true = refl
+outside_first false false false false = refl
 
-low_12 : (f g h : Bool) → earlier 12 (of_four false f g h) ≡ 12
+no_start_first : (f g h : Bool) → earlier (some NoFrameStart) (of_four false f g h) ≡ some NoFrameStart
 unfolding first_met place_in
-low_12 true g h = refl
-low_12 false true h = refl
-low_12 false false true = refl
-low_12 false false false = refl
+no_start_first true g h = refl
+no_start_first false true h = refl
+no_start_first false false true = refl
+no_start_first false false false = refl
 
-low_13 : (g h : Bool) → earlier 13 (of_four false false g h) ≡ 13
+not_held_first : (g h : Bool) → earlier (some NotHeld) (of_four false false g h) ≡ some NotHeld
 unfolding first_met place_in
-low_13 true h = refl
-low_13 false true = refl
-low_13 false false = refl
+not_held_first true h = refl
+not_held_first false true = refl
+not_held_first false false = refl
 
-low_14 : (h : Bool) → earlier 14 (of_four false false false h) ≡ 14
+past_end_first : (h : Bool) → earlier (some PastTheEnd) (of_four false false false h) ≡ some PastTheEnd
 unfolding first_met place_in
-low_14 true = refl
-low_14 false = refl
+past_end_first true = refl
+past_end_first false = refl
 
-at_11 : (b c d : Bool) → earlier (of_four false b c d) 11 ≡ 11
+outside_last : (b c d : Bool) → earlier (of_four false b c d) (some Outside) ≡ some Outside
 unfolding first_met place_in
-at_11 true c d = refl
-at_11 false true d = refl
-at_11 false false true = refl
-at_11 false false false = refl
+outside_last true c d = refl
+outside_last false true d = refl
+outside_last false false true = refl
+outside_last false false false = refl
 
-at_12 : (c d : Bool) → earlier (of_four false false c d) 12 ≡ 12
+no_start_last : (c d : Bool) → earlier (of_four false false c d) (some NoFrameStart) ≡ some NoFrameStart
 unfolding first_met place_in
-at_12 true d = refl
-at_12 false true = refl
-at_12 false false = refl
+no_start_last true d = refl
+no_start_last false true = refl
+no_start_last false false = refl
 
-at_13 : (d : Bool) → earlier (of_four false false false d) 13 ≡ 13
+not_held_last : (d : Bool) → earlier (of_four false false false d) (some NotHeld) ≡ some NotHeld
 unfolding first_met place_in
-at_13 true = refl
-at_13 false = refl
+not_held_last true = refl
+not_held_last false = refl
 
 joint : (a e b f c g d h : Bool) → of_four (a || e) (b || f) (c || g) (d || h) ≡ earlier (of_four a b c d) (of_four e f g h)
 unfolding first_met place_in
-joint true e b f c g d h = sym (low_11 e f g h)
-joint false true b f c g d h = sym (at_11 b c d)
-joint false false true f c g d h = sym (low_12 f g h)
-joint false false false true c g d h = sym (at_12 c d)
-joint false false false false true g d h = sym (low_13 g h)
-joint false false false false false true d h = sym (at_13 d)
-joint false false false false false false true h = sym (low_14 h)
+joint true e b f c g d h = sym (outside_first e f g h)
+joint false true b f c g d h = sym (outside_last b c d)
+joint false false true f c g d h = sym (no_start_first f g h)
+joint false false false true c g d h = sym (no_start_last c d)
+joint false false false false true g d h = sym (not_held_first g h)
+joint false false false false false true d h = sym (not_held_last d)
+joint false false false false false false true h = sym (past_end_first h)
 joint false false false false false false false h = refl
 
-of_place : (e h : Bool) → number_if (first_met ((Outside when e) ∷ (PastTheEnd when h) ∷ [])) ≡ of_four e false false h
+of_place : (e h : Bool) → first_met ((Outside when e) ∷ (PastTheEnd when h) ∷ []) ≡ of_four e false false h
 unfolding first_met
 of_place true h = refl
 of_place false true = refl
@@ -129,7 +130,7 @@ of_place false false = refl
 module _ (board : Board) where
   module _ (s : Store) where
     -- a frame
-    pub one_frame : (a off len : ℕ) → number_if (first_met (sheet board s (ranges_named (part a off len) []))) ≡ frame_refusal board s (range_of a off len)
+    pub one_frame : (a off len : ℕ) → first_met (sheet board s (ranges_named (part a off len) [])) ≡ frame_refusal board s (range_of a off len)
     unfolding any
     one_frame a off len =
         let r = range_of a off len in
@@ -146,7 +147,7 @@ module _ (board : Board) where
     -- two frames
     pub two_frames
         : (a off b soff len : ℕ)
-        → number_if (first_met (sheet board s (ranges_named (part a off len ++ part b soff len) [])))
+        → first_met (sheet board s (ranges_named (part a off len ++ part b soff len) []))
         ≡ earlier (frame_refusal board s (range_of a off len)) (frame_refusal board s (range_of b soff len))
     unfolding any
     two_frames a off b soff len =
@@ -165,7 +166,7 @@ module _ (board : Board) where
     -- a frame and a place
     pub frame_and_place
         : (a off b soff len n : ℕ)
-        → number_if (first_met (sheet board s (ranges_named (part a off len) (part b soff n))))
+        → first_met (sheet board s (ranges_named (part a off len) (part b soff n)))
         ≡ earlier (frame_refusal board s (range_of a off len)) (place_refusal board s (range_of b soff n))
     unfolding any
     frame_and_place a off b soff len n =
@@ -177,7 +178,7 @@ module _ (board : Board) where
         ∙ ap (earlier (frame_refusal board s r)) (sym (of_place (outside board s t) (leaves_region board s t)))
 
     -- a place
-    pub one_place : (a off len : ℕ) → number_if (first_met (sheet board s (ranges_named [] (part a off len)))) ≡ place_refusal board s (range_of a off len)
+    pub one_place : (a off len : ℕ) → first_met (sheet board s (ranges_named [] (part a off len))) ≡ place_refusal board s (range_of a off len)
     unfolding any
     one_place a off len =
         let t = range_of a off len in
@@ -186,21 +187,21 @@ module _ (board : Board) where
         ∙ sym (of_place (outside board s t) (leaves_region board s t))
 
     -- a call that names nothing is not refused
-    pub nothing_refused : number_if (first_met (sheet board s nothing_named)) ≡ 0
+    pub nothing_refused : first_met (sheet board s nothing_named) ≡ none
     unfolding first_met sheet any
     nothing_refused = refl
 
     -- pages that the pager gives back
-    pub back_refused : (n : ℕ) → number_if (first_met (sheet board s (names (Back n)))) ≡ cond (ltb s.counters.pager_outstanding n) 15 0
+    pub back_refused : (n : ℕ) → first_met (sheet board s (names (Back n))) ≡ cond (ltb s.counters.pager_outstanding n) (some PagerLow) none
     unfolding first_met sheet any
     back_refused n = go (ltb s.counters.pager_outstanding n)
       where
-        go : (b : Bool) → number_if (or_later (PagerLow when (b || false)) none) ≡ cond b 15 0
+        go : (b : Bool) → or_later (PagerLow when (b || false)) none ≡ cond b (some PagerLow) none
         go true = refl
         go false = refl
 
     -- a held frame that goes into the queue
-    pub queue_refused : (a : ℕ) → number_if (first_met (sheet board s (names (Queue a)))) ≡ earlier (frame_refusal board s (range_of a 0 0)) (cond (leb s.kept.room (length s.queue)) 16 0)
+    pub queue_refused : (a : ℕ) → first_met (sheet board s (names (Queue a))) ≡ earlier (frame_refusal board s (range_of a 0 0)) (cond (leb s.kept.room (length s.queue)) (some QueueFull) none)
     unfolding first_met place_in sheet any
     queue_refused a =
         let r = range_of a 0 0 in
@@ -215,8 +216,9 @@ module _ (board : Board) where
         (go (outside board s r) (not (starts_frame board s a)) (not (is_held board s a)) (leaves_frame board s r) (leb s.kept.room (length s.queue)))
       where
         go : (a b c d f : Bool)
-            → number_if (or_later (Outside when a) (or_later (NoFrameStart when b) (or_later (NotHeld when c) (or_later (PastTheEnd when d) (or_later (QueueFull when f) none)))))
-            ≡ earlier (number_if (or_later (Outside when a) (or_later (NoFrameStart when b) (or_later (NotHeld when c) (or_later (PastTheEnd when d) none))))) (cond f 16 0)
+            → or_later (Outside when a) (or_later (NoFrameStart when b) (or_later (NotHeld when c) (or_later (PastTheEnd when d) (or_later (QueueFull when f) none))))
+            ≡ earlier (or_later (Outside when a) (or_later (NoFrameStart when b) (or_later (NotHeld when c) (or_later (PastTheEnd when d) none))))
+            (cond f (some QueueFull) none)
         go true b c d true = refl
         go true b c d false = refl
         go false true c d true = refl
@@ -231,8 +233,9 @@ module _ (board : Board) where
     -- a grant: 7, 8, and where nothing is listed 9, or 10 for one that may wait
     pub layout_refused
         : (y : Layout)
-        → number_if (first_met (sheet board s (layout_named y)))
-        ≡ cond (bad_layout y) 7 (cond (no_level board y) 8 (cond (wants board s y) (cond y.flags.wait_ok 10 9) 0))
+        → first_met (sheet board s (layout_named y))
+        ≡ cond (bad_layout y) (some BadLayout)
+        (cond (no_level board y) (some NoLevel) (cond (wants board s y) (some (cond y.flags.wait_ok MustWait NoFrame)) none))
     unfolding first_met sheet any
     layout_refused y =
         rw (
@@ -244,8 +247,8 @@ module _ (board : Board) where
         (go (bad_layout y) (no_level board y) (wants board s y) y.flags.wait_ok)
       where
         go : (a b c d : Bool)
-            → number_if (or_later (BadLayout when a) (or_later (NoLevel when b) (or_later (NoFrame when (c && not d)) (or_later (MustWait when (c && d)) none))))
-            ≡ cond a 7 (cond b 8 (cond c (cond d 10 9) 0))
+            → or_later (BadLayout when a) (or_later (NoLevel when b) (or_later (NoFrame when (c && not d)) (or_later (MustWait when (c && d)) none)))
+            ≡ cond a (some BadLayout) (cond b (some NoLevel) (cond c (some (cond d MustWait NoFrame)) none))
         go true b c d = refl
         go false true c d = refl
         go false false true true = refl

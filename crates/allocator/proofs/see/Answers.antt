@@ -17,8 +17,7 @@ loop-i-init c = looking_none
 
 pub returns-then-row-eq0 : goal.returns-then-row-eq0
 returns-then-row-eq0 c =
-    nothing_left c.loop-i.invariant c.nothing_seen.result c.nothing_seen.ensures
-    (row_last c.requires.1 c.loop-i.i c.loop-i.invariant.onward.used (rw c.row_at-row.ensures at c.if-row-eq0.true))
+    nothing_left c.loop-i.invariant (row_last c.requires.1 c.loop-i.i c.loop-i.invariant.onward.used (rw c.row_at-row.ensures at c.if-row-eq0.true))
 
 -- the row of a turn
 turn
@@ -88,4 +87,4 @@ overflow_add-base c =
 
 pub returns : goal.returns
 returns c =
-    nothing_left c.loop-i.invariant c.nothing_seen-2.result c.nothing_seen-2.ensures (row_eighth c.requires.1 c.loop-i.i c.loop-i-test.false)
+    nothing_left c.loop-i.invariant (row_eighth c.requires.1 c.loop-i.i c.loop-i-test.false)
