@@ -6,6 +6,7 @@ use mathlib.Core.Bool.{true}
 use mathlib.Core.List.{List}
 use mathlib.Core.Option.{none, some}
 use mathlib.Core.Path.{◌≡◌, refl, sym, ap, ◌∙◌}
+use Rattle.std.specs.Prelude.{Result, Ok, Err}
 use native.Mathlib.Omega.{arith}
 use borrow.Author.Tests.{leb-true}
 use mir.Syntax.{w8}
@@ -17,7 +18,7 @@ use Rattle.definition.specs.declared.Refusal.{Refusal}
 use Rattle.definition.specs.Board.{Board}
 use Rattle.definition.specs.Boot.{managed_pages, overlap, record_size}
 use Rattle.definition.specs.Contents.{frame_bytes}
-use Rattle.definition.specs.Refusal.{first_met, number_of}
+use Rattle.definition.specs.Refusal.{first_met}
 use Rattle.definition.specs.Calls.{Call, Outcome, Refused, done, names, perform, sheet, step}
 use Rattle.definition.specs.Store.{Kept, Store}
 use Rattle.definition.specs.World.{World, decode, encode, record_at}
@@ -29,21 +30,18 @@ use Rattle.words.specs.Words.{board_in, Long, pass_in}
 use Rattle.audit.proofs.Sheets.{sound_is}
 use Rattle.world.specs.Refusals.{frame_refusal, range_of, refusal_of}
 use Rattle.world.specs.Tables.{Table, Turned}
-use Rattle.world.proofs.Calling.{none_met, one_met}
 use Rattle.world.proofs.Encoding.{ends_agree, stands_encode}
 use Rattle.world.proofs.RoundTrip.{decode_stands, sound_sane}
 use Rattle.world.proofs.Sheets.{as_boot_lem}
 use Rattle.world.proofs.Spans.{managed_spans, rewritten_same, spans_bare, spans_turned, turned_bare}
 use Rattle.world.proofs.Writing.{Rewritten}
-use Rattle.allocator.specs.Spots.{Sees, number_at}
+use Rattle.allocator.specs.declared.Seen.{Seen}
+use Rattle.allocator.specs.Spots.{SeesPage, number_at}
 use Rattle.allocator.proofs.Turning.{sees_number}
-use Rattle.exam.specs.declared.Answer.{Answer}
-use Rattle.exam.specs.declared.Exam.{Exam}
 use Rattle.exam.specs.Making.{Made, Makes, Ready, Whole, world}
-use Rattle.exam.specs.Promise.{Leaves, Looks, bytes_if, told}
+use Rattle.exam.specs.Promise.{Answer, Leaves, Looks, bytes_if, refusal_in, reply, told}
 use Rattle.exam.proofs.Bounds.{idle_small, kernel_small, page_small}
-use Rattle.exam.proofs.Promises.{done_by, refused_by}
-use Rattle.exam.proofs.Tests.{bytes_seen, frame_seen, seen_edge, seen_managed}
+use Rattle.exam.proofs.Tests.{bytes_seen}
 
 -- what is known of a lent slice's bytes, as a number
 pub bytes_small : (bs : List ℕ) → ((i : ℕ) → Fits w8 (get_or bs i 0)) → (i : ℕ) → get_or bs i 0 < 256
@@ -104,23 +102,18 @@ module _ {board : Board} {w : World} {s : Store} (H : Whole board w s) where
   pub table_as_long : (bs : List ℕ) → length bs ≡ length w.records → Table board (record_at w.records) (pages_in bs) w.rows s.allocator
   table_as_long bs e = let same : pages_in bs ≡ pages_in w.records = ap (λ (n : ℕ). n / record_size) e in rw same whole_table
 
-  pub made_refused : (c : Call) (n : ℕ) → refusal_of board s c ≡ n → (n ≡ 0 → ⊥) → Made board (step board s c) w w (refused_by n)
-  made_refused c n e d = go (one_met (first_met (sheet board s (names c))) n e d)
-    where
-      go : (r : Refusal) × (first_met (sheet board s (names c)) ≡ some r) × (number_of r ≡ n) → Made board (step board s c) w w (refused_by n)
-      go (r, f, m) =
-          rw (step_refused board s c r f, ← m)
-          (record { whole = H; world = stands_encode w w s H.stands H.bytes refl refl refl; answer = refl })
+  pub made_refused : (c : Call) (r : Refusal) → refusal_of board s c ≡ some r → Made board (step board s c) w w (Err r)
+  made_refused c r e =
+      rw (step_refused board s c r e) (record { whole = H; world = stands_encode w w s H.stands H.bytes refl refl refl; answer = refl })
 
   pub made_done
-      : (c : Call) (o : Outcome) (v : World) → refusal_of board s c ≡ 0 → perform board s c ≡ o → Whole board v o.store → encode board o.store w ≡ v
+      : (c : Call) (o : Outcome) (v : World) → refusal_of board s c ≡ none → perform board s c ≡ o → Whole board v o.store → encode board o.store w ≡ v
       → Made board (step board s c) w v (told o.answer)
-  made_done c o v e p W d =
-      rw (step_done board s c (none_met (first_met (sheet board s (names c))) e), p) (record { whole = W; world = d; answer = refl })
+  made_done c o v e p W d = rw (step_done board s c e, p) (record { whole = W; world = d; answer = refl })
 
   -- where the store stays
   pub made_same
-      : (c : Call) (o : Outcome) → refusal_of board s c ≡ 0 → perform board s c ≡ o → o.store ≡ s → Made board (step board s c) w w (told o.answer)
+      : (c : Call) (o : Outcome) → refusal_of board s c ≡ none → perform board s c ≡ o → o.store ≡ s → Made board (step board s c) w w (told o.answer)
   made_same c o e p d =
       made_done c o w e p (rw d H) (rw d (stands_encode w w s H.stands H.bytes refl refl refl))
 
@@ -183,33 +176,26 @@ module _ {board : Board} {w : World} {s : Store} (H : Whole board w s) where
 
       -- the call's promise, where it leaves that store
       pub made_left
-          : (c : Call) (a n : ℕ) → refusal_of board s c ≡ 0 → perform board s c ≡ done t a n → drop v.queued v.queue ≡ drop v.queued w.queue
-          → Made board (step board s c) w v (done_by a n)
+          : (c : Call) (a n : ℕ) → refusal_of board s c ≡ none → perform board s c ≡ done t a n → drop v.queued v.queue ≡ drop v.queued w.queue
+          → Made board (step board s c) w v (Ok (reply a n))
       made_left c a n e p behind = made_done c (done t a n) v e p left_whole (left_written behind)
 
   -- ---- of a held frame that was looked at
 
-  module _ {a off len : ℕ} {r : Exam} (L : Looks board (record_at w.records) (pages_in w.records) w.rows a off len r) where
-    pub looked : Sees board (record_at w.records) w.rows (a / board.page) s.allocator r.seen
-    looked = L.sees s.allocator whole_table
-
-    pub looked_refusal : frame_refusal board s (range_of a off len) ≡ r.number
-    looked_refusal = frame_seen s a off len r.seen looked ∙ sym L.number
-
+  module _ {a off len : ℕ} {x : Result Seen Refusal} (L : Looks board (record_at w.records) (pages_in w.records) w.rows a off len x) where
     pub looked_refused
-        : (c : Call) → refusal_of board s c ≡ frame_refusal board s (range_of a off len) → (r.number ≡ 0 → ⊥)
-        → Made board (step board s c) w w (refused_by r.number)
-    looked_refused c same d = made_refused c r.number (same ∙ looked_refusal) d
+        : (c : Call) → refusal_of board s c ≡ frame_refusal board s (range_of a off len) → (e : Refusal) → x ≡ Err e → Made board (step board s c) w w (Err e)
+    looked_refused c same e k = made_refused c e (same ∙ L.refusal s whole_table ∙ ap refusal_in k)
 
-    module _ (z : r.number ≡ 0) where
-      pub looked_managed : r.seen.managed ≡ true
-      looked_managed = seen_managed a off len r.seen looked L.leveled r.number L.number z
+    module _ (r : Seen) (k : x ≡ Ok r) where
+      pub looked_free : frame_refusal board s (range_of a off len) ≡ none
+      looked_free = L.refusal s whole_table ∙ ap refusal_in k
 
-      pub looked_number : number_at board w.rows r.seen.spot ≡ a / board.page
-      looked_number = sees_number looked looked_managed
+      pub looked_page : SeesPage board (record_at w.records) w.rows (a / board.page) s.allocator r
+      looked_page = (L.found r k).sees s.allocator whole_table
 
-      pub looked_edge : a % board.page ≡ 0
-      looked_edge = seen_edge a off len r.seen looked L.leveled r.number L.number z
+      pub looked_number : number_at board w.rows r.spot ≡ a / board.page
+      looked_number = sees_number looked_page
 
-      pub looked_bytes : frame_bytes board s (a / board.page) ≡ bytes_if board r.seen
-      looked_bytes = bytes_seen s a off len r.seen looked looked_managed
+      pub looked_bytes : frame_bytes board s (a / board.page) ≡ bytes_if board r
+      looked_bytes = bytes_seen s a off len r looked_page

@@ -3,13 +3,16 @@
 use Prim.Native.Nat.{ℕ, ◌+◌, ◌*◌, ◌/◌, ◌%◌, ◌≤◌}
 use mathlib.Core.Bool.{Bool, true, false, not, cond, ◌&&◌}
 use mathlib.Core.List.{List, [], ◌∷◌}
-use mathlib.Core.Option.{none, some}
+use mathlib.Core.Option.{Option, none, some}
 use mathlib.Core.Path.{◌≡◌, refl, sym, ap, ◌∙◌}
+use Rattle.std.specs.Prelude.{Result, Ok, Err, Some, None}
+use Rattle.std.specs.Prelude.{Option as MayBe}
 use native.Mathlib.Omega.{arith}
 use borrow.Author.Tests.{eq-eqb, eqb-true, ltb-false}
 use lib.Dec.{eqb, ltb}
 use Rattle.definition.specs.declared.Record.{Record}
 use Rattle.definition.specs.declared.Row.{Row}
+use Rattle.definition.specs.declared.Refusal.{Refusal}
 use Rattle.definition.specs.declared.Refusal.TheVariants.{Outside, NoFrameStart, NotHeld, PastTheEnd}
 use Rattle.definition.specs.Basics.{is_some}
 use Rattle.definition.specs.Board.{Board}
@@ -22,18 +25,19 @@ use Rattle.definition.specs.Tracker.{starts_frame, is_held}
 use Rattle.definition.specs.Calls.{leaves_frame}
 use Rattle.definition.specs.World.{frame_of}
 use Rattle.definition.proofs.Tests.{and_left, and_right}
-use Rattle.world.specs.Refusals.{frame_refusal, number_if, range_of}
+use Rattle.world.specs.Refusals.{frame_refusal, range_of}
 use Rattle.allocator.specs.declared.Seen.{Seen}
-use Rattle.allocator.specs.Spots.{Sees}
+use Rattle.allocator.specs.Spots.{Sees, SeesAll, SeesPage}
 use Rattle.region.specs.Rep.{state_of}
 use Rattle.world.specs.Tables.{Sane}
 use Rattle.allocator.proofs.Turning.{sees_held, sees_in, spot_good}
-use Rattle.exam.specs.Promise.{HeldSeen, Leveled, bytes_if, seen_refusal}
+use Rattle.allocator.proofs.Standing.{sane_table, standing}
+use Rattle.exam.specs.Promise.{Found, Leveled, Looks, bytes_if, held_as, refusal_in}
 
 -- the four lines of the sheet by their tests
 by_tests : (a b c d : Bool)
-    → number_if (first_met ((Outside when not a) ∷ (NoFrameStart when not b) ∷ (NotHeld when not c) ∷ (PastTheEnd when d) ∷ []))
-    ≡ cond (not a) 11 (cond (not b) 12 (cond (not c) 13 (cond d 14 0)))
+    → first_met ((Outside when not a) ∷ (NoFrameStart when not b) ∷ (NotHeld when not c) ∷ (PastTheEnd when d) ∷ [])
+    ≡ cond (not a) (some Outside) (cond (not b) (some NoFrameStart) (cond (not c) (some NotHeld) (cond d (some PastTheEnd) none)))
 unfolding first_met
 by_tests false b c d = refl
 by_tests true false c d = refl
@@ -72,83 +76,88 @@ module _ (board : Board) where
 -- ---- the refusal
 
 module _ {board : Board} where
-  module _ {f : ℕ → Record} {rows : List Row} (s : Store) (a off len : ℕ) (r : Seen) (S : Sees board f rows (a / board.page) s.allocator r) where
-    seen_marks : r.managed ≡ true → s.allocator.frames (a / board.page) ≡ frame_of (record { marks = r.marks; level = r.level; earlier = (f r.spot.page).earlier; later = (f r.spot.page).later })
-    seen_marks m = S.frame m ∙ rw (S.marks m, S.level m) refl
+  -- of a page that was seen
+  module _ {f : ℕ → Record} {rows : List Row} (s : Store) (a off len : ℕ) (r : Seen) (S : SeesPage board f rows (a / board.page) s.allocator r) where
+    abbrev record_seen : Record
+    record_seen = record { marks = r.marks; level = r.level; earlier = (f r.spot.page).earlier; later = (f r.spot.page).later }
 
-    pub bytes_seen : r.managed ≡ true → board.page * size_of (s.allocator.frames (a / board.page)) ≡ bytes_if board r
-    bytes_seen m = rw (seen_marks m) (size_frame board (record { marks = r.marks; level = r.level; earlier = (f r.spot.page).earlier; later = (f r.spot.page).later }))
+    seen_marks : s.allocator.frames (a / board.page) ≡ frame_of record_seen
+    seen_marks = S.frame ∙ rw (S.marks, S.level) refl
 
-    starts_seen : r.managed ≡ true → is_some (s.allocator.frames (a / board.page)) ≡ eqb (r.marks % 2) 1
-    starts_seen m = rw (seen_marks m) (some_frame (record { marks = r.marks; level = r.level; earlier = (f r.spot.page).earlier; later = (f r.spot.page).later }))
+    pub bytes_seen : board.page * size_of (s.allocator.frames (a / board.page)) ≡ bytes_if board r
+    bytes_seen = rw seen_marks (size_frame board record_seen)
 
-    held_seen : r.managed ≡ true → eqb (r.marks % 2) 1 ≡ true → is_allocated (s.allocator.frames (a / board.page)) ≡ eqb (r.marks / 2 % 2) 1
-    held_seen m e = rw (seen_marks m, admitted_frame (record { marks = r.marks; level = r.level; earlier = (f r.spot.page).earlier; later = (f r.spot.page).later }) e) refl
+    starts_seen : is_some (s.allocator.frames (a / board.page)) ≡ eqb (r.marks % 2) 1
+    starts_seen = rw seen_marks (some_frame record_seen)
 
-    abbrev rest : ℕ
-    rest = cond (not (starts_frame board s a)) 12 (cond (not (is_held board s a)) 13 (cond (leaves_frame board s (range_of a off len)) 14 0))
+    held_seen : eqb (r.marks % 2) 1 ≡ true → is_allocated (s.allocator.frames (a / board.page)) ≡ eqb (r.marks / 2 % 2) 1
+    held_seen e = rw (seen_marks, admitted_frame record_seen e) refl
 
-    abbrev by_record : ℕ
-    by_record =
-        cond (not (eqb (a % board.page) 0 && eqb (r.marks % 2) 1)) 12 (cond (not (eqb (r.marks / 2 % 2) 1)) 13 (cond (ltb (bytes_if board r) (off + len)) 14 0))
+    abbrev by_store : Option Refusal
+    by_store =
+        cond (not (starts_frame board s a)) (some NoFrameStart)
+        (cond (not (is_held board s a)) (some NotHeld) (cond (leaves_frame board s (range_of a off len)) (some PastTheEnd) none))
 
-    admitted : r.managed ≡ true → (b c : Bool) → eqb (a % board.page) 0 ≡ b → eqb (r.marks % 2) 1 ≡ c → rest ≡ by_record
-    admitted m false c e d = rw (starts_seen m, e) refl
-    admitted m true false e d = rw (starts_seen m, e, d) refl
-    admitted m true true e d = rw (bytes_seen m, starts_seen m, held_seen m d, e, d) refl
+    last_two : (h l : Bool) → cond (not h) (some NotHeld) (cond l (some PastTheEnd) none) ≡ refusal_in (cond (not h) (Err NotHeld) (cond l (Err PastTheEnd) (Ok r)))
+    last_two false l = refl
+    last_two true true = refl
+    last_two true false = refl
 
-    managed_or : (m : Bool) → r.managed ≡ m → cond (not r.managed) 11 rest ≡ cond (not r.managed) 11 by_record
-    managed_or false m = ap (λ (t : Bool). cond (not t) 11 rest) m ∙ ap (λ (t : Bool). cond (not t) 11 by_record) (sym m)
-    managed_or true m = ap (λ (t : ℕ). cond (not r.managed) 11 t) (admitted m (eqb (a % board.page) 0) (eqb (r.marks % 2) 1) refl refl)
+    page_seen : (b c : Bool) → eqb (a % board.page) 0 ≡ b → eqb (r.marks % 2) 1 ≡ c → by_store ≡ refusal_in (held_as board (Some r) a off len)
+    page_seen false c e d = rw (starts_seen, e) refl
+    page_seen true false e d = rw (starts_seen, e, d) refl
+    page_seen true true e d = rw (bytes_seen, starts_seen, held_seen d, e, d) (last_two (eqb (r.marks / 2 % 2) 1) (ltb (board.page * size r.level) (off + len)))
 
-    pub frame_seen : frame_refusal board s (range_of a off len) ≡ seen_refusal board r a off len
-    frame_seen =
-        by_tests (is_managed board s.allocator.regions (a / board.page)) (starts_frame board s a) (is_held board s a) (leaves_frame board s (range_of a off len))
-        ∙ ap (λ (t : Bool). cond (not t) 11 rest) (sym S.managed)
-        ∙ managed_or r.managed refl
-
-  -- where nothing is refused, a held frame starts there and the range lies in it
-  module _
-      {f : ℕ → Record} {rows : List Row} {x : PhysicalFrameAllocator} (a off len : ℕ) (r : Seen) (S : Sees board f rows (a / board.page) x r)
-      (leveled : Leveled r) (n : ℕ) (e : n ≡ seen_refusal board r a off len) (z : n ≡ 0)
-    where
-      abbrev Good : Bool → Bool → Bool → Bool → Type 0
-      Good m b c d = (m ≡ true) × (b ≡ true) × (c ≡ true) × (d ≡ false)
-
-      all_good : (m b c d : Bool) → ◌≡◌ {A = ℕ} 0 (cond (not m) 11 (cond (not b) 12 (cond (not c) 13 (cond d 14 0)))) → Good m b c d
-      all_good false b c d h = absurd (omega arith)
-      all_good true false c d h = absurd (omega arith)
-      all_good true true false d h = absurd (omega arith)
-      all_good true true true true h = absurd (omega arith)
-      all_good true true true false h = (refl, refl, refl, refl)
-
-      tests : Good r.managed (eqb (a % board.page) 0 && eqb (r.marks % 2) 1) (eqb (r.marks / 2 % 2) 1) (ltb (bytes_if board r) (off + len))
-      tests = all_good r.managed (eqb (a % board.page) 0 && eqb (r.marks % 2) 1) (eqb (r.marks / 2 % 2) 1) (ltb (bytes_if board r) (off + len)) (sym z ∙ e)
-
-      pub seen_managed : r.managed ≡ true
-      seen_managed = tests.0
-
-      pub seen_edge : a % board.page ≡ 0
-      seen_edge = eqb-true (a % board.page) 0 (and_left _ _ tests.1)
-
-      pub seen_admitted : r.marks % 2 ≡ 1
-      seen_admitted = eqb-true (r.marks % 2) 1 (and_right (eqb (a % board.page) 0) _ tests.1)
-
-      pub seen_bytes : bytes_if board r ≡ board.page * size r.level
-      seen_bytes = rw (and_right (eqb (a % board.page) 0) _ tests.1) refl
-
-      pub seen_range : off + len ≤ board.page * size r.level
-      seen_range = omega (arith, ltb-false (bytes_if board r) (off + len) tests.3, seen_bytes)
-
-      pub seen_held : HeldSeen board f rows r
-      seen_held =
-          let h = sees_held S seen_managed seen_admitted (eqb-true (r.marks / 2 % 2) 1 tests.2) in
-          record { inside = h.0; held = h.1; leveled = leveled seen_managed seen_admitted; marks = S.marks seen_managed; level = S.level seen_managed }
+  pub frame_seen
+      : {f : ℕ → Record} {rows : List Row} (s : Store) (a off len : ℕ) (o : MayBe Seen) → Sees board f rows (a / board.page) s.allocator o
+      → frame_refusal board s (range_of a off len) ≡ refusal_in (held_as board o a off len)
+  frame_seen s a off len None S =
+      by_tests (is_managed board s.allocator.regions (a / board.page)) (starts_frame board s a) (is_held board s a) (leaves_frame board s (range_of a off len))
+      ∙ rw (← S.managed) refl
+  frame_seen s a off len (Some r) S =
+      by_tests (is_managed board s.allocator.regions (a / board.page)) (starts_frame board s a) (is_held board s a) (leaves_frame board s (range_of a off len))
+      ∙ rw (← S.managed) (page_seen s a off len r (S.page r refl) (eqb (a % board.page) 0) (eqb (r.marks % 2) 1) refl refl)
 
   -- the frames of a sane table have one of the three levels
-  pub sees_leveled : {f : ℕ → Record} {n p : ℕ} {rows : List Row} {a : PhysicalFrameAllocator} {r : Seen} → Sane board f n rows → Sees board f rows p a r → Leveled r
+  pub sees_leveled : {f : ℕ → Record} {n p : ℕ} {rows : List Row} {a : PhysicalFrameAllocator} {o : MayBe Seen} → Sane board f n rows → Sees board f rows p a o → Leveled o
   unfolding state_of
-  sees_leveled {f = f} {rows = rows} {r = r} N S m d =
-      let G = spot_good N (sees_in S m) in
-      let e : frame_of (f r.spot.page) ≡ some (of_record (f r.spot.page)) = admitted_frame (f r.spot.page) (eq-eqb _ 1 (sym (ap (λ (x : ℕ). x % 2) (S.marks m)) ∙ d)) in
-      omega (arith, S.level m, (G.whole.tile r.spot.page (of_record (f r.spot.page)) (S.spot m).inside e).level)
+  sees_leveled {f = f} {rows = rows} N S r k d =
+      let P = S.page r k in
+      let G = spot_good N (sees_in P) in
+      let e : frame_of (f r.spot.page) ≡ some (of_record (f r.spot.page)) = admitted_frame (f r.spot.page) (eq-eqb _ 1 (sym (ap (λ (x : ℕ). x % 2) P.marks) ∙ d)) in
+      omega (arith, P.level, (G.whole.tile r.spot.page (of_record (f r.spot.page)) P.spot.inside e).level)
+
+-- ---- where nothing is refused, a held frame starts there and the range lies in it
+
+all_passed : (r t : Seen) (b c d : Bool)
+    → ◌≡◌ {A = Result Seen Refusal} (cond (not b) (Err NoFrameStart) (cond (not c) (Err NotHeld) (cond d (Err PastTheEnd) (Ok r)))) (Ok t)
+    → (b ≡ true) × (c ≡ true) × (d ≡ false) × (r ≡ t)
+all_passed r t false c d h = absurd (let z : ◌≡◌ {A = ℕ} 0 1 = cc in omega arith)
+all_passed r t true false d h = absurd (let z : ◌≡◌ {A = ℕ} 0 1 = cc in omega arith)
+all_passed r t true true true h = absurd (let z : ◌≡◌ {A = ℕ} 0 1 = cc in omega arith)
+all_passed r t true true false h = let e : r ≡ t = cc in (refl, refl, refl, e)
+
+module _ {board : Board} {f : ℕ → Record} {n : ℕ} {rows : List Row} (N : Sane board f n rows) (a off len : ℕ) where
+  page_found : (r : Seen) → SeesAll board f n rows (a / board.page) (Some r) → held_as board (Some r) a off len ≡ Ok r → Found board f n rows a off len r
+  page_found r all e =
+      let t = all_passed r r (eqb (a % board.page) 0 && eqb (r.marks % 2) 1) (eqb (r.marks / 2 % 2) 1) (ltb (bytes_if board r) (off + len)) e in
+      let admitted = eqb-true (r.marks % 2) 1 (and_right (eqb (a % board.page) 0) _ t.0) in
+      let S = all (standing board f rows) (sane_table N) in
+      let P = S.page r refl in
+      let h = sees_held P admitted (eqb-true (r.marks / 2 % 2) 1 t.1) in
+      let bytes : bytes_if board r ≡ board.page * size r.level = rw (and_right (eqb (a % board.page) 0) _ t.0) refl in
+      record {
+        held = record { inside = h.0; held = h.1; leveled = sees_leveled N S r refl admitted; marks = P.marks; level = P.level };
+        edge = eqb-true (a % board.page) 0 (and_left _ _ t.0);
+        range = omega (arith, ltb-false (bytes_if board r) (off + len) t.2, bytes);
+        sees = λ x T. (all x T).page r refl;
+      }
+
+  seen_found : (o : MayBe Seen) → SeesAll board f n rows (a / board.page) o → (r : Seen) → held_as board o a off len ≡ Ok r → Found board f n rows a off len r
+  seen_found None all r e = absurd (let z : ◌≡◌ {A = ℕ} 0 1 = cc in omega arith)
+  seen_found (Some t) all r e =
+      let k : t ≡ r = (all_passed t r (eqb (a % board.page) 0 && eqb (t.marks % 2) 1) (eqb (t.marks / 2 % 2) 1) (ltb (bytes_if board t) (off + len)) e).3 in
+      page_found r (rw k at all) (rw k at e)
+
+  pub looks_at : (o : MayBe Seen) → SeesAll board f n rows (a / board.page) o → Looks board f n rows a off len (held_as board o a off len)
+  looks_at o all = record { refusal = λ s T. frame_seen s a off len o (all s.allocator T); found = seen_found o all }

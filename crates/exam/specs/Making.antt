@@ -1,7 +1,7 @@
 -- What a call promises where the torn test was made before it: `Makes`. Of every store that the world holds, what the call leaves holds the store of definition's
 -- `step`, and the answer is the step's, so that calls follow one another. A call is lent what it reads and writes; what it is not lent is bound by its promise,
 -- and stays.
-use Rattle.std.specs.Prelude.{ℕ, ◌+◌, ◌*◌, ◌≤◌, ◌<◌, ◌^◌, false, List, ◌≡◌, get_or, length}
+use Rattle.std.specs.Prelude.{ℕ, ◌+◌, ◌*◌, ◌≤◌, ◌<◌, ◌^◌, false, List, Result, ◌≡◌, get_or, length}
 use Rattle.definition.specs.declared.Counters.{Counters}
 use Rattle.definition.specs.Board.{Board}
 use Rattle.definition.specs.Boot.{managed_pages, overlap}
@@ -14,9 +14,9 @@ use Rattle.words.specs.Words.{board_in, Long, pass_in, queued_in, rows_in}
 use Rattle.world.specs.Stands.{Stands}
 use Rattle.world.specs.Tables.{Sane}
 use Rattle.allocator.specs.Spots.{SaneIn}
-use Rattle.exam.specs.declared.Answer.{Answer}
-use Rattle.exam.specs.declared.Exam.{Exam}
-use Rattle.exam.specs.Promise.{Looks, state_with, told, world_of}
+use Rattle.allocator.specs.declared.Seen.{Seen}
+use Rattle.definition.specs.declared.Refusal.{Refusal}
+use Rattle.exam.specs.Promise.{Answer, Looks, state_with, told, world_of}
 
 -- the world that the counters and the loans hold
 abbrev pub world : Counters → (words records memory queue : List ℕ) → World
@@ -33,8 +33,8 @@ abbrev pub RoomIn : (words memory : List ℕ) → Type 0
 RoomIn ws m = (board_in ws).page * managed_pages (board_in ws) (regions_of (board_in ws) (rows_in ws)) ≤ length m
 
 -- what was found of a range of a frame that must be held
-abbrev pub LooksIn : (words records : List ℕ) → (a off len : ℕ) → Exam → Type 0
-LooksIn ws rs a off len r = Looks (board_in ws) (record_at rs) (pages_in rs) (rows_in ws) a off len r
+abbrev pub LooksIn : (words records : List ℕ) → (a off len : ℕ) → Result Seen Refusal → Type 0
+LooksIn ws rs a off len x = Looks (board_in ws) (record_at rs) (pages_in rs) (rows_in ws) a off len x
 
 -- the counts of pages are far from the end of their 64 bits
 pub record Few (k : Counters) : Type 0 where

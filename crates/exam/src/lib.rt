@@ -2,52 +2,26 @@
 // that must be held (11 to 14). A call is lent what it reads and writes of the state, and promises `Makes` of specs/Making.antt.
 #![tactic(auto)]
 
-ghost use Rattle.std.specs.Prelude.{◌≡◌, ℕ, ◌+◌, ◌*◌, ◌/◌, ◌%◌, ◌<◌, ◌^◌};
+ghost use Rattle.std.specs.Prelude.{◌≡◌, Ok, ◌+◌, ◌*◌, ◌<◌, ◌^◌};
 ghost use Rattle.definition.specs.Board.{Fit};
 ghost use Rattle.definition.specs.Torn.{sound};
 ghost use Rattle.words.specs.Words.{board_in, Long};
-ghost use Rattle.world.specs.Refusals.{earlier as earlier_def};
-ghost use Rattle.exam.specs.Promise.{LevelKnown, Leveled, bytes_if, seen_refusal};
+ghost use Rattle.exam.specs.Promise.{LevelKnown, Leveled, both_held, bytes_if, held_as};
 ghost use Rattle.exam.specs.Making.{LooksIn, TableIn, world};
 
 use address::PhysAddr;
 use allocator::Seen;
-use definition::{Board, Counters, NO_FRAME_START, NOT_HELD, OUTSIDE, PAST_THE_END};
+use definition::{Board, Counters, Refusal};
 
-// The refusal's number, or 0 with an address and a count of bytes, as 01's script prints them.
+// What an accepted call answers: an address and a count of bytes, as 01's script prints them.
 #[derive(Clone, Copy)]
-pub struct Answer {
-    pub number: u32,
+pub struct Reply {
     pub address: u64,
     pub bytes: u64,
 }
 
-// The counters that a call leaves, and its answer.
-#[derive(Clone, Copy)]
-pub struct Outcome {
-    pub counters: Counters,
-    pub answer: Answer,
-}
-
-pub fn refused(number: u32) -> Answer
-    ensures { result ≡ record { number = number; address = 0; bytes = 0 } }
-{
-    Answer {
-        number,
-        address: 0,
-        bytes: 0,
-    }
-}
-
-pub fn done(address: u64, bytes: u64) -> Answer
-    ensures { result ≡ record { number = 0; address = address; bytes = bytes } }
-{
-    Answer {
-        number: 0,
-        address,
-        bytes,
-    }
-}
+// What a call answers that may be refused.
+pub type Answer = Result<Reply, Refusal>;
 
 // ---- the tests of a call
 
@@ -79,51 +53,33 @@ pub fn frame_bytes(board: Board, seen: Seen) -> u64
     (board.page * pages) as u64
 }
 
-// Refusals 11 to 14 of a frame that must be held, with a range of it.
-fn refusal(board: Board, seen: Seen, pa: PhysAddr, offset: u64, len: u64) -> u32
+// Refusals 11 to 14 of a frame that must be held, with a range of it, by what was seen at its address.
+fn held(board: Board, seen: Option<Seen>, pa: PhysAddr, offset: u64, len: u64) -> Result<Seen, Refusal>
     requires fit { Fit board }
     requires leveled { Leveled seen }
-    ensures { result ≡ seen_refusal board seen pa.0 offset len }
+    ensures { result ≡ held_as board seen pa.0 offset len }
 {
-    if !seen.managed {
-        return OUTSIDE;
-    }
-    if !pa.is_aligned_to(board.page as u64) {
-        return NO_FRAME_START;
-    }
-    if !record::is_admitted(seen.marks) {
-        return NO_FRAME_START;
+    let seen = seen.ok_or(Refusal::Outside)?;
+    if !pa.is_aligned_to(board.page as u64) || !record::is_admitted(seen.marks) {
+        return Err(Refusal::NoFrameStart);
     }
     if !record::is_allocated(seen.marks) {
-        return NOT_HELD;
+        return Err(Refusal::NotHeld);
     }
     let bytes = frame_bytes(board, seen);
-    if bytes < offset {
-        return PAST_THE_END;
+    if bytes < offset || bytes - offset < len {
+        return Err(Refusal::PastTheEnd);
     }
-    if bytes - offset < len {
-        return PAST_THE_END;
-    }
-    0
+    Ok(seen)
 }
 
-// What a call finds at an address: the refusal that it meets there, and what stands there.
-#[derive(Clone, Copy)]
-pub struct Exam {
-    pub number: u32,
-    pub seen: Seen,
-}
-
-pub fn look(words: &[u64], records: &[u8], pa: PhysAddr, offset: u64, len: u64) -> Exam
+// What a call finds at an address: the held frame that starts there and has the range, or the refusal that it meets.
+pub fn look(words: &[u64], records: &[u8], pa: PhysAddr, offset: u64, len: u64) -> Result<Seen, Refusal>
     requires { TableIn words.now records.now }
     ensures { LooksIn words.now records.now pa.0 offset len result }
 {
-    let board = words::board_in(words);
     let seen = allocator::see(words, records, pa);
-    Exam {
-        number: refusal(board, seen, pa, offset, len),
-        seen,
-    }
+    held(words::board_in(words), seen, pa, offset, len)
 }
 
 // Where a byte of a page stands in the lent memory.
@@ -135,17 +91,14 @@ pub fn place(words: &[u64], page: usize, offset: u64) -> usize
     board.page * page + offset as usize
 }
 
-// Of two refusals' numbers that of the one that is tried first, where 0 is none.
-pub fn earlier(a: u32, b: u32) -> u32
-    ensures { result ≡ earlier_def a b }
+// What was found at two addresses, or of two refusals that which is tried first.
+pub fn both(a: Result<Seen, Refusal>, b: Result<Seen, Refusal>) -> Result<(Seen, Seen), Refusal>
+    ensures { result ≡ both_held a b }
 {
-    if a == 0 {
-        return b;
+    match (a, b) {
+        (Ok(a), Ok(b)) => Ok((a, b)),
+        (Err(a), Err(b)) => Err(a.earlier(b)),
+        (Err(a), Ok(_)) => Err(a),
+        (Ok(_), Err(b)) => Err(b),
     }
-    if b == 0 {
-        return a;
-    }
-    let first = definition::rank_of(a);
-    let second = definition::rank_of(b);
-    if first < second { a } else { b }
 }
