@@ -1,9 +1,9 @@
--- What a boot leaves and answers: where the sheet refuses, its number and the world as it was (`boots_refused`); else the store that the map makes, written over
+-- What a boot leaves and answers: where the sheet refuses, the refusal and the world as it was (`boots_refused`); else the store that the map makes, written over
 -- the world (`boots_done`), of which everything past the managed pages, the memory and the queue's places stay.
 use Prim.Native.Nat.{ℕ, ◌*◌, ◌≤◌, ◌<◌}
 use mathlib.Core.Bool.{false}
 use mathlib.Core.List.{List, [], ◌∷◌}
-use mathlib.Core.Option.{Option, some}
+use mathlib.Core.Option.{Option, none, some}
 use mathlib.Core.Path.{◌≡◌, refl, sym, ap, ap₂, ◌∙◌}
 use native.Mathlib.Omega.{arith}
 use borrow.Author.Tests.{leb-true}
@@ -17,7 +17,7 @@ use Rattle.definition.specs.Board.{Board}
 use Rattle.definition.specs.Allocator.{AllocationRegion, PhysicalFrameAllocator, total}
 use Rattle.definition.specs.Boot.{boot, boot_sheet, boot_with, counters_at_boot, ends_far, kept_regions, managed_pages, record_size}
 use Rattle.definition.specs.Calls.{Answer as AnswerOf, Refused, Done}
-use Rattle.definition.specs.Refusal.{first_met, number_of}
+use Rattle.definition.specs.Refusal.{first_met}
 use Rattle.definition.specs.Store.{Store}
 use Rattle.definition.specs.World.{World, bare_region, encode, memory_of, record_at, used_rows}
 use Rattle.definition.specs.Torn.{Left, bare_regions, boot_call, booted, loans_long, regions_of, unless_refused}
@@ -25,14 +25,12 @@ use Rattle.definition.proofs.Bytes.{pages_same}
 use Rattle.definition.proofs.Tests.{and_right}
 use Rattle.record.specs.Records.{pages_in}
 use Rattle.definition.specs.Board.{Fit}
-use Rattle.world.specs.Refusals.{number_if}
 use Rattle.world.specs.Stands.{Stands}
-use Rattle.world.proofs.Calling.{none_met, one_met}
 use Rattle.world.proofs.Encoding.{ends_agree, stands_encode}
 use Rattle.world.proofs.Memory.{memory_back}
 use Rattle.world.proofs.Spans.{OfSpans, bared, managed_spans, memory_same}
-use Rattle.exam.proofs.Promises.{refused_by}
-use Rattle.exam.specs.Promise.{told}
+use Rattle.std.specs.Prelude.{Ok, Err}
+use Rattle.exam.specs.Promise.{reply, told}
 use Rattle.boot.specs.Booting.{Boots, Lays, eight, kept_rows, lay_rows}
 use Rattle.boot.proofs.KeptRows.{kept_spans, kept_used}
 use Rattle.boot.proofs.Laying.{laid_bare, new_laid}
@@ -43,22 +41,18 @@ module _ {board : Board} where
   boots_as ms w v y e = record { world = ap (λ (l : Left). l.world) e; answer = ap (λ (l : Left). told l.answer) e }
 
   module _ (ms : List MemoryRegion) (w : World) where
-    pub boots_refused
-        : (n : ℕ) → n ≡ number_if (first_met (boot_sheet board ms (length w.records) (length w.memory))) → (n ≡ 0 → ⊥) → Boots board ms w w (refused_by n)
+    pub boots_refused : (r : Refusal) → first_met (boot_sheet board ms (length w.records) (length w.memory)) ≡ some r → Boots board ms w w (Err r)
     unfolding boot_call
-    boots_refused n e d = go (one_met (first_met (boot_sheet board ms (length w.records) (length w.memory))) n (sym e) d)
-      where
-        go : (r : Refusal) × (first_met (boot_sheet board ms (length w.records) (length w.memory)) ≡ some r) × (number_of r ≡ n) → Boots board ms w w (refused_by n)
-        go (r, f, m) = rw (← m) (boots_as ms w w (Refused r) (ap (λ (o : Option Refusal). unless_refused w o (booted board ms w)) f))
+    boots_refused r e = boots_as ms w w (Refused r) (ap (λ (o : Option Refusal). unless_refused w o (booted board ms w)) e)
 
     pub boots_accepted
-        : (v : World) → 0 ≡ number_if (first_met (boot_sheet board ms (length w.records) (length w.memory)))
+        : (v : World) → first_met (boot_sheet board ms (length w.records) (length w.memory)) ≡ none
         → encode board (boot board ms (memory_of board w.memory (kept_regions board ms)) (length w.queue)) w ≡ v
-        → Boots board ms w v (record { number = 0; address = 0; bytes = board.page * managed_pages board (kept_regions board ms) })
+        → Boots board ms w v (Ok (reply 0 (board.page * managed_pages board (kept_regions board ms))))
     unfolding boot_call
     boots_accepted v e d =
         boots_as ms w v (Done 0 (board.page * managed_pages board (kept_regions board ms)))
-        (ap (λ (o : Option Refusal). unless_refused w o (booted board ms w)) (none_met (first_met (boot_sheet board ms (length w.records) (length w.memory))) (sym e))
+        (ap (λ (o : Option Refusal). unless_refused w o (booted board ms w)) e
         ∙ ap (λ (x : World). record { world = x; answer = Done 0 (board.page * managed_pages board (kept_regions board ms)) }) d)
 
 -- ---- what is said of regions by their starts and pages
@@ -157,7 +151,7 @@ module _
 
       pub boots_done
           : (managed : ℕ) → managed ≡ managed_pages board (regions_of board rows)
-          → 0 ≡ number_if (first_met (boot_sheet board ms (length w.records) (length w.memory)))
-          → Boots board ms w after (record { number = 0; address = 0; bytes = board.page * managed })
+          → first_met (boot_sheet board ms (length w.records) (length w.memory)) ≡ none
+          → Boots board ms w after (Ok (reply 0 (board.page * managed)))
       boots_done managed e z =
           rw (e, same_spans) (boots_accepted ms w after z (ap (λ (s : Store). encode board s w) store_is ∙ written))

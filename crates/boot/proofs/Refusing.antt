@@ -15,15 +15,19 @@ use Rattle.definition.specs.Torn.{regions_of, rows_as_boot}
 use Rattle.definition.specs.World.{used_rows}
 use Rattle.audit.proofs.Regions.{loans_fit}
 use Rattle.definition.specs.Board.{Fit}
-use Rattle.world.specs.Refusals.{number_if}
+use Rattle.std.specs.Prelude.{Result, Ok}
+use mathlib.Core.Option.{none, some}
+use Rattle.definition.specs.declared.Refusal.{Refusal}
+use Rattle.definition.specs.declared.Refusal.TheVariants.{LongMap, FarAddress}
+use Rattle.exam.specs.Promise.{refusal_in}
 use Rattle.boot.specs.declared.Kept.{Kept}
-use Rattle.boot.specs.Booting.{Keeps, Mapped, Ready, RefusedAs, RowsKept, eight, kept_rows, rows_refusal}
+use Rattle.boot.specs.Booting.{Admits, Keeps, KeptOf, Mapped, Ready, RowsKept, eight, kept_rows, rows_admitted}
 use Rattle.boot.proofs.KeptRows.{kept_ready, kept_spans, kept_used, kept_whole, mapped_all}
 use Rattle.boot.proofs.Sheet.{Admitted, admitted, far_map, long_map, near_map}
 
 module _ {map : List MemoryRegion} {count : ℕ} {ms : List MemoryRegion} (M : Mapped map count ms) where
   pub given_long
-      : (board : Board) (records memory : ℕ) → 8 < count → ◌≡◌ {A = ℕ} 1 (number_if (first_met (boot_sheet board ms records memory)))
+      : (board : Board) (records memory : ℕ) → 8 < count → some LongMap ≡ first_met (boot_sheet board ms records memory)
   given_long board records memory h = sym (long_map board ms records memory (omega (arith, M.long)))
 
   module _ (few : count ≤ 8) where
@@ -32,7 +36,7 @@ module _ {map : List MemoryRegion} {count : ℕ} {ms : List MemoryRegion} (M : M
 
     pub given_far
         : (board : Board) (records memory : ℕ) → any ends_far (take count map) ≡ true
-        → ◌≡◌ {A = ℕ} 2 (number_if (first_met (boot_sheet board ms records memory)))
+        → some FarAddress ≡ first_met (boot_sheet board ms records memory)
     given_far board records memory f = sym (far_map board ms records memory (omega (arith, M.long)) (ap (any ends_far) (sym all_given) ∙ f))
 
     pub given_near : any ends_far (take count map) ≡ false → any ends_far ms ≡ false
@@ -46,42 +50,50 @@ module _ {map : List MemoryRegion} {count : ℕ} {ms : List MemoryRegion} (M : M
         pub given_spans : regions_of board r.rows ≡ kept_regions board ms
         given_spans = rw given_kept (kept_spans fit ms (given_near near))
 
-        pub given_rows : (records memory : ℕ) → rows_refusal board r.rows records memory ≡ number_if (first_met (boot_sheet board ms records memory))
+        pub given_rows : (records memory : ℕ) → refusal_in (rows_admitted board r.rows records memory) ≡ first_met (boot_sheet board ms records memory)
         given_rows records memory = sym (near_map board ms records memory (omega (arith, M.long)) (given_near near) r.rows given_spans)
 
 -- ---- a map that is not refused
 
 module _
-    {board : Board} (fit : Fit board) (map : List MemoryRegion) (count records memory n : ℕ) (eight_long : length map ≡ 8) (E : RefusedAs board map count records memory n) (z : n ≡ 0)
-    (k : Kept) (K : Keeps board (take count map) k)
+    {board : Board} (fit : Fit board) (map : List MemoryRegion) (count records memory : ℕ) (eight_long : length map ≡ 8)
+    {x : Result Kept Refusal} (E : Admits board map count records memory x) (k : Kept) (e : x ≡ Ok k)
   where
+    abbrev of_map : KeptOf board map count k
+    of_map = E.kept k e
+
+    pub accepted_sheet : (ms : List MemoryRegion) → Mapped map count ms → first_met (boot_sheet board ms records memory) ≡ none
+    accepted_sheet ms M = sym (E.refusal ms M) ∙ ap refusal_in e
+
     itself : Mapped map count (take count map)
     itself =
-        let few = E.few z in
+        let few = of_map.few in
         let l = length-take-le count map (omega arith) in
         record { long = l; front = take_all 8 (take count map) (omega (arith, l)) }
 
     pub accepted_admitted : Admitted board k.rows records memory
     accepted_admitted =
+        let K = of_map in
         admitted board k.rows records memory
-        (given_rows itself (E.few z) k K fit (E.near z) records memory ∙ sym (E.number (take count map) itself) ∙ z)
+        (given_rows itself K.few k K.keeps fit K.near records memory ∙ accepted_sheet (take count map) itself)
 
     pub accepted_kept : RowsKept board k.rows k.used
-    accepted_kept = kept_ready fit (take count map) (E.near z) k K
+    accepted_kept = kept_ready fit (take count map) of_map.near k of_map.keeps
 
     pub accepted_boot : rows_as_boot board k.rows ≡ true
     accepted_boot =
+        let K = of_map in
         let A = accepted_admitted in
-        let e = given_spans itself (E.few z) k K fit (E.near z) in
-        rw K.rows
-        (kept_whole fit (take count map) (E.near z) (omega (arith, itself.long, E.few z)) (rw e at A.apart) (rw e at A.most))
+        let s = given_spans itself K.few k K.keeps fit K.near in
+        rw K.keeps.rows (kept_whole fit (take count map) K.near (omega (arith, itself.long, K.few)) (rw s at A.apart) (rw s at A.most))
 
     pub accepted_ready : Ready board k.rows k.used (records / 16)
     accepted_ready =
+        let K = of_map in
         let A = accepted_admitted in
-        let used : used_rows k.rows ≡ kept_rows board (take count map) = rw K.rows (kept_used fit (take count map) (E.near z)) in
+        let used : used_rows k.rows ≡ kept_rows board (take count map) = rw K.keeps.rows (kept_used fit (take count map) K.near) in
         record {
-          shape = K.rows ∙ ap eight (sym used);
+          shape = K.keeps.rows ∙ ap eight (sym used);
           many = accepted_kept.many;
           booted = accepted_kept.booted;
           apart = A.apart;

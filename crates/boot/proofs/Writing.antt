@@ -1,10 +1,8 @@
 -- What a boot leaves of the words: as they were where it is refused, else the state of a store that has just booted, which is read of them again.
 use Prim.Native.Nat.{ℕ, ◌-◌}
-use mathlib.Core.Bool.{false≢true}
 use mathlib.Core.List.{List}
 use mathlib.Core.Path.{◌≡◌, refl, sym, ap, ◌∙◌, subst}
 use native.Mathlib.Omega.{arith}
-use borrow.Author.Tests.{eqb-true}
 use lib.ListN.{length, drop, replicate}
 use Rattle.definition.specs.Board.{Board}
 use Rattle.definition.specs.declared.MemoryRegion.{MemoryRegion}
@@ -18,14 +16,15 @@ use Rattle.words.specs.Words.{Long, Narrow, kept_of, pass_in, queued_in, rows_in
 use Rattle.words.proofs.Words.{pass_written, queued_written, rows_written}
 use Rattle.allocator.proofs.Arrays.{stand_length}
 use Rattle.allocator.proofs.Turning.{used_most}
-use Rattle.exam.specs.declared.Answer.{Answer}
-use Rattle.exam.specs.Promise.{State, state_with, world_of}
-use Rattle.exam.proofs.Promises.{refused_by}
+use Rattle.std.specs.Prelude.{Ok, Err}
+use Rattle.definition.specs.declared.Refusal.{Refusal}
+use Rattle.exam.specs.declared.Reply.{Reply}
+use Rattle.exam.specs.Promise.{Answer, State, state_with, world_of}
 use Rattle.boot.specs.Booting.{Boots, BootsOver, Lays, state_at_boot}
 use Rattle.boot.proofs.Laying.{laid_many}
 
-pub over_refused : (ws : List ℕ) (n : ℕ) → (n ≡ 0 → ⊥) → BootsOver ws ws (refused_by n)
-over_refused ws n d = record { refused = λ h. refl; written = λ h. absurd (d (eqb-true n 0 h)) }
+pub over_refused : (ws : List ℕ) (r : Refusal) → BootsOver ws ws (Err r)
+over_refused ws r = record { refused = λ e h. refl; written = λ x h. absurd (let n : ◌≡◌ {A = ℕ} 0 1 = cc in omega arith) }
 
 module _ {board : Board} where
   -- the rows that are laid out are as many as were kept
@@ -62,9 +61,9 @@ module _
     boots_written {board} {ms} {w} {y} pages records memory queue b =
         subst (λ (s : State). Boots board ms w (world_of s records memory queue) y) (sym (state_written pages)) b
 
-    pub over_done : (bytes : ℕ) → BootsOver ws after (record { number = 0; address = 0; bytes = bytes })
-    over_done bytes =
+    pub over_done : (y : Reply) → BootsOver ws after (Ok y)
+    over_done y =
         record {
-          refused = λ e. absurd (false≢true (sym e));
-          written = λ e. rw (rows_back, queued_back, pass_back) (ap (λ (k : ℕ). with_bytes ws 0 (kept_of k laid 0 none)) many);
+          refused = λ r e. absurd (let n : ◌≡◌ {A = ℕ} 0 1 = cc in omega arith);
+          written = λ x e. rw (rows_back, queued_back, pass_back) (ap (λ (k : ℕ). with_bytes ws 0 (kept_of k laid 0 none)) many);
         }

@@ -1,10 +1,12 @@
 -- What a boot is given and what it promises: the map, of which a caller hands over the first eight entries and their number; the rows of the entries that are
--- kept; the refusals by numbers; the layout; and `BootsAll`, that what it leaves and answers is definition's `boot_call` of the map.
-use Rattle.std.specs.Prelude.{ℕ, ◌-◌, ◌*◌, ◌≤◌, true, false, cond, List, [], ◌∷◌, ◌++◌, ◌≡◌, eqb, ltb, length, take, drop, replicate}
+-- kept; the refusals; the layout; and `BootsAll`, that what it leaves and answers is definition's `boot_call` of the map.
+use Rattle.std.specs.Prelude.{ℕ, ◌-◌, ◌*◌, ◌≤◌, true, false, cond, List, [], ◌∷◌, ◌++◌, Result, Ok, Err, ⊤, ◌≡◌, ltb, length, take, drop, replicate}
 use Rattle.std.proofs.Math.Option.{none}
 use Rattle.definition.specs.declared.MemoryRegion.{MemoryRegion}
 use Rattle.definition.specs.declared.Record.{Record}
 use Rattle.definition.specs.declared.Row.{Row}
+use Rattle.definition.specs.declared.Refusal.{Refusal}
+use Rattle.definition.specs.declared.Refusal.TheVariants.{Overlap, TooManyPages, ShortLoan}
 use Rattle.definition.specs.Board.{Board}
 use Rattle.definition.specs.Basics.{all, any}
 use Rattle.definition.specs.Allocator.{PhysicalFrameAllocator, admit_region, is_kept, nr_pages, start_page, total}
@@ -15,10 +17,9 @@ use Rattle.definition.specs.Torn.{boot_call, is_no_row, loans_long, regions_of, 
 use Rattle.record.specs.Records.{with_bytes}
 use Rattle.region.specs.Rep.{empty_row}
 use Rattle.words.specs.Words.{kept_of, pass_in, queued_in, rows_in}
-use Rattle.world.specs.Refusals.{number_if}
 use Rattle.world.specs.Stands.{StandRows}
-use Rattle.exam.specs.declared.Answer.{Answer}
-use Rattle.exam.specs.Promise.{State, told}
+use Rattle.exam.specs.declared.Reply.{Reply}
+use Rattle.exam.specs.Promise.{Answer, State, refusal_in, told}
 use Rattle.boot.specs.declared.Kept.{Kept}
 
 -- ---- the map
@@ -50,7 +51,7 @@ module _ (board : Board) where
     pub rows : r.rows ≡ eight (kept_rows ms)
     pub used : r.used ≡ length (kept_rows ms)
 
--- ---- the refusals by numbers
+-- ---- the refusals
 
 module _ (board : Board) where
   -- rows such as a map keeps
@@ -59,16 +60,21 @@ module _ (board : Board) where
     pub booted : all (row_as_boot board) (used_rows rows) ≡ true
     pub unused : all is_no_row (drop used rows) ≡ true
 
-  unfoldable pub rows_refusal : List Row → (records memory : ℕ) → ℕ
-  rows_refusal rows records memory =
-      cond (overlap board (regions_of board rows)) 3
-      (cond (ltb most_pages (total (regions_of board rows))) 4 (cond (loans_long board rows records memory) 0 5))
+  unfoldable pub rows_admitted : List Row → (records memory : ℕ) → Result ⊤ Refusal
+  rows_admitted rows records memory =
+      cond (overlap board (regions_of board rows)) (Err Overlap)
+      (cond (ltb most_pages (total (regions_of board rows))) (Err TooManyPages) (cond (loans_long board rows records memory) (Ok tt) (Err ShortLoan)))
 
-  -- the sheet's number, whatever stands past the eighth entry; where there is none, every entry is in the array
-  pub record RefusedAs (map : List MemoryRegion) (count records memory r : ℕ) : Type 0 where
-    pub number : (ms : List MemoryRegion) → Mapped map count ms → r ≡ number_if (first_met (boot_sheet board ms records memory))
-    pub few : r ≡ 0 → count ≤ 8
-    pub near : r ≡ 0 → any ends_far (take count map) ≡ false
+  -- the rows that are kept of a map of at most eight entries, none of them far
+  pub record KeptOf (map : List MemoryRegion) (count : ℕ) (k : Kept) : Type 0 where
+    pub few : count ≤ 8
+    pub near : any ends_far (take count map) ≡ false
+    pub keeps : Keeps board (take count map) k
+
+  -- the sheet's refusal, whatever stands past the eighth entry, or the rows that are kept
+  pub record Admits (map : List MemoryRegion) (count records memory : ℕ) (x : Result Kept Refusal) : Type 0 where
+    pub refusal : (ms : List MemoryRegion) → Mapped map count ms → refusal_in x ≡ first_met (boot_sheet board ms records memory)
+    pub kept : (k : Kept) → x ≡ Ok k → KeptOf map count k
 
 -- ---- the layout
 
@@ -111,5 +117,5 @@ module _ (board : Board) where
 
 -- and of the words: a boot that is refused leaves them as they are; else they are written whole, from the version to the pass
 pub record BootsOver (ws vs : List ℕ) (y : Answer) : Type 0 where
-  pub refused : eqb y.number 0 ≡ false → vs ≡ ws
-  pub written : eqb y.number 0 ≡ true → vs ≡ with_bytes ws 0 (kept_of (length (used_rows (rows_in vs))) (rows_in vs) (queued_in vs) (pass_in vs))
+  pub refused : (r : Refusal) → y ≡ Err r → vs ≡ ws
+  pub written : (x : Reply) → y ≡ Ok x → vs ≡ with_bytes ws 0 (kept_of (length (used_rows (rows_in vs))) (rows_in vs) (queued_in vs) (pass_in vs))

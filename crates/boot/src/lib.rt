@@ -2,7 +2,7 @@
 // as it was. Numbers of a map are any of 64 bits, so an entry is rounded to pages only once no usable one ends past 2^40.
 #![tactic(auto)]
 
-ghost use Rattle.std.specs.Prelude.{false, ◌≡◌, ◌≤◌, length, take};
+ghost use Rattle.std.specs.Prelude.{false, ◌≡◌, ◌≤◌, length, take, Ok};
 ghost use Rattle.definition.specs.Board.{Fit};
 ghost use Rattle.definition.specs.Allocator.{is_usable};
 ghost use Rattle.definition.specs.Basics.{any};
@@ -14,18 +14,18 @@ ghost use Rattle.exam.specs.Promise.{state_with, world_of};
 ghost use Rattle.boot.specs.Booting.{
   Keeps,
   RowsKept,
-  RefusedAs,
+  Admits,
   Ready,
   Lays,
   BootsAll,
   BootsOver,
   row_of,
-  rows_refusal,
+  rows_admitted,
 };
 
 use address::PhysAddr;
-use definition::{Board, Counters, MemoryRegion, MemoryRegionKind, Pass, Row};
-use exam::Outcome;
+use definition::{Board, Counters, MemoryRegion, MemoryRegionKind, Pass, Refusal, Row};
+use exam::{Answer, Reply};
 
 // ---- the entries of a map
 
@@ -100,9 +100,9 @@ fn keep(board: Board, entry: MemoryRegion) -> Row
 
 // The rows of the entries that a map keeps, and how many they are.
 #[derive(Clone, Copy)]
-struct Kept {
-    rows: [Row; 8],
-    used: usize,
+pub struct Kept {
+    pub rows: [Row; 8],
+    pub used: usize,
 }
 
 // An entry that is not kept writes an unused row, which the next one that is kept overwrites.
@@ -129,43 +129,44 @@ fn kept_rows(board: Board, map: [MemoryRegion; 8], count: usize) -> Kept
 // ---- the refusals
 
 // 3, 4 and 5, of the rows that are kept.
-fn refusal_of_rows(board: Board, rows: [Row; 8], used: usize, records: usize, memory: usize) -> u32
+#[tactic(auto, unfolding(crate::specs::Booting::rows_admitted))]
+fn admit_rows(board: Board, rows: [Row; 8], used: usize, records: usize, memory: usize) -> Result<(), Refusal>
     requires fit { Fit board }
     requires rows_kept { RowsKept board rows used }
-    ensures { result ≡ rows_refusal board rows records memory }
+    ensures { result ≡ rows_admitted board rows records memory }
 {
     if audit::overlaps(board, rows, used) {
-        return definition::OVERLAP;
+        return Err(Refusal::Overlap);
     }
     if 1048576 < audit::total_pages(board, rows, used) {
-        return definition::TOO_MANY_PAGES;
+        return Err(Refusal::TooManyPages);
     }
-    if audit::loans_long(board, rows, used, records, memory) {
-        return 0;
+    if !audit::loans_long(board, rows, used, records, memory) {
+        return Err(Refusal::ShortLoan);
     }
-    definition::SHORT_LOAN
+    Ok(())
 }
 
-// Of a map of `count` entries the first eight are given; of a longer one none is read.
-pub fn refusal_of_map(
+// 1 to 5: the rows that a map of `count` entries keeps, of which the first eight are given; of a longer one none is read.
+pub fn admit_map(
     board: Board,
     map: [MemoryRegion; 8],
     count: usize,
     records: usize,
     memory: usize,
-) -> u32
+) -> Result<Kept, Refusal>
     requires { Fit board }
-    ensures { RefusedAs board map count records memory result }
+    ensures { Admits board map count records memory result }
 {
     if 8 < count {
-        return definition::LONG_MAP;
+        return Err(Refusal::LongMap);
     }
     if any_far(map, count) {
-        return definition::FAR_ADDRESS;
+        return Err(Refusal::FarAddress);
     }
     let kept = kept_rows(board, map, count);
-    let rows = kept.rows;
-    refusal_of_rows(board, rows, kept.used, records, memory)
+    admit_rows(board, kept.rows, kept.used, records, memory)?;
+    Ok(kept)
 }
 
 // ---- the layout
@@ -211,30 +212,22 @@ pub fn started(pages: usize) -> Counters
 // of the words is read, so that the board is the caller's to give.
 pub fn boot(
     board: Board,
-    counters: Counters,
+    counters: &mut Counters,
     words: &mut [u64],
     map: [MemoryRegion; 8],
     count: usize,
     records: &mut [u8],
     memory: &[u8],
     queue: &[u64],
-) -> Outcome
+) -> Answer
     requires fit { Fit board }
     requires long { Long words.old }
     ensures boots_all { BootsAll board map count
-        (world_of (state_with counters words.old) records.old memory.now queue.now)
-        (world_of (state_with result.counters words.new) records.new memory.now queue.now)
-        result.answer }
-    ensures boots_over { BootsOver words.old words.new result.answer }
+        (world_of (state_with counters.old words.old) records.old memory.now queue.now)
+        (world_of (state_with counters.new words.new) records.new memory.now queue.now) result }
+    ensures boots_over { BootsOver words.old words.new result }
 {
-    let number = refusal_of_map(board, map, count, records.len(), memory.len());
-    if number != 0 {
-        return Outcome {
-            counters,
-            answer: exam::refused(number),
-        };
-    }
-    let kept = kept_rows(board, map, count);
+    let kept = admit_map(board, map, count, records.len(), memory.len())?;
     let rows = kept.rows;
     let used = kept.used;
     let pages = audit::total_pages(board, rows, used);
@@ -245,8 +238,9 @@ pub fn boot(
         freed: 0,
     };
     words::put_kept(words, used as u32, laid, 0, pass);
-    Outcome {
-        counters: started(pages),
-        answer: exam::done(0, (board.page * managed) as u64),
-    }
+    *counters = started(pages);
+    Ok(Reply {
+        address: 0,
+        bytes: (board.page * managed) as u64,
+    })
 }

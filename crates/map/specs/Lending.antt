@@ -4,7 +4,7 @@ use Rattle.definition.specs.declared.MemoryRegion.{MemoryRegion}
 use Rattle.definition.specs.declared.MemoryRegionKind.TheVariants.{Reserved}
 use Rattle.definition.specs.Board.{Board}
 use Rattle.definition.specs.World.{World}
-use Rattle.exam.specs.declared.Answer.{Answer}
+use Rattle.exam.specs.Promise.{Answer}
 use Rattle.boot.specs.Booting.{Boots}
 use Rattle.map.specs.declared.Gathered.{Gathered}
 

@@ -11,7 +11,7 @@ ghost use Rattle.map.specs.Lending.{nothing as nothing_def, entered as entered_d
 
 use address::PhysAddr;
 use definition::{Board, Counters, MemoryRegion, MemoryRegionKind};
-use exam::Outcome;
+use exam::Answer;
 
 // The first eight entries of a map, and how many it has.
 #[derive(Clone, Copy)]
@@ -68,17 +68,17 @@ fn gather(map: &[MemoryRegion]) -> Gathered
 fn boot_gathered(
     board: Board,
     g: Gathered,
-    counters: Counters,
+    counters: &mut Counters,
     words: &mut [u64],
     records: &mut [u8],
     memory: &[u8],
     queue: &[u64],
-) -> Outcome
+) -> Answer
     requires { Fit board × Long words.old }
     ensures { BootsBy board g
-        (world_of (state_with counters words.old) records.old memory.now queue.now)
-        (world_of (state_with result.counters words.new) records.new memory.now queue.now) result.answer
-        × BootsOver words.old words.new result.answer }
+        (world_of (state_with counters.old words.old) records.old memory.now queue.now)
+        (world_of (state_with counters.new words.new) records.new memory.now queue.now) result
+        × BootsOver words.old words.new result }
 {
     let map = g.map;
     boot::boot(board, counters, words, map, g.count, records, memory, queue)
@@ -87,18 +87,18 @@ fn boot_gathered(
 // init, frame.rs 707, over a lent list of region entries of any length. The memory's bytes stay. Nothing of the words is read.
 pub fn boot_map(
     board: Board,
-    counters: Counters,
+    counters: &mut Counters,
     words: &mut [u64],
     map: &[MemoryRegion],
     records: &mut [u8],
     memory: &[u8],
     queue: &[u64],
-) -> Outcome
+) -> Answer
     requires { Fit board × Long words.old }
     ensures { Boots board map.now
-        (world_of (state_with counters words.old) records.old memory.now queue.now)
-        (world_of (state_with result.counters words.new) records.new memory.now queue.now) result.answer
-        × BootsOver words.old words.new result.answer }
+        (world_of (state_with counters.old words.old) records.old memory.now queue.now)
+        (world_of (state_with counters.new words.new) records.new memory.now queue.now) result
+        × BootsOver words.old words.new result }
 {
     boot_gathered(board, gather(map), counters, words, records, memory, queue)
 }

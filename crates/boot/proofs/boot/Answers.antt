@@ -1,9 +1,10 @@
 -- `boot` meets its contract. A refused boot writes nothing; an accepted one has rows that the sheet accepts, which `lay_out` lays out and `put_kept` writes, and
 -- the counters of their pages.
-use mathlib.Core.Path.{◌≡◌, sym, ◌∙◌}
+use mathlib.Core.Path.{◌≡◌, refl, sym, ◌∙◌}
 use native.Mathlib.Nat.{mul-le-mul}
 use native.Mathlib.Omega.{arith}
 use lib.ListN.{length}
+use Rattle.std.proofs.lemmas.Result.{err_from_is_err_and}
 use Rattle.definition.specs.World.{used_rows}
 use Rattle.definition.proofs.Boards.{page_most}
 use Rattle.words.proofs.Owned.{rows_narrow}
@@ -11,37 +12,31 @@ use Rattle.allocator.proofs.Turning.{used_most}
 use Rattle.exam.specs.Promise.{state_with, world_of}
 use Rattle.boot.specs.Booting.{Mapped}
 use Rattle.boot.proofs.KeptRows.{map_eight}
-use Rattle.boot.proofs.Refusing.{accepted_admitted, accepted_boot, accepted_kept, accepted_ready, given_kept, given_near}
+use Rattle.boot.proofs.Refusing.{accepted_admitted, accepted_boot, accepted_kept, accepted_ready, accepted_sheet, given_kept, given_near}
 use Rattle.boot.proofs.Leaving.{boots_done, boots_refused}
 use Rattle.boot.proofs.Writing.{boots_written, laid_used, over_done, over_refused}
 use Rattle.boot.proofs.boot.Goals as goal
 use Rattle.boot.proofs.boot.Goals.{After-lay_out-laid, Start}
 
-pub returns-then-number-ne0 : goal.returns-then-number-ne0
-returns-then-number-ne0 c =
+pub returns-in_err-kept : goal.returns-in_err-kept
+returns-in_err-kept c =
     let a = c.args in
-    let d = c.refusal_of_map-number in
-    rw c.refused.ensures record {
-      boots_all = λ ms e f.
-          boots_refused ms (world_of (state_with a.counters a.words.now) a.records.now a.memory.now a.queue.now) d.result (d.ensures.number ms (record { long = e; front = f })) c.if-number-ne0.true;
-      boots_over = over_refused a.words.now d.result c.if-number-ne0.true;
+    let w = world_of (state_with a.counters.now a.words.now) a.records.now a.memory.now a.queue.now in
+    let p = err_from_is_err_and c.from_residual.result c.from_residual.ensures.1 in
+    let r = c.in_err-kept.field-0.0 in
+    rw (p.1, p.2) record {
+      boots_all = λ ms e f. boots_refused ms w r (sym (c.in_err-kept.ensures.refusal ms (record { long = e; front = f })));
+      boots_over = over_refused a.words.now r;
     }
 
 -- the array has eight
 long : (c : Start) → length c.args.map ≡ 8
 long c = map_eight c.args.map _ c.well_formed.1.1.1.0
 
-pub kept_rows-kept-requires : goal.kept_rows-kept-requires
-kept_rows-kept-requires c =
-    let E = c.refusal_of_map-number.ensures in record {
-      fit = c.requires.fit;
-      count_bound = (E.few c.if-number-ne0.false, E.near c.if-number-ne0.false);
-    }
-
 pub total_pages-pages-requires : goal.total_pages-pages-requires
 total_pages-pages-requires c =
-    let k = c.kept_rows-kept in
-    let R = accepted_kept c.requires.fit c.args.map c.args.count _ _ _ (long (goal.at.total_pages-pages-requires c).Start) c.refusal_of_map-number.ensures c.if-number-ne0.false k.result k.ensures in record {
+    let k = c.in_ok-kept in
+    let R = accepted_kept c.requires.fit c.args.map c.args.count _ _ (long (goal.at.total_pages-pages-requires c).Start) k.ensures k.kept refl in record {
       fit = c.requires.fit;
       used_value = (R.many, R.booted);
     }
@@ -49,50 +44,51 @@ total_pages-pages-requires c =
 pub managed_pages-managed-requires : goal.managed_pages-managed-requires
 managed_pages-managed-requires c =
     let start = (goal.at.managed_pages-managed-requires c).Start in
-    let k = c.kept_rows-kept in
-    let z = c.if-number-ne0.false in
-    let R = accepted_kept c.requires.fit c.args.map c.args.count _ _ _ (long start) c.refusal_of_map-number.ensures z k.result k.ensures in record {
+    let k = c.in_ok-kept in
+    let R = accepted_kept c.requires.fit c.args.map c.args.count _ _ (long start) k.ensures k.kept refl in record {
       fit = c.requires.fit;
-      used_value = (R.many, accepted_boot c.requires.fit c.args.map c.args.count _ _ _ (long start) c.refusal_of_map-number.ensures z k.result k.ensures);
+      used_value = (R.many, accepted_boot c.requires.fit c.args.map c.args.count _ _ (long start) k.ensures k.kept refl);
     }
 
 pub lay_out-laid-requires : goal.lay_out-laid-requires
 lay_out-laid-requires c =
-    let k = c.kept_rows-kept in
-    let z = c.if-number-ne0.false in record {
+    let k = c.in_ok-kept in
+    record {
       fit = c.requires.fit;
-      ready = accepted_ready c.requires.fit c.args.map c.args.count _ _ _ (long (goal.at.lay_out-laid-requires c).Start) c.refusal_of_map-number.ensures z k.result k.ensures;
+      ready = accepted_ready c.requires.fit c.args.map c.args.count _ _ (long (goal.at.lay_out-laid-requires c).Start) k.ensures k.kept refl;
     }
 
 -- the rows laid out are as many as were kept
-many : (c : After-lay_out-laid) → c.kept_rows-kept.result.used ≡ length (used_rows c.lay_out-laid.result)
+many : (c : After-lay_out-laid) → c.in_ok-kept.kept.used ≡ length (used_rows c.lay_out-laid.result)
 many c =
-    let R = accepted_kept c.requires.fit c.args.map c.args.count _ _ _ (long (goal.at.After-lay_out-laid c).Start) c.refusal_of_map-number.ensures c.if-number-ne0.false c.kept_rows-kept.result c.kept_rows-kept.ensures in
+    let R = accepted_kept c.requires.fit c.args.map c.args.count _ _ (long (goal.at.After-lay_out-laid c).Start) c.in_ok-kept.ensures c.in_ok-kept.kept refl in
     R.many ∙ sym (laid_used c.lay_out-laid.ensures)
 
 pub overflow_cast-used : goal.overflow_cast-used
 overflow_cast-used c =
     omega (arith, many (goal.at.overflow_cast-used c).After-lay_out-laid, used_most c.lay_out-laid.result, c.lay_out-laid.ensures.eight)
 
-pub overflow_mul-board : goal.overflow_mul-board
-overflow_mul-board c =
+pub overflow_mul-result : goal.overflow_mul-result
+overflow_mul-result c =
     omega (arith, mul-le-mul (page_most c.requires.fit) c.managed_pages-managed.ensures.1)
 
 pub returns : goal.returns
 returns c =
     let after_lay_out_laid = (goal.at.returns c).After-lay_out-laid in
     let a = c.args in
-    let E = c.refusal_of_map-number.ensures in
-    let z = c.if-number-ne0.false in
-    let w = world_of (state_with a.counters a.words.now) a.records.now a.memory.now a.queue.now in
+    let k = c.in_ok-kept in
+    let E = k.ensures in
+    let K = E.kept k.kept refl in
+    let start = (goal.at.returns c).Start in
+    let w = world_of (state_with a.counters.now a.words.now) a.records.now a.memory.now a.queue.now in
     let N = rows_narrow c.lay_out-laid.result _ c.lay_out-laid.type_inv in
     let U = c.lay_out-laid.ensures.unused in
-    rw (c.done.ensures, c.started.ensures, c.put_kept.ensures) record {
+    rw (c.started.ensures, c.put_kept.ensures) record {
       boots_all = λ ms e f.
           let M : Mapped a.map a.count ms = record { long = e; front = f } in
           boots_written a.words.now c.lay_out-laid.result c.requires.long N _ (many after_lay_out_laid) U c.total_pages-pages.result c.lay_out-laid.new.records a.memory.now a.queue.now
-          (boots_done w c.kept_rows-kept.result.rows c.lay_out-laid.result c.lay_out-laid.new.records c.total_pages-pages.result
-          (accepted_admitted c.requires.fit a.map a.count _ _ _ (long (goal.at.returns c).Start) E z c.kept_rows-kept.result c.kept_rows-kept.ensures)
+          (boots_done w k.kept.rows c.lay_out-laid.result c.lay_out-laid.new.records c.total_pages-pages.result
+          (accepted_admitted c.requires.fit a.map a.count _ _ (long start) E k.kept refl)
           c.lay_out-laid.ensures
           c.lay_out-laid.auto.records
           (λ i. omega (arith, c.slice_known-2-1.given i))
@@ -100,10 +96,10 @@ returns c =
           c.total_pages-pages.ensures
           c.requires.fit
           ms
-          (given_near M (E.few z) (E.near z))
-          (given_kept M (E.few z) c.kept_rows-kept.result c.kept_rows-kept.ensures)
+          (given_near M K.few K.near)
+          (given_kept M K.few k.kept K.keeps)
           c.managed_pages-managed.result
           c.managed_pages-managed.ensures.0
-          (sym z ∙ E.number ms M));
+          (accepted_sheet c.requires.fit a.map a.count _ _ (long start) E k.kept refl ms M));
       boots_over = over_done a.words.now c.lay_out-laid.result c.requires.long N _ (many after_lay_out_laid) U _;
     }
