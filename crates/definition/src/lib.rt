@@ -1,11 +1,12 @@
 // The plain types that the definitions in specs/ and the code share: the numbers of a board, the boot map, the refusals, the records, the
-// rows and the counters. Nothing here computes but `standard` and what a refusal's number and rank are; what the types mean
-// stands in specs/.
+// rows and the counters. What they mean stands in specs/; what computes here are
+// `standard`, a refusal's number and rank, and the kinds and flags that are read off numbers.
 #![tactic(auto)]
 
 ghost use Rattle.std.specs.Prelude.{◌≡◌};
 ghost use Rattle.definition.specs.Board.{standard as standard_def};
 ghost use Rattle.definition.specs.Refusal.{earlier_of, number_of, rank};
+ghost use Rattle.definition.specs.Script.{flags_of, kind_of};
 
 use address::PhysAddr;
 
@@ -46,6 +47,19 @@ pub enum MemoryRegionKind {
     UsableRam,
     Reserved,
     BootloaderReserved,
+}
+
+// 01: "0 UsableRam, 1 Reserved, 2 BootloaderReserved"; a kind over 2 is no usable memory either.
+impl From<u64> for MemoryRegionKind {
+    ghost from_gives = { λ n kind. kind ≡ kind_of n };
+
+    fn from(n: u64) -> MemoryRegionKind {
+        match n {
+            0 => MemoryRegionKind::UsableRam,
+            1 => MemoryRegionKind::Reserved,
+            _ => MemoryRegionKind::BootloaderReserved,
+        }
+    }
 }
 
 // memory/mod.rs 28: an entry of the boot map.
@@ -125,6 +139,19 @@ pub struct FrameAllocFlags {
     pub zeroed: bool,
     pub kernel: bool,
     pub wait_ok: bool,
+}
+
+// 01: "1 ZEROED + 2 KERNEL + 4 WAIT_OK".
+impl From<u64> for FrameAllocFlags {
+    ghost from_gives = { λ n flags. flags ≡ flags_of n };
+
+    fn from(n: u64) -> FrameAllocFlags {
+        FrameAllocFlags {
+            zeroed: n % 2 == 1,
+            kernel: n / 2 % 2 == 1,
+            wait_ok: n / 4 % 2 == 1,
+        }
+    }
 }
 
 // 01, "What changes shape": the record of a managed page, four 32-bit numbers. A neighbour is 0 for none, else its page number plus 1.

@@ -1,13 +1,13 @@
 -- What a call promises where the torn test was made before it: `Makes`. Of every store that the world holds, what the call leaves holds the store of definition's
 -- `step`, and the answer is the step's, so that calls follow one another. A call is lent what it reads and writes; what it is not lent is bound by its promise,
 -- and stays.
-use Rattle.std.specs.Prelude.{ℕ, ◌+◌, ◌*◌, ◌≤◌, ◌<◌, ◌^◌, false, List, Result, ◌≡◌, get_or, length}
+use Rattle.std.specs.Prelude.{ℕ, ◌+◌, ◌*◌, ◌≤◌, ◌<◌, ◌^◌, true, false, cond, List, Result, Ok, Err, ⊤, ◌≡◌, get_or, length}
 use Rattle.definition.specs.declared.Counters.{Counters}
 use Rattle.definition.specs.Board.{Board}
 use Rattle.definition.specs.Boot.{managed_pages, overlap}
 use Rattle.definition.specs.Calls.{Call, Outcome, step}
 use Rattle.definition.specs.Store.{Store}
-use Rattle.definition.specs.Torn.{regions_of}
+use Rattle.definition.specs.Torn.{regions_of, sound}
 use Rattle.definition.specs.World.{World, encode, record_at}
 use Rattle.record.specs.Records.{pages_in}
 use Rattle.words.specs.Words.{board_in, Long, pass_in, queued_in, rows_in}
@@ -16,6 +16,7 @@ use Rattle.world.specs.Tables.{Sane}
 use Rattle.allocator.specs.Spots.{SaneIn}
 use Rattle.allocator.specs.declared.Seen.{Seen}
 use Rattle.definition.specs.declared.Refusal.{Refusal}
+use Rattle.definition.specs.declared.Refusal.TheVariants.{Torn}
 use Rattle.exam.specs.Promise.{Answer, Looks, state_with, told, world_of}
 
 -- the world that the counters and the loans hold
@@ -54,6 +55,20 @@ pub record Ready (k : Counters) (ws rs m q : List ℕ) : Type 0 where
   pub room : RoomIn ws m
   pub few : Few k
   pub pass : PassIn ws q
+
+-- ---- the torn test
+
+-- all that is lent is sound: what a call asks for, and that the records are bytes
+pub record Passes (k : Counters) (ws rs m q : List ℕ) : Type 0 where
+  pub is_sound : sound (board_in ws) (world k ws rs m q) ≡ true
+  pub ready : Ready k ws rs m q
+  pub bytes : (i : ℕ) → get_or rs i 0 < 256
+
+-- what the test comes to
+pub record Tests (k : Counters) (ws rs m q : List ℕ) (x : Result ⊤ Refusal) : Type 0 where
+  pub result : x ≡ cond (sound (board_in ws) (world k ws rs m q)) (Ok tt) (Err Torn)
+  pub torn : (r : Refusal) → x ≡ Err r → (r ≡ Torn) × (sound (board_in ws) (world k ws rs m q) ≡ false)
+  pub passed : (u : ⊤) → x ≡ Ok u → Passes k ws rs m q
 
 -- ---- what it promises
 

@@ -2,12 +2,11 @@
 // that must be held (11 to 14). A call is lent what it reads and writes of the state, and promises `Makes` of specs/Making.antt.
 #![tactic(auto)]
 
-ghost use Rattle.std.specs.Prelude.{◌≡◌, Ok, ◌+◌, ◌*◌, ◌<◌, ◌^◌};
+ghost use Rattle.std.specs.Prelude.{◌≡◌, ◌+◌, ◌*◌, ◌<◌, ◌^◌};
 ghost use Rattle.definition.specs.Board.{Fit};
-ghost use Rattle.definition.specs.Torn.{sound};
 ghost use Rattle.words.specs.Words.{board_in, Long};
 ghost use Rattle.exam.specs.Promise.{LevelKnown, Leveled, both_held, bytes_if, held_as};
-ghost use Rattle.exam.specs.Making.{LooksIn, TableIn, world};
+ghost use Rattle.exam.specs.Making.{LooksIn, TableIn, Tests};
 
 use address::PhysAddr;
 use allocator::Seen;
@@ -25,19 +24,21 @@ pub type Answer = Result<Reply, Refusal>;
 
 // ---- the tests of a call
 
-// The torn test of all that is lent.
-pub fn is_sound(
+// The torn test of all that is lent (refusal 6): what passes it has what the calls ask for.
+pub fn torn_test(
     counters: Counters,
     words: &[u64],
     records: &[u8],
     memory: &[u8],
     queue: &[u64],
-) -> bool
+) -> Result<(), Refusal>
     requires { Long words.now }
-    ensures { result ≡ sound (board_in words.now)
-        (world counters words.now records.now memory.now queue.now) }
+    ensures { Tests counters words.now records.now memory.now queue.now result }
 {
-    audit::audit(counters, words, records, memory.len(), queue.len())
+    if !audit::audit(counters, words, records, memory.len(), queue.len()) {
+        return Err(Refusal::Torn);
+    }
+    Ok(())
 }
 
 // The bytes of the frame that starts at a page that was seen, 0 where none does.

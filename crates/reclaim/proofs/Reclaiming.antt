@@ -34,15 +34,15 @@ use Rattle.definition.specs.Tracker.{
 }
 use Rattle.definition.specs.Calls.{leaves_frame}
 use Rattle.level.proofs.Sizes.{size_most}
-use Rattle.world.specs.Refusals.{frame_refusal, number_if, range_of}
+use Rattle.world.specs.Refusals.{frame_refusal, range_of}
 use Rattle.world.specs.Tables.{Sane, Turned}
 use Rattle.allocator.specs.declared.Seen.{Seen}
-use Rattle.allocator.specs.Spots.{Sees, TurnsBy, free_at}
+use Rattle.allocator.specs.Spots.{SeesPage, TurnsBy, free_at}
 use Rattle.allocator.proofs.Standing.{sane_table, standing}
 use Rattle.allocator.proofs.Turning.{sees_number}
-use Rattle.exam.specs.declared.Exam.{Exam}
-use Rattle.exam.specs.Promise.{State, Looks}
-use Rattle.exam.proofs.Tests.{frame_seen, seen_managed}
+use Rattle.std.specs.Prelude.{Result, Ok, Err}
+use Rattle.definition.specs.declared.Refusal.{Refusal}
+use Rattle.exam.specs.Promise.{State, Looks, refusal_in}
 use Rattle.frames.specs.Freeing.{Released}
 use Rattle.frames.proofs.Promised.{free_store}
 use Rattle.reclaim.specs.Rounds.{IsOf, Reclaims}
@@ -69,36 +69,35 @@ pop_none places q e = ap (λ (k : ℕ). pop_back (take k places)) e
 
 -- ---- an address can be freed where its frame meets no refusal
 
-abbrev of_tests : (m b h l : Bool) → ℕ
-of_tests m b h l = number_if (first_met ((Outside when not m) ∷ (NoFrameStart when not b) ∷ (NotHeld when not h) ∷ (PastTheEnd when l) ∷ []))
+abbrev of_tests : (m b h l : Bool) → Option Refusal
+of_tests m b h l = first_met ((Outside when not m) ∷ (NoFrameStart when not b) ∷ (NotHeld when not h) ∷ (PastTheEnd when l) ∷ [])
 
-all_met : (m b h l : Bool) → of_tests m b h l ≡ 0 → (m && (b && h)) ≡ true
+all_met : (m b h l : Bool) → of_tests m b h l ≡ none → (m && (b && h)) ≡ true
 unfolding first_met
-all_met false b h l e = absurd (omega arith)
-all_met true false h l e = absurd (omega arith)
-all_met true true false l e = absurd (omega arith)
+all_met false b h l e = absurd (let n : ◌≡◌ {A = ℕ} 0 1 = cc in omega arith)
+all_met true false h l e = absurd (let n : ◌≡◌ {A = ℕ} 0 1 = cc in omega arith)
+all_met true true false l e = absurd (let n : ◌≡◌ {A = ℕ} 0 1 = cc in omega arith)
 all_met true true true l e = refl
 
-one_fails : (m b h l : Bool) → l ≡ false → (of_tests m b h l ≡ 0 → ⊥) → (m && (b && h)) ≡ false
+one_fails : (m b h l : Bool) → l ≡ false → (r : Refusal) → of_tests m b h l ≡ some r → (m && (b && h)) ≡ false
 unfolding first_met
-one_fails false b h l f d = refl
-one_fails true false h l f d = refl
-one_fails true true false l f d = refl
-one_fails true true true false f d = absurd (d refl)
-one_fails true true true true f d = f
+one_fails false b h l f r d = refl
+one_fails true false h l f r d = refl
+one_fails true true false l f r d = refl
+one_fails true true true l f r d = absurd (let n : ◌≡◌ {A = ℕ} 0 1 = cc (ap (λ (t : Bool). of_tests true true true t) f) in omega arith)
 
 module _ (board : Board) where
   module _ (s : Store) (a : ℕ) where
     abbrev managed : Bool
     managed = is_managed board s.allocator.regions (a / board.page)
 
-    can_free : frame_refusal board s (range_of a 0 0) ≡ 0 → can_be_freed board s a ≡ true
+    can_free : frame_refusal board s (range_of a 0 0) ≡ none → can_be_freed board s a ≡ true
     can_free e = all_met managed (starts_frame board s a) (is_held board s a) (leaves_frame board s (range_of a 0 0)) e
 
-    can_not_free : (frame_refusal board s (range_of a 0 0) ≡ 0 → ⊥) → can_be_freed board s a ≡ false
-    can_not_free d =
+    can_not_free : (r : Refusal) → frame_refusal board s (range_of a 0 0) ≡ some r → can_be_freed board s a ≡ false
+    can_not_free r e =
         one_fails managed (starts_frame board s a) (is_held board s a) (leaves_frame board s (range_of a 0 0))
-        (le-ltb (frame_bytes board s (a / board.page)) 0 (omega arith)) d
+        (le-ltb (frame_bytes board s (a / board.page)) 0 (omega arith)) r e
 
 -- ---- the store that a free leaves, by what was seen
 
@@ -194,15 +193,9 @@ module _ {board : Board} where
               (ap pop_back W.is.queue ∙ pop_take places next.queued some_left W.is.queued)
               ∙ ap (λ (c : Bool). more freed (cond c (one_more (reclaim_up_to board k (free_frame board u (a / board.page)))) (reclaim_up_to board k u))) e
 
-          module _ (r : Exam) (L : Looks board f n next.rows a 0 0 r) where
-            sees : Sees board f next.rows (a / board.page) u.allocator r.seen
-            sees = L.sees t.allocator W.is.table
-
-            number_is : frame_refusal board u (range_of a 0 0) ≡ r.number
-            number_is = frame_seen u a 0 0 r.seen sees ∙ sym L.number
-
-            went_drop : (r.number ≡ 0 → ⊥) → Went board f₀ n st places limit f (off_end next) freed (i + 1) s
-            went_drop d =
+          module _ (x : Result Seen Refusal) (L : Looks board f n next.rows a 0 0 x) where
+            went_drop : (e : Refusal) → x ≡ Err e → Went board f₀ n st places limit f (off_end next) freed (i + 1) s
+            went_drop e z =
                 record {
                   present = u;
                   is = record { table = W.is.table; counters = W.is.counters; queue = refl; queued = omega (arith, W.is.queued) };
@@ -210,27 +203,27 @@ module _ {board : Board} where
                   memory = W.memory;
                   kept = W.kept;
                   same_pass = W.same_pass;
-                  result = turn false (can_not_free board u a (λ z. d (sym number_is ∙ z)));
+                  result = turn false (can_not_free board u a e (L.refusal u W.is.table ∙ ap refusal_in z));
                 }
 
-            module _ (z : r.number ≡ 0) where
-              seen_is_managed : r.seen.managed ≡ true
-              seen_is_managed = seen_managed a 0 0 r.seen sees L.leveled r.number L.number z
+            module _ (r : Seen) (z : x ≡ Ok r) where
+              sees : SeesPage board f next.rows (a / board.page) u.allocator r
+              sees = (L.found r z).sees t.allocator W.is.table
 
-              freed_is : free_frame board u (a / board.page) ≡ freed_of board u (a / board.page) r.seen
-              freed_is = free_store u (a / board.page) sees seen_is_managed (L.held z)
+              freed_is : free_frame board u (a / board.page) ≡ freed_of board u (a / board.page) r
+              freed_is = free_store u (a / board.page) sees (L.found r z).held
 
-              went_free : {g : ℕ → Record} {next2 : State} → Released board f (off_end next) r.seen g n next2 → Went board f₀ n st places limit g next2 (freed + 1) (i + 1) s
+              went_free : {g : ℕ → Record} {next2 : State} → Released board f (off_end next) r g n next2 → Went board f₀ n st places limit g next2 (freed + 1) (i + 1) s
               went_free {g} {next2} R =
-                  let v = freed_of board u (a / board.page) r.seen in
-                  let x = reclaim_up_to board k v in
-                  let T : Turned board f next.rows g n next2.rows v.allocator = rw (sees_number sees seen_is_managed) at (R.turned t.allocator W.is.table) in
+                  let v = freed_of board u (a / board.page) r in
+                  let y = reclaim_up_to board k v in
+                  let T : Turned board f next.rows g n next2.rows v.allocator = rw (sees_number sees) at (R.turned t.allocator W.is.table) in
                   record {
                     present = v;
                     is =
                         record {
                           table = T.table;
-                          counters = ap (count_free (size r.seen.level) (eqb (r.seen.marks / 8 % 2) 1)) W.is.counters ∙ sym R.counters;
+                          counters = ap (count_free (size r.level) (eqb (r.marks / 8 % 2) 1)) W.is.counters ∙ sym R.counters;
                           queue = ap (λ (m : ℕ). take m places) (sym R.queued);
                           queued = omega (arith, W.is.queued, R.queued);
                         };
@@ -239,9 +232,9 @@ module _ {board : Board} where
                     kept = W.kept;
                     same_pass = W.same_pass;
                     result =
-                        turn true (can_free board u a (number_is ∙ z))
-                        ∙ ap (λ (y : Store). more freed (one_more (reclaim_up_to board k y))) freed_is
-                        ∙ ap (λ (m : ℕ). record { store = x.store; freed = m }) (omega arith);
+                        turn true (can_free board u a (L.refusal u W.is.table ∙ ap refusal_in z))
+                        ∙ ap (λ (q : Store). more freed (one_more (reclaim_up_to board k q))) freed_is
+                        ∙ ap (λ (m : ℕ). record { store = y.store; freed = m }) (omega arith);
                   }
 
 -- ---- the loop's invariant
@@ -313,32 +306,34 @@ module _ {board : Board} where
         pub going_empty : limit ≤ 1000 → next.queued ≡ 0 → Reclaims board f₀ st places limit f n (record { state = next; freed = freed })
         going_empty m e = ended m (λ s I. went_empty (G.went s I) h e)
 
-        module _ (some_left : 0 < next.queued) (r : Exam) (L : Looks board f n next.rows (get_or places (next.queued - 1) 0) 0 0 r) where
-          pub going_drop : (r.number ≡ 0 → ⊥) → Going board f₀ st places limit f n (off_end next) freed (i + 1)
-          going_drop d =
-              record {
-                sane = G.sane;
-                turns = omega arith;
-                few = omega (arith, G.few);
-                queued = omega (arith, G.queued);
-                within = G.within;
-                pass = G.pass;
-                idle = omega (arith, G.idle);
-                went = λ s I. went_drop (G.went s I) h some_left r L d;
-              }
+        module _
+            (some_left : 0 < next.queued) (x : Result Seen Refusal) (L : Looks board f n next.rows (get_or places (next.queued - 1) 0) 0 0 x)
+          where
+            pub going_drop : (e : Refusal) → x ≡ Err e → Going board f₀ st places limit f n (off_end next) freed (i + 1)
+            going_drop e z =
+                record {
+                  sane = G.sane;
+                  turns = omega arith;
+                  few = omega (arith, G.few);
+                  queued = omega (arith, G.queued);
+                  within = G.within;
+                  pass = G.pass;
+                  idle = omega (arith, G.idle);
+                  went = λ s I. went_drop (G.went s I) h some_left x L e z;
+                }
 
-          pub going_free
-              : r.number ≡ 0 → {g : ℕ → Record} {next2 : State} → Released board f (off_end next) r.seen g n next2
-              → Going board f₀ st places limit g n next2 (freed + 1) (i + 1)
-          going_free z {g} {next2} R =
-              let e = more_idle (size r.seen.level) (eqb (r.seen.marks / 8 % 2) 1) next.counters next2.counters R.counters in
-              record {
-                sane = turns_sane G.sane R.turned;
-                turns = omega arith;
-                few = omega (arith, G.few);
-                queued = omega (arith, G.queued, R.queued);
-                within = G.within;
-                pass = R.pass ∙ G.pass;
-                idle = omega (arith, G.idle, e, size_most (L.held z).leveled);
-                went = λ s I. went_free (G.went s I) h some_left r L z R;
-              }
+            pub going_free
+                : (r : Seen) → x ≡ Ok r → {g : ℕ → Record} {next2 : State} → Released board f (off_end next) r g n next2
+                → Going board f₀ st places limit g n next2 (freed + 1) (i + 1)
+            going_free r z {g} {next2} R =
+                let e = more_idle (size r.level) (eqb (r.marks / 8 % 2) 1) next.counters next2.counters R.counters in
+                record {
+                  sane = turns_sane G.sane R.turned;
+                  turns = omega arith;
+                  few = omega (arith, G.few);
+                  queued = omega (arith, G.queued, R.queued);
+                  within = G.within;
+                  pass = R.pass ∙ G.pass;
+                  idle = omega (arith, G.idle, e, size_most (L.found r z).held.leveled);
+                  went = λ s I. went_free (G.went s I) h some_left x L r z R;
+                }

@@ -30,9 +30,10 @@ use Rattle.world.specs.Tables.{Sane, Turned}
 use Rattle.world.proofs.Refusing.{nothing_refused}
 use Rattle.allocator.proofs.Standing.{sane_table, standing}
 use Rattle.exam.specs.Making.{Made, Whole}
-use Rattle.exam.specs.Promise.{State, Outcome, world_of}
+use Rattle.std.specs.Prelude.{Ok}
+use Rattle.exam.specs.declared.Reply.{Reply}
+use Rattle.exam.specs.Promise.{State, world_of, reply}
 use Rattle.exam.proofs.Making.{made_left, table_as_long, unturned, unwritten}
-use Rattle.exam.proofs.Promises.{done_by}
 use Rattle.reclaim.specs.Rounds.{Reclaimed, EndsPass, Reclaims, ReclaimsTo}
 
 -- ---- the definition's round by its tests
@@ -102,7 +103,7 @@ module _ {board : Board} (st : State) (records memory queue : List ℕ) {s : Sto
         left : (o : Reported) → reclaim_round board s ≡ o → o.store.allocator ≡ s1.allocator → o.store.memory ≡ s1.memory
             → o.store.kept ≡ s1.kept → o.store.queue ≡ s1.queue → (st2 : State) → st2.rows ≡ st1.rows → st2.queued ≡ st1.queued
             → o.store.counters ≡ st2.counters → o.store.pass ≡ st2.pass
-            → Made board (step board s Round) w (world_of st2 records2 memory queue) (done_by o.pass.rounds o.pass.freed)
+            → Made board (step board s Round) w (world_of st2 records2 memory queue) (Ok (reply o.pass.rounds o.pass.freed))
         unfolding perform
         left o e a m r q st2 rows queued counters pass =
             made_left H o.store (world_of st2 records2 memory queue) (rw (a, rows) turned) as_long small
@@ -120,16 +121,16 @@ module _ {board : Board} (st : State) (records memory queue : List ℕ) {s : Sto
             (rw e refl)
             refl
 
-        over : (p : Pass) → reclaim_round board s ≡ end_pass s1 p → (r : Outcome) → EndsPass st1 p r
-            → Made board (step board s Round) w (world_of r.state records2 memory queue) r.answer
-        over p e r E =
+        over : (p : Pass) → reclaim_round board s ≡ end_pass s1 p → (st2 : State) (y : Reply) → EndsPass st1 p st2 y
+            → Made board (step board s Round) w (world_of st2 records2 memory queue) (Ok y)
+        over p e st2 y E =
             rw E.answer
-            (left (end_pass s1 p) e refl refl refl refl r.state E.rows E.queued
+            (left (end_pass s1 p) e refl refl refl refl st2 E.rows E.queued
             (ap (track_reclaimed p.freed) counters-same ∙ sym E.counters)
             (sym E.pass))
 
         goes_on : (p : Pass) → reclaim_round board s ≡ go_on s1 p
-            → Made board (step board s Round) w (world_of (with_pass_of st1 p) records2 memory queue) (done_by p.rounds p.freed)
+            → Made board (step board s Round) w (world_of (with_pass_of st1 p) records2 memory queue) (Ok (reply p.rounds p.freed))
         goes_on p e = left (go_on s1 p) e refl refl refl refl (with_pass_of st1 p) refl refl counters-same refl
 
     -- ---- where the store is low, by the frees
@@ -157,19 +158,20 @@ module _ {board : Board} (st : State) (records memory queue : List ℕ) {s : Sto
 
         -- the round limit is passed
         pub round_ends
-            : board.max_rounds < st.pass.rounds → (r : Outcome) → EndsPass R.state (worked st.pass R.freed) r
-            → Made board (step board s Round) w (world_of r.state records2 memory queue) r.answer
-        round_ends h r E =
+            : board.max_rounds < st.pass.rounds → (st2 : State) (y : Reply) → EndsPass R.state (worked st.pass R.freed) st2 y
+            → Made board (step board s Round) w (world_of st2 records2 memory queue) (Ok y)
+        round_ends h st2 y E =
             over x.store R.state X.turned X.counters X.memory X.kept X.queue X.queued
             (worked st.pass R.freed)
             (after ∙ past_limit board s.pass x (omega (arith, rounds_is)) ∙ ap (end_pass x.store) worked_is)
-            r
+            st2
+            y
             E
 
         pub round_goes_on
             : st.pass.rounds ≤ board.max_rounds
             → Made board (step board s Round) w (world_of (with_pass_of R.state (worked st.pass R.freed)) records2 memory queue)
-            (done_by (st.pass.rounds + 1) (st.pass.freed + R.freed))
+            (Ok (reply (st.pass.rounds + 1) (st.pass.freed + R.freed)))
         round_goes_on h =
             goes_on x.store R.state X.turned X.counters X.memory X.kept X.queue X.queued
             (worked st.pass R.freed)
@@ -177,11 +179,12 @@ module _ {board : Board} (st : State) (records memory queue : List ℕ) {s : Sto
 
   -- the store is not low
   pub round_rests
-      : should_reclaim board st.counters ≡ false → (r : Outcome) → EndsPass st st.pass r
-      → Made board (step board s Round) w (world_of r.state records memory queue) r.answer
-  round_rests e r E =
+      : should_reclaim board st.counters ≡ false → (st2 : State) (y : Reply) → EndsPass st st.pass st2 y
+      → Made board (step board s Round) w (world_of st2 records memory queue) (Ok y)
+  round_rests e st2 y E =
       let S = H.stands in
       over records refl H.bytes s st (unturned H) S.counters refl refl S.queue (omega arith) st.pass
       (not_low board s (ap (should_reclaim board) S.counters ∙ e) ∙ ap (end_pass s) S.pass)
-      r
+      st2
+      y
       E

@@ -6,7 +6,8 @@ use Rattle.definition.specs.Board.{Board}
 use Rattle.definition.specs.Store.{Store}
 use Rattle.definition.specs.Tracker.{Reclaimed as ReclaimedOf, reclaim_up_to, track_reclaimed}
 use Rattle.world.specs.Tables.{Table, Turned}
-use Rattle.exam.specs.Promise.{Outcome, State}
+use Rattle.exam.specs.declared.Reply.{Reply}
+use Rattle.exam.specs.Promise.{State, reply}
 
 -- ---- a round
 
@@ -16,12 +17,12 @@ pub record Reclaimed : Type 0 where
   pub freed : ℕ
 
 -- the pass is over: what it freed is counted, and it is told
-pub record EndsPass (st : State) (p : Pass) (r : Outcome) : Type 0 where
-  pub rows : r.state.rows ≡ st.rows
-  pub counters : r.state.counters ≡ track_reclaimed p.freed st.counters
-  pub queued : r.state.queued ≡ st.queued
-  pub pass : r.state.pass ≡ record { rounds = 0; freed = 0 }
-  pub answer : r.answer ≡ record { number = 0; address = p.rounds; bytes = p.freed }
+pub record EndsPass (st : State) (p : Pass) (left : State) (y : Reply) : Type 0 where
+  pub rows : left.rows ≡ st.rows
+  pub counters : left.counters ≡ track_reclaimed p.freed st.counters
+  pub queued : left.queued ≡ st.queued
+  pub pass : left.pass ≡ record { rounds = 0; freed = 0 }
+  pub answer : y ≡ reply p.rounds p.freed
 
 module _ (board : Board) where
   -- the state and its table are of the store s, whose queue is in the first places of the loan

@@ -9,14 +9,11 @@ use Rattle.exam.specs.Promise.{state_with}
 use Rattle.reclaim.proofs.Reclaiming.{Going}
 use Rattle.reclaim.proofs.reclaim_up_to.Given as goal
 
-abbrev pub invariant-loop-i : goal.invariant-loop-i
-invariant-loop-i l = Going (board_in l.initial.words) (record_at l.initial.records) (state_with l.initial.next l.initial.words) l.queue l.limit (record_at l.records) (pages_in l.records)
-    (state_with l.next l.words)
+abbrev pub invariant-loop : goal.invariant-loop
+invariant-loop l = Going (board_in l.initial.words) (record_at l.initial.records) (state_with l.initial.counters l.initial.words) l.queue l.limit (record_at l.records) (pages_in l.records)
+    (state_with l.counters l.words)
     l.freed
     l.i
     × (length l.records ≡ length l.initial.records)
     × (length l.words ≡ length l.initial.words)
     × Beside l.initial.words l.words
-
-abbrev pub decreases-loop-i : goal.decreases-loop-i
-decreases-loop-i l = l.limit - l.i
