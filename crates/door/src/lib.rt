@@ -3,56 +3,42 @@
 // makes most, and those that take or give bytes, go straight.
 #![tactic(auto)]
 
-ghost use Rattle.std.specs.Prelude.{◌≡◌, get_or};
+ghost use Rattle.std.specs.Prelude.{◌+◌, ◌≤◌, get_or, length};
 ghost use Rattle.definition.specs.Calls.{Alloc, Free, Find, Write, Read};
 ghost use Rattle.words.specs.Words.{board_in, Long, Beside};
 ghost use Rattle.exam.specs.Promise.{Leaves};
 ghost use Rattle.exam.specs.Making.{world};
 ghost use Rattle.lines.specs.Reading.{call_of};
-ghost use Rattle.door.specs.Tested.{Numbers, Finds, Lends, Reports};
+ghost use Rattle.door.specs.Tested.{Finds, Lends, Reports, lent};
 
 use address::PhysAddr;
-use copies::Place;
-use counts::Report;
-use definition::{Counters, FrameAllocFlags};
-use exam::{Answer, Outcome};
+use definition::{Counters, FrameAllocFlags, Refusal};
+use exam::Answer;
 use lines::Ask;
-
-// Refused 6: nothing changes.
-fn torn(counters: Counters) -> Outcome
-    ensures { result ≡ record { counters = counters; answer = record { number = 6; address = 0; bytes = 0 } } }
-{
-    Outcome {
-        counters,
-        answer: exam::refused(definition::TORN),
-    }
-}
 
 // ---- any call that answers by numbers
 
 pub fn ask(
-    counters: Counters,
+    counters: &mut Counters,
     words: &mut [u64],
     records: &mut [u8],
     memory: &mut [u8],
     queue: &mut [u64],
     op: Ask,
     n: [u64; 5],
-) -> Outcome
+) -> Answer
     requires { Long words.old }
     ensures leaves { Leaves (board_in words.old)
-        (world counters words.old records.old memory.old queue.old)
+        (world counters.old words.old records.old memory.old queue.old)
         (call_of op (λ i. get_or n i 0))
-        (world result.counters words.new records.new memory.new queue.new) result.answer }
+        (world counters.new words.new records.new memory.new queue.new) result }
     ensures beside { Beside words.old words.new }
 {
-    if !exam::is_sound(counters, words, records, memory, queue) {
-        return torn(counters);
-    }
+    exam::torn_test(*counters, words, records, memory, queue)?;
     calls::make(counters, words, records, memory, queue, op, n)
 }
 
-// ---- the three calls that a kernel makes most: on the way through the dispatch the counters would be copied at every step
+// ---- the three calls that a kernel makes most
 
 pub fn find(
     counters: Counters,
@@ -67,34 +53,30 @@ pub fn find(
         (world counters words.now records.now memory.now queue.now) (Find pa.0)
         (world counters words.now records.now memory.now queue.now) result }
 {
-    if !exam::is_sound(counters, words, records, memory, queue) {
-        return exam::refused(definition::TORN);
-    }
+    exam::torn_test(counters, words, records, memory, queue)?;
     frames::find(words, records, pa)
 }
 
 pub fn free(
-    counters: Counters,
+    counters: &mut Counters,
     words: &mut [u64],
     records: &mut [u8],
     memory: &[u8],
     queue: &[u64],
     pa: PhysAddr,
-) -> Outcome
+) -> Answer
     requires { Long words.old }
     ensures leaves { Leaves (board_in words.old)
-        (world counters words.old records.old memory.now queue.now) (Free pa.0)
-        (world result.counters words.new records.new memory.now queue.now) result.answer }
+        (world counters.old words.old records.old memory.now queue.now) (Free pa.0)
+        (world counters.new words.new records.new memory.now queue.now) result }
     ensures beside { Beside words.old words.new }
 {
-    if !exam::is_sound(counters, words, records, memory, queue) {
-        return torn(counters);
-    }
+    exam::torn_test(*counters, words, records, memory, queue)?;
     frames::free(counters, words, records, pa)
 }
 
 pub fn alloc(
-    counters: Counters,
+    counters: &mut Counters,
     words: &mut [u64],
     records: &mut [u8],
     memory: &mut [u8],
@@ -102,17 +84,15 @@ pub fn alloc(
     size: u64,
     align: u64,
     flags: FrameAllocFlags,
-) -> Outcome
+) -> Answer
     requires { Long words.old }
     ensures leaves { Leaves (board_in words.old)
-        (world counters words.old records.old memory.old queue.now)
+        (world counters.old words.old records.old memory.old queue.now)
         (Alloc (record { size = size; align = align; flags = flags }))
-        (world result.counters words.new records.new memory.new queue.now) result.answer }
+        (world counters.new words.new records.new memory.new queue.now) result }
     ensures beside { Beside words.old words.new }
 {
-    if !exam::is_sound(counters, words, records, memory, queue) {
-        return torn(counters);
-    }
+    exam::torn_test(*counters, words, records, memory, queue)?;
     grants::alloc(counters, words, records, memory, size, align, flags)
 }
 
@@ -134,12 +114,11 @@ pub fn write(
         (Write pa.0 offset bytes.now)
         (world counters words.now records.new memory.new queue.now) result }
 {
-    if !exam::is_sound(counters, words, records, memory, queue) {
-        return exam::refused(definition::TORN);
-    }
+    exam::torn_test(counters, words, records, memory, queue)?;
     ranges::write(words, records, memory, pa, offset, bytes)
 }
 
+// Where the bytes that are read stand in the memory.
 pub fn read_place(
     counters: Counters,
     words: &[u64],
@@ -149,41 +128,17 @@ pub fn read_place(
     pa: PhysAddr,
     offset: u64,
     len: u64,
-) -> Place
+) -> Result<usize, Refusal>
     requires { Long words.now }
     ensures { Finds (board_in words.now)
         (world counters words.now records.now memory.now queue.now)
         (Read pa.0 offset len) len result }
 {
-    if !exam::is_sound(counters, words, records, memory, queue) {
-        return Place {
-            number: definition::TORN,
-            at: 0,
-        };
-    }
+    exam::torn_test(counters, words, records, memory, queue)?;
     copies::read_place(words, records, pa, offset, len)
 }
 
-// 0, or the number of the refusal that `read` meets.
-pub fn read_number(
-    counters: Counters,
-    words: &[u64],
-    records: &[u8],
-    memory: &[u8],
-    queue: &[u64],
-    pa: PhysAddr,
-    offset: u64,
-    len: u64,
-) -> u32
-    requires { Long words.now }
-    ensures { Numbers (board_in words.now)
-        (world counters words.now records.now memory.now queue.now)
-        (Read pa.0 offset len) result }
-{
-    read_place(counters, words, records, memory, queue, pa, offset, len).number
-}
-
-// 01, "Added `read`": the part of the lent memory that starts at the frame's offset, the empty part where it is refused.
+// 01, "Added `read`": the part of the lent memory that starts at the frame's offset.
 pub fn read<'a>(
     counters: Counters,
     words: &[u64],
@@ -193,38 +148,32 @@ pub fn read<'a>(
     pa: PhysAddr,
     offset: u64,
     len: u64,
-) -> &'a [u8]
+) -> Result<&'a [u8], Refusal>
     requires { Long words.now }
     ensures { Lends (board_in words.now)
         (world counters words.now records.now memory.now queue.now)
-        (Read pa.0 offset len) result.now }
+        (Read pa.0 offset len) (lent result) }
 {
-    let place = read_place(counters, words, records, memory, queue, pa, offset, len);
-    if place.number != 0 {
-        return contents::part(memory, 0, 0);
-    }
-    contents::part(memory, place.at, len as usize)
+    let at = read_place(counters, words, records, memory, queue, pa, offset, len)?;
+    Ok(contents::part(memory, at, len as usize))
 }
 
-// The statistics, or the refusal's number and no text.
+// The statistics, written into `text` from `at` on, and the place behind them.
 pub fn stats(
     counters: Counters,
     words: &[u64],
     records: &[u8],
     memory: &[u8],
     queue: &[u64],
-) -> Report
-    requires { Long words.now }
+    text: &mut [u8],
+    at: usize,
+) -> Result<usize, Refusal>
+    requires long { Long words.now }
+    requires room { at + 368 ≤ length text.old }
     ensures { Reports (board_in words.now)
-        (world counters words.now records.now memory.now queue.now) result }
+        (world counters words.now records.now memory.now queue.now)
+        text.old at text.new result }
 {
-    if !exam::is_sound(counters, words, records, memory, queue) {
-        let text = [0u8; 368];
-        return Report {
-            number: definition::TORN,
-            len: 0,
-            text,
-        };
-    }
-    counts::stats(counters)
+    exam::torn_test(counters, words, records, memory, queue)?;
+    Ok(counts::stats(counters, text, at))
 }
