@@ -13,8 +13,8 @@ ghost use Rattle.frames.specs.Freeing.{Released};
 
 use address::PhysAddr;
 use allocator::Seen;
-use definition::Counters;
-use exam::{Answer, Outcome};
+use definition::{Counters, Refusal};
+use exam::{Answer, Reply};
 
 // ---- lookup
 
@@ -23,14 +23,13 @@ pub fn find(words: &[u64], records: &[u8], pa: PhysAddr) -> Answer
     requires { TableIn words.now records.now }
     ensures { Reads (Find pa.0) words.now records.now result }
 {
-    let seen = allocator::see(words, records, pa);
-    if !seen.managed {
-        return exam::refused(definition::OUTSIDE);
-    }
+    let seen = allocator::see(words, records, pa).ok_or(Refusal::Outside)?;
     let board = words::board_in(words);
     let page = board.page as u64;
-    let number = pa.raw() / page;
-    exam::done(page * number, exam::frame_bytes(board, seen))
+    Ok(Reply {
+        address: page * (pa.raw() / page),
+        bytes: exam::frame_bytes(board, seen),
+    })
 }
 
 // ---- split
@@ -40,56 +39,45 @@ pub fn split(words: &[u64], records: &mut [u8], pa: PhysAddr) -> Answer
     requires { TableIn words.now records.old }
     ensures { Marks (Split pa.0) words.now records.old records.new result }
 {
-    let exam = exam::look(words, records, pa, 0, 0);
-    let number = exam.number;
-    if number != 0 {
-        return exam::refused(number);
-    }
-    let seen = exam.seen;
-    let board = words::board_in(words);
-    allocator::split_frame(words, records, seen.spot);
-    exam::done(pa.raw(), exam::frame_bytes(board, seen))
+    let held = exam::look(words, records, pa, 0, 0)?;
+    allocator::split_frame(words, records, held.spot);
+    Ok(Reply {
+        address: pa.raw(),
+        bytes: exam::frame_bytes(words::board_in(words), held),
+    })
 }
 
 // ---- free
 
 // free_frame, but for its tests: the held frame that was seen goes back on its list, and its pages are idle.
-pub fn release(counters: Counters, words: &mut [u64], records: &mut [u8], seen: Seen) -> Counters
+pub fn release(counters: &mut Counters, words: &mut [u64], records: &mut [u8], seen: Seen)
     requires table_in { TableIn words.old records.old }
-    requires held_seen { HeldSeen (board_in words.old) (record_at records.old) (rows_in words.old) seen × (counters.idle < 2 ^ 63) }
+    requires held_seen { HeldSeen (board_in words.old) (record_at records.old) (rows_in words.old) seen × (counters.old.idle < 2 ^ 63) }
     ensures released { Released (board_in words.old)
-        (record_at records.old) (state_with counters words.old) seen
-        (record_at records.new) (pages_in records.new) (state_with result words.new) }
+        (record_at records.old) (state_with counters.old words.old) seen
+        (record_at records.new) (pages_in records.new) (state_with counters.new words.new) }
     ensures beside { Beside words.old words.new }
 {
     let pages = level::pages_at(record::level_of(seen.level));
     let kernel = record::is_kernel(seen.marks);
     allocator::free(words, records, seen.spot);
-    tracker::count_free(counters, pages, kernel)
+    *counters = tracker::count_free(*counters, pages, kernel);
 }
 
 // free_frame, tracker.rs 41.
-pub fn free(counters: Counters, words: &mut [u64], records: &mut [u8], pa: PhysAddr) -> Outcome
+pub fn free(counters: &mut Counters, words: &mut [u64], records: &mut [u8], pa: PhysAddr) -> Answer
     requires table_in { TableIn words.old records.old }
-    requires few { Few counters }
+    requires few { Few counters.old }
     ensures turns { Turns (Free pa.0)
-        counters words.old records.old
-        result.counters words.new records.new result.answer }
+        counters.old words.old records.old
+        counters.new words.new records.new result }
     ensures beside { Beside words.old words.new }
 {
-    let exam = exam::look(words, records, pa, 0, 0);
-    let number = exam.number;
-    if number != 0 {
-        return Outcome {
-            counters,
-            answer: exam::refused(number),
-        };
-    }
-    let seen = exam.seen;
-    let board = words::board_in(words);
-    let next = release(counters, words, records, seen);
-    Outcome {
-        counters: next,
-        answer: exam::done(pa.raw(), exam::frame_bytes(board, seen)),
-    }
+    let seen = exam::look(words, records, pa, 0, 0)?;
+    let bytes = exam::frame_bytes(words::board_in(words), seen);
+    release(counters, words, records, seen);
+    Ok(Reply {
+        address: pa.raw(),
+        bytes,
+    })
 }

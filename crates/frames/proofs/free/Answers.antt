@@ -1,41 +1,36 @@
 -- Free, by what `look` found: the refusal of the frame, or the table and the counters that `release` leaves.
 use native.Mathlib.Omega.{arith}
+use Rattle.std.proofs.lemmas.Result.{err_from_is_err_and}
 use Rattle.words.specs.Words.{rows_in}
-use Rattle.words.proofs.Words.{beside_same}
 use Rattle.exam.proofs.Making.{bytes_small}
 use Rattle.frames.proofs.Promised.{free_made, free_refused}
 use Rattle.frames.proofs.free.Goals as goal
 
-pub returns-then-number-ne0 : goal.returns-then-number-ne0
-returns-then-number-ne0 c =
-    record {
-      turns = λ m q s H. rw c.refused.ensures (free_refused H c.look-exam.ensures c.if-number-ne0.true);
-      beside = beside_same;
-    }
+pub returns-in_err-seen-clause-turns : goal.returns-in_err-seen-clause-turns
+returns-in_err-seen-clause-turns c m q s H =
+    let p = err_from_is_err_and c.from_residual.result c.from_residual.ensures.1 in
+    let x = c.in_err-seen in
+    rw (p.1, p.2) (free_refused H c.look.ensures x.field-0.0 x.was)
 
-pub release-next-requires : goal.release-next-requires
-release-next-requires c =
+pub frame_bytes-bytes-requires-clause-level_known : goal.frame_bytes-bytes-requires-clause-level_known
+frame_bytes-bytes-requires-clause-level_known c d = (c.look.ensures.found c.in_ok-seen.seen c.in_ok-seen.was).held.leveled
+
+pub release-requires : goal.release-requires
+release-requires c =
     record {
       table_in = c.requires.table_in;
-      held_seen = (c.look-exam.ensures.held c.if-number-ne0.false, omega (arith, c.requires.few.idle));
-    }
-
-pub frame_bytes-requires : goal.frame_bytes-requires
-frame_bytes-requires c =
-    record {
-      fit = c.board_in-board.ensures.1;
-      level_known = λ d. (c.look-exam.ensures.held c.if-number-ne0.false).leveled;
+      held_seen = ((c.look.ensures.found c.in_ok-seen.seen c.in_ok-seen.was).held, omega (arith, c.requires.few.idle));
     }
 
 pub returns : goal.returns
 returns c =
-    let y = c.release-next in
+    let y = c.release in
     let R = y.ensures.released in
     record {
       turns = λ m q s H.
-          rw (c.done.ensures, c.frame_bytes.ensures, c.raw.ensures, c.board_in-board.ensures.0, R.queued, R.pass)
-          (free_made H c.look-exam.ensures c.if-number-ne0.false y.new.records y.auto.records
-          (bytes_small y.new.records c.slice_known-4-1.given)
-          (rows_in y.new.words) y.result R.turned R.counters);
+          rw (c.frame_bytes-bytes.ensures, c.raw.ensures, c.board_in.ensures.0, R.queued, R.pass)
+          (free_made H c.look.ensures c.in_ok-seen.seen c.in_ok-seen.was y.new.records y.auto.records
+          (bytes_small y.new.records c.type_inv.records)
+          (rows_in y.new.words) y.new.counters R.turned R.counters);
       beside = y.ensures.beside;
     }

@@ -1,29 +1,26 @@
 -- Split, by what `look` found: the refusal of the frame, or the table that `split_frame` leaves.
+use Rattle.std.proofs.lemmas.Result.{err_from_is_err_and}
 use Rattle.exam.proofs.Making.{bytes_small}
 use Rattle.frames.proofs.Promised.{split_made, split_refused}
 use Rattle.frames.proofs.split.Goals as goal
 
-pub returns-then-number-ne0 : goal.returns-then-number-ne0
-returns-then-number-ne0 c k m q s H = rw c.refused.ensures (split_refused H c.look-exam.ensures c.if-number-ne0.true)
+pub returns-in_err-held : goal.returns-in_err-held
+returns-in_err-held c k m q s H =
+    let p = err_from_is_err_and c.from_residual.result c.from_residual.ensures.1 in
+    let x = c.in_err-held in
+    rw (p.1, p.2) (split_refused H c.look.ensures x.field-0.0 x.was)
 
-pub split_frame-requires : goal.split_frame-requires
-split_frame-requires c =
-    let h = c.look-exam.ensures.held c.if-number-ne0.false in
-    record {
-      long = c.requires;
-      held_in = (h.inside, h.held);
-    }
+pub split_frame-requires-clause-held_in : goal.split_frame-requires-clause-held_in
+split_frame-requires-clause-held_in c =
+    let h = (c.look.ensures.found c.in_ok-held.held c.in_ok-held.was).held in
+    (h.inside, h.held)
 
-pub frame_bytes-requires : goal.frame_bytes-requires
-frame_bytes-requires c =
-    record {
-      fit = c.board_in-board.ensures.1;
-      level_known = λ d. (c.look-exam.ensures.held c.if-number-ne0.false).leveled;
-    }
+pub frame_bytes-requires-clause-level_known : goal.frame_bytes-requires-clause-level_known
+frame_bytes-requires-clause-level_known c d = (c.look.ensures.found c.in_ok-held.held c.in_ok-held.was).held.leveled
 
 pub returns : goal.returns
 returns c k m q s H =
     let y = c.split_frame in
-    rw (c.done.ensures, c.frame_bytes.ensures, c.raw.ensures, c.board_in-board.ensures.0)
-    (split_made H c.look-exam.ensures c.if-number-ne0.false y.new.records y.auto.records
-    (bytes_small y.new.records c.slice_known-2-1.given) y.ensures)
+    rw (c.frame_bytes.ensures, c.raw.ensures, c.board_in.ensures.0)
+    (split_made H c.look.ensures c.in_ok-held.held c.in_ok-held.was y.new.records y.auto.records
+    (bytes_small y.new.records c.type_inv.records) y.ensures)
