@@ -2,78 +2,64 @@
 // definition's `step` (exam/specs/Making.antt).
 #![tactic(auto)]
 
-ghost use Rattle.std.specs.Prelude.{◌≡◌, ◌≤◌};
+ghost use Rattle.std.specs.Prelude.{Ok, ◌≡◌, ◌+◌, ◌≤◌, length};
 ghost use Rattle.definition.specs.Calls.{Lend, Back, Low};
 ghost use Rattle.exam.specs.Making.{Few, Counts, Weighs};
 ghost use Rattle.counts.specs.Counting.{outstanding, Reports};
 
-use definition::Counters;
-use exam::{Answer, Outcome};
+use definition::{Counters, Refusal};
+use exam::{Answer, Reply};
 
 // ---- the pager's loan
 
 // track_frame_pager, tracker.rs 216.
-pub fn lend(counters: Counters, count: usize) -> Outcome
-    ensures { Counts (Lend count) counters result.counters result.answer }
+pub fn lend(counters: &mut Counters, count: usize) -> Reply
+    ensures { Counts (Lend count) counters.old counters.new (Ok result) }
 {
-    counted(tracker::track_frame_pager(counters, count))
+    *counters = tracker::track_frame_pager(*counters, count);
+    counted(*counters)
 }
 
 // untrack_frame_pager, tracker.rs 220.
-pub fn back(counters: Counters, count: usize) -> Outcome
-    ensures { Counts (Back count) counters result.counters result.answer }
+pub fn back(counters: &mut Counters, count: usize) -> Answer
+    ensures { Counts (Back count) counters.old counters.new result }
 {
     if counters.pager_outstanding < count {
-        return Outcome {
-            counters,
-            answer: exam::refused(definition::PAGER_LOW),
-        };
+        return Err(Refusal::PagerLow);
     }
-    counted(tracker::untrack_frame_pager(counters, count))
+    *counters = tracker::untrack_frame_pager(*counters, count);
+    Ok(counted(*counters))
 }
 
-// Other counters, and what is outstanding by them.
-fn counted(counters: Counters) -> Outcome
+// What is outstanding by the counters.
+fn counted(counters: Counters) -> Reply
     ensures { result ≡ outstanding counters }
 {
-    Outcome {
-        counters,
-        answer: exam::done(0, counters.pager_outstanding as u64),
+    Reply {
+        address: 0,
+        bytes: counters.pager_outstanding as u64,
     }
 }
 
 // ---- low memory, statistics
 
 // should_reclaim, tracker.rs 180: 1 where memory is low.
-pub fn low(counters: Counters, words: &[u64]) -> Answer
-    ensures { Weighs Low counters words.now result }
+pub fn low(counters: Counters, words: &[u64]) -> Reply
+    ensures { Weighs Low counters words.now (Ok result) }
 {
     let board = words::board_in(words);
-    if tracker::should_reclaim(board, counters) {
-        return exam::done(0, 1);
+    Reply {
+        address: 0,
+        bytes: tracker::should_reclaim(board, counters) as u64,
     }
-    exam::done(0, 0)
 }
 
-// The statistics as text, or the refusal's number and no text: the first `len` bytes of `text` are it.
-#[derive(Clone, Copy)]
-pub struct Report {
-    pub number: u32,
-    pub len: usize,
-    pub text: [u8; 368],
-}
-
-// print_tracker_stats, tracker.rs 235.
-pub fn stats(counters: Counters) -> Report
-    requires { Few counters }
-    ensures reports { Reports counters result }
-    ensures len_bound { result.len ≤ 368 }
+// print_tracker_stats, tracker.rs 235: the statistics as text, from `at` on, and the place behind them.
+pub fn stats(counters: Counters, text: &mut [u8], at: usize) -> usize
+    requires few { Few counters }
+    requires room { at + 368 ≤ length text.old }
+    ensures reports { Reports counters text.old at text.new result }
+    ensures upper_bound { result ≤ at + 368 }
 {
-    let mut text = [0u8; 368];
-    let len = tracker::print_tracker_stats(&mut text, 0, counters);
-    Report {
-        number: 0,
-        len,
-        text,
-    }
+    tracker::print_tracker_stats(text, at, counters)
 }
