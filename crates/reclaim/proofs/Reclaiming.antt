@@ -84,7 +84,7 @@ unfolding first_met
 one_fails false b h l f r d = refl
 one_fails true false h l f r d = refl
 one_fails true true false l f r d = refl
-one_fails true true true l f r d = absurd (let n : ◌≡◌ {A = ℕ} 0 1 = cc (ap (λ (t : Bool). of_tests true true true t) f) in omega arith)
+one_fails true true true l f r d = absurd (let n : ◌≡◌ {A = ℕ} 0 1 = cc in omega arith)
 
 module _ (board : Board) where
   module _ (s : Store) (a : ℕ) where

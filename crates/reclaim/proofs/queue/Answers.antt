@@ -1,4 +1,5 @@
 -- The refusal of the frame, a full queue, or the address in its place.
+use mathlib.Core.Path.{refl}
 use native.Mathlib.Omega.{arith}
 use Rattle.std.proofs.lemmas.Result.{err_from_is_err_and}
 use Rattle.words.proofs.Words.{beside_same}

@@ -13,7 +13,7 @@ abbrev pub invariant-loop : goal.invariant-loop
 invariant-loop l = Going (board_in l.initial.words) (record_at l.initial.records) (state_with l.initial.counters l.initial.words) l.queue l.limit (record_at l.records) (pages_in l.records)
     (state_with l.counters l.words)
     l.freed
-    l.i
+    l.counter
     × (length l.records ≡ length l.initial.records)
     × (length l.words ≡ length l.initial.words)
     × Beside l.initial.words l.words

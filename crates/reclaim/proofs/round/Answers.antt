@@ -16,7 +16,7 @@ use Rattle.exam.proofs.Making.{bytes_small}
 use Rattle.reclaim.specs.Rounds.{Reclaims}
 use Rattle.reclaim.proofs.Rounding.{round_ends, round_few, round_goes_on, round_rests}
 use Rattle.reclaim.proofs.round.Goals as goal
-use Rattle.reclaim.proofs.round.Goals.{After-pass_in-before, After-reclaim_up_to-r, After-should_reclaim}
+use Rattle.reclaim.proofs.round.Goals.{After-pass_in-before, After-reclaim_up_to-freed, After-should_reclaim}
 
 -- ---- what is known at the places on the way
 
@@ -24,7 +24,7 @@ use Rattle.reclaim.proofs.round.Goals.{After-pass_in-before, After-reclaim_up_to
 weighed
     : (r : After-should_reclaim)
     → let a = r.args in
-    r.should_reclaim.result ≡ should_reclaim (board_in a.words.now) a.counters
+    r.should_reclaim.result ≡ should_reclaim (board_in a.words.now) a.counters.now
 weighed r = rw (← r.board_in-board.ensures.0) r.should_reclaim.ensures
 
 -- a fit board has at most 5,000 rounds in a pass, of at most 1,000 frees
@@ -45,19 +45,19 @@ few_freed p =
 
 -- the frees of the round, as many as the board of the words allows
 frees_here
-    : (x : After-reclaim_up_to-r)
+    : (x : After-reclaim_up_to-freed)
     → let a = x.args in
-    let y = x.reclaim_up_to-r in
+    let y = x.reclaim_up_to-freed in
     let b = board_in a.words.now in
-    Reclaims b (record_at a.records.now) (state_with a.counters a.words.now) a.queue.now b.per_round
+    Reclaims b (record_at a.records.now) (state_with a.counters.now a.words.now) a.queue.now b.per_round
     (record_at y.new.records)
     (pages_in y.new.records)
-    (record { state = state_with y.result.counters y.new.words; freed = y.result.freed })
-frees_here x = rw x.board_in-board.ensures.0 at x.reclaim_up_to-r.ensures.reclaims
+    (record { state = state_with y.new.counters y.new.words; freed = y.result })
+frees_here x = rw x.board_in-board.ensures.0 at x.reclaim_up_to-freed.ensures.reclaims
 
 -- the words are as many as they were
-words_here : (x : After-reclaim_up_to-r) → Long x.reclaim_up_to-r.new.words
-words_here x = omega (arith, x.requires.table_in.0, x.reclaim_up_to-r.auto.words)
+words_here : (x : After-reclaim_up_to-freed) → Long x.reclaim_up_to-freed.new.words
+words_here x = omega (arith, x.requires.table_in.0, x.reclaim_up_to-freed.auto.words)
 
 pub should_reclaim-requires : goal.should_reclaim-requires
 should_reclaim-requires c = c.board_in-board.ensures.1
@@ -68,15 +68,16 @@ returns-then-not-should_reclaim c =
     let a = c.args in
     record {
       rounds = λ m s H.
-          round_rests (state_with a.counters a.words.now) a.records.now m a.queue.now H
+          round_rests (state_with a.counters.now a.words.now) a.records.now m a.queue.now H
           (sym (weighed (goal.at.returns-then-not-should_reclaim c).After-should_reclaim) ∙ c.if-not-should_reclaim.true)
-          (record { state = state_with y.result.counters y.new.words; answer = y.result.answer })
+          (state_with y.new.counters y.new.words)
+          y.result
           (rw c.pass_in-before.ensures at y.ensures.ends_pass);
       beside = y.ensures.beside;
     }
 
-pub reclaim_up_to-r-requires : goal.reclaim_up_to-r-requires
-reclaim_up_to-r-requires c =
+pub reclaim_up_to-freed-requires : goal.reclaim_up_to-freed-requires
+reclaim_up_to-freed-requires c =
     record {
       table_in = c.requires.table_in;
       words_in_bounds = (c.requires.pass_in.queued, omega (arith, c.requires.few.idle), c.board_in-board.ensures.1.frees_most);
@@ -87,59 +88,60 @@ overflow_add-pass c = omega (arith, few_rounds (goal.at.overflow_add-pass c).Aft
 
 pub overflow_add-pass-2 : goal.overflow_add-pass-2
 overflow_add-pass-2 c =
-    let y = c.reclaim_up_to-r in
+    let y = c.reclaim_up_to-freed in
     let a = c.args in
     omega (
       arith,
       few_freed (goal.at.overflow_add-pass-2 c).After-pass_in-before,
       round_few a.records.now y.new.records y.auto.records (board_in a.words.now).per_round c.requires.table_in.1
           c.requires.pass_in.queued
-          (frees_here (goal.at.overflow_add-pass-2 c).After-reclaim_up_to-r),
+          (frees_here (goal.at.overflow_add-pass-2 c).After-reclaim_up_to-freed),
     )
 
 pub end_pass-requires-then-board-before : goal.end_pass-requires-then-board-before
-end_pass-requires-then-board-before c = words_here (goal.at.end_pass-requires-then-board-before c).After-reclaim_up_to-r
+end_pass-requires-then-board-before c = words_here (goal.at.end_pass-requires-then-board-before c).After-reclaim_up_to-freed
 
 pub returns-then-board-before : goal.returns-then-board-before
 returns-then-board-before c =
     let y = c.end_pass-then-board-before in
-    let x = c.reclaim_up_to-r in
+    let x = c.reclaim_up_to-freed in
     let a = c.args in
     record {
       rounds = λ m s H.
-          round_ends (state_with a.counters a.words.now) a.records.now m a.queue.now H x.new.records x.auto.records
+          round_ends (state_with a.counters.now a.words.now) a.records.now m a.queue.now H x.new.records x.auto.records
           (bytes_small x.new.records c.slice_known-4-1.given)
           (sym (weighed (goal.at.returns-then-board-before c).After-should_reclaim) ∙ c.if-not-should_reclaim.false)
-          (record { state = state_with x.result.counters x.new.words; freed = x.result.freed })
-          (frees_here (goal.at.returns-then-board-before c).After-reclaim_up_to-r)
+          (record { state = state_with x.new.counters x.new.words; freed = x.result })
+          (frees_here (goal.at.returns-then-board-before c).After-reclaim_up_to-freed)
           (omega (
             arith,
             ap (λ (b : Board). b.max_rounds) c.board_in-board.ensures.0,
             c.if-board-before.true,
             ap (λ (b : Pass). b.rounds) c.pass_in-before.ensures,
           ))
-          (record { state = state_with y.result.counters y.new.words; answer = y.result.answer })
+          (state_with y.new.counters y.new.words)
+          y.result
           (rw c.pass_in-before.ensures at y.ensures.ends_pass);
       beside = beside_then x.ensures.beside y.ensures.beside;
     }
 
 pub put_pass-requires : goal.put_pass-requires
-put_pass-requires c = words_here (goal.at.put_pass-requires c).After-reclaim_up_to-r
+put_pass-requires c = words_here (goal.at.put_pass-requires c).After-reclaim_up_to-freed
 
 pub returns : goal.returns
 returns c =
     let P = c.put_pass.ensures in
-    let x = c.reclaim_up_to-r in
+    let x = c.reclaim_up_to-freed in
     let a = c.args in
     record {
       rounds = λ m s H.
-          rw (c.done.ensures, P.rows, P.queued, P.pass, c.pass_in-before.ensures)
-          (round_goes_on (state_with a.counters a.words.now) a.records.now m a.queue.now H x.new.records
+          rw (c.reported.ensures, P.rows, P.queued, P.pass, c.pass_in-before.ensures)
+          (round_goes_on (state_with a.counters.now a.words.now) a.records.now m a.queue.now H x.new.records
           x.auto.records
           (bytes_small x.new.records c.slice_known-4-1.given)
           (sym (weighed (goal.at.returns c).After-should_reclaim) ∙ c.if-not-should_reclaim.false)
-          (record { state = state_with x.result.counters x.new.words; freed = x.result.freed })
-          (frees_here (goal.at.returns c).After-reclaim_up_to-r)
+          (record { state = state_with x.new.counters x.new.words; freed = x.result })
+          (frees_here (goal.at.returns c).After-reclaim_up_to-freed)
           (omega (
             arith,
             ap (λ (b : Board). b.max_rounds) c.board_in-board.ensures.0,
