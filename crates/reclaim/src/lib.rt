@@ -30,9 +30,9 @@ pub fn queue(words: &mut [u64], records: &[u8], queue: &mut [u64], pa: PhysAddr)
     if queue.len() <= last {
         return Err(Refusal::QueueFull);
     }
+    let board = words::board_in(words);
     queue[last] = pa.raw();
     words::put_queued(words, last + 1);
-    let board = words::board_in(words);
     Ok(Reply {
         address: pa.raw(),
         bytes: exam::frame_bytes(board, seen),
