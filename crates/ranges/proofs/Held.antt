@@ -1,11 +1,12 @@
--- A held frame that was seen in a sane table: the frame that the store has there, by the marks and the level that were read, where its bytes lie in the lent
--- memory, and what writing some of them makes of both memories. A call on a held frame takes its bounds (`held_ends`), its bytes (`held_read`) and its new
--- memory (`held_filled`, `held_written`) from here.
+-- A held frame that was seen in a sane table: the frame that the store has there, by the marks and the level that were read, where its
+-- bytes lie in the lent memory, and what writing some of them makes of both memories. A call on a held frame takes its bounds
+-- (`held_ends`), its bytes (`held_read`) and its new memory (`held_filled`, `held_written`) from here.
 use Prim.Native.Nat.{ℕ, ◌+◌, ◌*◌, ◌/◌, ◌%◌, ◌≤◌}
 use mathlib.Core.Bool.{Bool, true, false, cond, false≢true}
 use mathlib.Core.List.{List}
 use mathlib.Core.Option.{none, some}
 use mathlib.Core.Path.{◌≡◌, refl, sym, ◌∙◌}
+use Rattle.std.specs.Prelude.{Ok}
 use native.Mathlib.Omega.{arith}
 use lib.Dec.{eqb}
 use lib.ListN.{length, take, drop, replicate}
@@ -19,7 +20,7 @@ use Rattle.definition.specs.Store.{Store}
 use Rattle.definition.specs.World.{World, frame_of, record_at}
 use Rattle.definition.specs.Torn.{regions_of}
 use Rattle.record.specs.Records.{with_bytes}
-use Rattle.words.specs.Words.{board_in}
+use Rattle.words.specs.Words.{board_in, rows_in}
 use Rattle.region.specs.Rep.{state_of}
 use Rattle.world.specs.Tables.{Sane}
 use Rattle.world.proofs.Places.{Lies, Runs, frame_runs, runs_lies}
@@ -27,11 +28,10 @@ use Rattle.world.proofs.Spans.{overlap_spans, runs_bare, spans_bare}
 use Rattle.world.proofs.Tables.{used_row}
 use Rattle.world.proofs.Writing.{Rewritten, memory_filled, memory_read, memory_written}
 use Rattle.allocator.specs.declared.Seen.{Seen}
-use Rattle.allocator.specs.Spots.{HeldIn, number_at}
+use Rattle.allocator.specs.Spots.{number_at}
 use Rattle.allocator.proofs.Turning.{stands_at}
-use Rattle.exam.specs.declared.Exam.{Exam}
 use Rattle.exam.specs.Making.{LooksIn, RoomIn, TableIn, Whole}
-use Rattle.exam.specs.Promise.{LevelKnown, HeldSeen, bytes_if}
+use Rattle.exam.specs.Promise.{HeldSeen, bytes_if}
 
 -- ---- the frame
 
@@ -45,7 +45,9 @@ held_record : (x : Record) → is_allocated (frame_of x) ≡ true → (frame_of 
 unfolding frame_of
 held_record x h = go (eqb (x.marks % 2) 1) (eqb (x.marks / 2 % 2) 1) h
   where
-    go : (a b : Bool) → is_allocated (cond a (some (of_marks x b)) none) ≡ true → (cond a (some (of_marks x b)) none ≡ some (of_marks x true)) × (a ≡ true)
+    go
+        : (a b : Bool) → is_allocated (cond a (some (of_marks x b)) none) ≡ true
+        → (cond a (some (of_marks x b)) none ≡ some (of_marks x true)) × (a ≡ true)
     go true true h = (refl, refl)
     go true false h = absurd (false≢true h)
     go false b h = absurd (false≢true h)
@@ -119,18 +121,14 @@ module _ {board : Board} where
 
 -- ---- a frame that was looked at, and nothing refused
 
-module _ (ws rs : List ℕ) {a off len : ℕ} {x : Exam} (T : TableIn ws rs) (L : LooksIn ws rs a off len x) (z : x.number ≡ 0) where
-  -- what the functions that change a held frame require
-  pub looked_spot : TableIn ws rs × HeldIn rs ws x.seen.spot
-  looked_spot = (T, ((L.held z).inside, (L.held z).held))
-
-  pub looked_known : LevelKnown x.seen
-  looked_known d = (L.held z).leveled
+module _ (ws rs : List ℕ) {a off len : ℕ} {r : Seen} (T : TableIn ws rs) (L : LooksIn ws rs a off len (Ok r)) where
+  pub looked_held : HeldSeen (board_in ws) (record_at rs) (rows_in ws) r
+  looked_held = (L.found r refl).held
 
   -- the range, and the whole frame, end within a memory that has room for every managed page
-  pub looked_ends : (m : List ℕ) → RoomIn ws m → (board_in ws).page * x.seen.spot.page + off + len ≤ length m
-  looked_ends m room = omega (arith, held_ends (L.held z) T.1 off len (L.range z), room)
+  pub looked_ends : (m : List ℕ) → RoomIn ws m → (board_in ws).page * r.spot.page + off + len ≤ length m
+  looked_ends m room = omega (arith, held_ends looked_held T.1 off len (L.found r refl).range, room)
 
-  pub looked_last : (m : List ℕ) → RoomIn ws m → (board_in ws).page * x.seen.spot.page + bytes_if (board_in ws) x.seen ≤ length m
+  pub looked_last : (m : List ℕ) → RoomIn ws m → (board_in ws).page * r.spot.page + bytes_if (board_in ws) r ≤ length m
   looked_last m room =
-      omega (arith, held_ends (L.held z) T.1 0 (bytes_if (board_in ws) x.seen) (omega (arith, held_size (L.held z))), room)
+      omega (arith, held_ends looked_held T.1 0 (bytes_if (board_in ws) r) (omega (arith, held_size looked_held)), room)

@@ -1,14 +1,15 @@
--- What a call on one held frame leaves where it gives the frame another ZEROED mark, rewrites bytes of it, and does no more: `marked_whole` and `marked_left` for
--- the world, `marked_made` for the call's whole promise. `written_whole` and `written_left` are the same where no mark changes. Then the promise of each call.
-use Prim.Native.Nat.{ℕ, ◌+◌, ◌*◌, ◌/◌, ◌%◌, ◌<◌}
+-- What a call on one held frame leaves where it gives the frame another ZEROED mark, rewrites bytes of it, and does no more:
+-- `marked_whole` and `marked_left` for the world, `marked_made` for the call's whole promise. `written_whole` and `written_left` are
+-- the same where no mark changes. Then the promise of each call.
+use Prim.Native.Nat.{ℕ, ◌+◌, ◌*◌, ◌/◌}
 use mathlib.Core.Bool.{Bool, true, false}
 use mathlib.Core.List.{List}
-use mathlib.Core.Path.{◌≡◌, refl, sym, ◌∙◌}
+use mathlib.Core.Path.{◌≡◌, refl, ◌∙◌}
+use Rattle.std.specs.Prelude.{Ok}
 use native.Mathlib.Omega.{arith}
-use lib.Dec.{eqb}
-use lib.ListN.{length, get_or, replicate}
+use lib.ListN.{length, replicate}
 use Rattle.definition.specs.Board.{Board}
-use Rattle.definition.specs.Contents.{filled, fill_frame, frame_bytes, set_not_zero, write_frame, written, zero_frame}
+use Rattle.definition.specs.Contents.{filled, fill_frame, set_not_zero, write_frame, written, zero_frame}
 use Rattle.definition.specs.Frame.{with_zeroed}
 use Rattle.definition.specs.Store.{Memory, Store, mark, with_memory}
 use Rattle.definition.specs.Calls.{Call, Dirty, Fill, Write, Zero, done, perform, step}
@@ -19,22 +20,21 @@ use Rattle.world.specs.Tables.{Turned}
 use Rattle.world.proofs.Refusing.{one_frame}
 use Rattle.world.proofs.Writing.{Rewritten}
 use Rattle.allocator.specs.declared.Seen.{Seen}
-use Rattle.allocator.specs.Spots.{TurnsBy, mark_at, number_at}
-use Rattle.exam.specs.declared.Exam.{Exam}
+use Rattle.allocator.specs.Spots.{number_at}
 use Rattle.exam.specs.Making.{Made, Whole}
-use Rattle.exam.specs.Promise.{HeldSeen, Looks, bytes_if}
+use Rattle.exam.specs.Promise.{HeldSeen, Looks, bytes_if, reply}
 use Rattle.exam.proofs.Making.{
   left_whole,
   left_written,
   looked_bytes,
+  looked_free,
   looked_number,
-  looked_refusal,
   made_done,
   table_as_long,
   unturned,
   unwritten,
 }
-use Rattle.exam.proofs.Promises.{done_by}
+use Rattle.ranges.specs.Marking.{Remarked}
 use Rattle.ranges.proofs.Held.{held_filled, held_in, held_size, held_written}
 
 -- ---- the marks
@@ -44,24 +44,16 @@ abbrev pub relent : World → (records memory : List ℕ) → World
 relent w records memory =
     record { rows = w.rows; counters = w.counters; queued = w.queued; pass = w.pass; records = records; memory = memory; queue = w.queue }
 
-module _ (board : Board) where
-  -- the records became such as set_marks leaves of the frame that was seen
-  pub record Remarked (w : World) (r : Seen) (zeroed kernel : Bool) (records : List ℕ) : Type 0 where
-    pub own : kernel ≡ eqb (r.marks / 8 % 2) 1
-    pub turns
-        : TurnsBy board (mark_at zeroed kernel (number_at board w.rows r.spot)) (record_at w.records) w.rows (record_at records) (pages_in records)
-        w.rows
-    pub as_long : length records ≡ length w.records
-    pub after : (i : ℕ) → get_or records i 0 < 256
-
 module _ {board : Board} {w : World} {s : Store} (W : Whole board w s) where
   module _
       {r : Seen} {p : ℕ} (H : HeldSeen board (record_at w.records) w.rows r) (N : number_at board w.rows r.spot ≡ p)
-      {zeroed kernel : Bool} {records : List ℕ} (M : Remarked board w r zeroed kernel records)
+      {zeroed : Bool} {records : List ℕ} (M : Remarked board w.rows w.records r zeroed records)
     where
       -- with the KERNEL mark that the frame has, other marks are another ZEROED mark
-      turned : Turned board (record_at w.records) w.rows (record_at records) (pages_in records) w.rows (mark (with_zeroed zeroed) s p).allocator
-      turned = rw (held_in W H N) (rw (N, M.own, held_in W H N) at (M.turns s.allocator (table_as_long W records M.as_long)))
+      turned
+          : Turned board (record_at w.records) w.rows (record_at records) (pages_in records) w.rows
+          (mark (with_zeroed zeroed) s p).allocator
+      turned = rw (held_in W H N) (rw (N, held_in W H N) at (M.turns s.allocator (table_as_long W records M.as_long)))
 
       module _ (m : Memory) (memory : List ℕ) (R : Rewritten board s.allocator.regions w.memory m memory) where
         abbrev left : Store
@@ -70,12 +62,12 @@ module _ {board : Board} {w : World} {s : Store} (W : Whole board w s) where
         pub marked_whole : Whole board (relent w records memory) left
         marked_whole =
             let S = W.stands in
-            left_whole W left (relent w records memory) turned M.as_long M.after R S.counters S.pass S.queue S.queued refl refl
+            left_whole W left (relent w records memory) turned M.as_long M.bytes R S.counters S.pass S.queue S.queued refl refl
 
         pub marked_left : encode board left w ≡ relent w records memory
         marked_left =
             let S = W.stands in
-            left_written W left (relent w records memory) turned M.as_long M.after R S.counters S.pass S.queue S.queued refl refl refl
+            left_written W left (relent w records memory) turned M.as_long M.bytes R S.counters S.pass S.queue S.queued refl refl refl
 
   -- where bytes are rewritten and every mark stays, as in a copy of zeros into part of a frame
   module _ (m : Memory) (memory : List ℕ) (R : Rewritten board s.allocator.regions w.memory m memory) where
@@ -87,67 +79,86 @@ module _ {board : Board} {w : World} {s : Store} (W : Whole board w s) where
     pub written_left : encode board (with_memory s m) w ≡ relent w w.records memory
     written_left =
         let S = W.stands in
-        left_written W (with_memory s m) (relent w w.records memory) (unturned W) refl W.bytes R S.counters S.pass S.queue S.queued refl refl
-        refl
+        left_written W (with_memory s m) (relent w w.records memory) (unturned W) refl W.bytes R S.counters S.pass S.queue S.queued
+        refl refl refl
 
 -- ---- a call on one held frame
 
-module _ {board : Board} {w : World} {s : Store} (W : Whole board w s) where
-  abbrev LooksAt : (a off len : ℕ) → Exam → Type 0
-  LooksAt a off len x = Looks board (record_at w.records) (pages_in w.records) w.rows a off len x
+module _ {board : Board} {w : World} {s : Store} (W : Whole board w s) {a off len : ℕ} {r : Seen}
+    (L : Looks board (record_at w.records) (pages_in w.records) w.rows a off len (Ok r))
+  where
+    abbrev p : ℕ
+    p = a / board.page
 
-  pub marked_made
-      : {a off len : ℕ} {x : Exam} (L : LooksAt a off len x) → x.number ≡ 0 → {zeroed kernel : Bool} {records : List ℕ}
-      → Remarked board w x.seen zeroed kernel records → (m : Memory) (memory : List ℕ) → Rewritten board s.allocator.regions w.memory m memory
-      → (c : Call) (n : ℕ) → refusal_of board s c ≡ frame_refusal board s (range_of a off len)
-      → perform board s c ≡ done (mark (with_zeroed zeroed) (with_memory s m) (a / board.page)) a n
-      → Made board (step board s c) w (relent w records memory) (done_by a n)
-  marked_made {a} L z {zeroed} {records = records} M m memory R c n same does =
-      made_done W c (done (mark (with_zeroed zeroed) (with_memory s m) (a / board.page)) a n) (relent w records memory) (same ∙ looked_refusal W L ∙ z) does
-      (marked_whole W (L.held z) (looked_number W L z) M m memory R)
-      (marked_left W (L.held z) (looked_number W L z) M m memory R)
+    -- where the range stands in the loan
+    abbrev at : ℕ
+    at = board.page * r.spot.page + off
 
-  -- ---- the calls
+    -- the records hold the frame with this ZEROED mark
+    abbrev MarkedBy : Bool → List ℕ → Type 0
+    MarkedBy zeroed records = Remarked board w.rows w.records r zeroed records
 
-  -- frame.rs 443, set_not_zero
-  pub dirty_made
-      : {a : ℕ} {x : Exam} (L : LooksAt a 0 0 x) → x.number ≡ 0 → {kernel : Bool} {records : List ℕ} → Remarked board w x.seen false kernel records
-      → (n : ℕ) → n ≡ bytes_if board x.seen → Made board (step board s (Dirty a)) w (relent w records w.memory) (done_by a n)
-  unfolding perform set_not_zero
-  dirty_made {a} L z M n k =
-      let bytes : n ≡ frame_bytes board s (a / board.page) = k ∙ sym (looked_bytes W L z) in
-      marked_made L z M s.memory w.memory (unwritten W) (Dirty a) n (one_frame board s a 0 0) (rw bytes refl)
+    -- the call is done, and leaves these records and bytes
+    abbrev MadeOf : Call → (records memory : List ℕ) → ℕ → Type 0
+    MadeOf c records memory n = Made board (step board s c) w (relent w records memory) (Ok (reply a n))
 
-  -- frame.rs 430, zero
-  pub zero_made
-      : {a : ℕ} {x : Exam} (L : LooksAt a 0 0 x) → x.number ≡ 0 → {kernel : Bool} {records : List ℕ} → Remarked board w x.seen true kernel records
-      → (n : ℕ) → n ≡ bytes_if board x.seen → {memory : List ℕ} → memory ≡ with_bytes w.memory (board.page * x.seen.spot.page + 0) (replicate n 0)
-      → Made board (step board s (Zero a)) w (relent w records memory) (done_by a n)
-  unfolding perform zero_frame
-  zero_made {a} L z M n k {memory} e =
-      let bytes : n ≡ frame_bytes board s (a / board.page) = k ∙ sym (looked_bytes W L z) in
-      let p : board.page * (a / board.page) + 0 ≡ board.page * (a / board.page) = omega arith in
-      let R = rw p at (held_filled W (L.held z) (looked_number W L z) 0 n (omega (arith, held_size (L.held z))) 0) in
-      marked_made L z M (filled (board.page * (a / board.page)) n 0 s.memory) memory (rw e R) (Zero a) n (one_frame board s a 0 0) (rw bytes refl)
+    marked_made
+        : {zeroed : Bool} {records : List ℕ} → MarkedBy zeroed records
+        → (m : Memory) (memory : List ℕ) → Rewritten board s.allocator.regions w.memory m memory
+        → (c : Call) (n : ℕ) → refusal_of board s c ≡ frame_refusal board s (range_of a off len)
+        → perform board s c ≡ done (mark (with_zeroed zeroed) (with_memory s m) p) a n
+        → MadeOf c records memory n
+    marked_made {zeroed} {records} M m memory R c n same does =
+        let H = (L.found r refl).held in
+        let N = looked_number W L r refl in
+        let o = done (mark (with_zeroed zeroed) (with_memory s m) p) a n in
+        made_done W c o (relent w records memory) (same ∙ looked_free W L r refl) does
+        (marked_whole W H N M m memory R)
+        (marked_left W H N M m memory R)
 
-  -- 01: "Added `write` and `fill` clear the mark"
-  pub fill_made
-      : {a off len : ℕ} {x : Exam} (L : LooksAt a off len x) → x.number ≡ 0 → {kernel : Bool} {records : List ℕ}
-      → Remarked board w x.seen false kernel records → (byte : ℕ) {memory : List ℕ}
-      → memory ≡ with_bytes w.memory (board.page * x.seen.spot.page + off) (replicate len byte)
-      → Made board (step board s (Fill a off len byte)) w (relent w records memory) (done_by a len)
-  unfolding perform fill_frame set_not_zero
-  fill_made {a} {off} {len} L z M byte {memory} e =
-      marked_made L z M (filled (board.page * (a / board.page) + off) len byte s.memory) memory
-      (rw e (held_filled W (L.held z) (looked_number W L z) off len (L.range z) byte)) (Fill a off len byte) len (one_frame board s a off len) refl
+    -- 01: "Added `write` and `fill` clear the mark"
+    pub fill_made
+        : {records : List ℕ} → MarkedBy false records → (byte : ℕ)
+        → MadeOf (Fill a off len byte) records (with_bytes w.memory at (replicate len byte)) len
+    unfolding perform fill_frame set_not_zero
+    fill_made M byte =
+        let F = L.found r refl in
+        marked_made M (filled (board.page * p + off) len byte s.memory) (with_bytes w.memory at (replicate len byte))
+        (held_filled W F.held (looked_number W L r refl) off len F.range byte) (Fill a off len byte) len
+        (one_frame board s a off len) refl
 
-  pub write_made
-      : {a off len : ℕ} {x : Exam} (L : LooksAt a off len x) → x.number ≡ 0 → {kernel : Bool} {records : List ℕ}
-      → Remarked board w x.seen false kernel records → (bytes : List ℕ) {memory : List ℕ} → length bytes ≡ len
-      → memory ≡ with_bytes w.memory (board.page * x.seen.spot.page + off) bytes
-      → Made board (step board s (Write a off bytes)) w (relent w records memory) (done_by a len)
-  unfolding perform write_frame set_not_zero
-  write_made {a} {off} {len} L z M bytes {memory} l e =
-      marked_made L z M (written (board.page * (a / board.page) + off) bytes s.memory) memory
-      (rw e (held_written W (L.held z) (looked_number W L z) off len (L.range z) bytes l)) (Write a off bytes) len
-      (rw l (one_frame board s a off len)) (rw l refl)
+    pub write_made
+        : {records : List ℕ} → MarkedBy false records → (bytes : List ℕ) → length bytes ≡ len
+        → MadeOf (Write a off bytes) records (with_bytes w.memory at bytes) len
+    unfolding perform write_frame set_not_zero
+    write_made M bytes l =
+        let F = L.found r refl in
+        marked_made M (written (board.page * p + off) bytes s.memory) (with_bytes w.memory at bytes)
+        (held_written W F.held (looked_number W L r refl) off len F.range bytes l) (Write a off bytes) len
+        (rw l (one_frame board s a off len)) (rw l refl)
+
+-- of the whole frame
+module _ {board : Board} {w : World} {s : Store} (W : Whole board w s) {a : ℕ} {r : Seen}
+    (L : Looks board (record_at w.records) (pages_in w.records) w.rows a 0 0 (Ok r))
+  where
+    -- frame.rs 443, set_not_zero
+    pub dirty_made : {records : List ℕ} → MarkedBy W L false records → MadeOf W L (Dirty a) records w.memory (bytes_if board r)
+    unfolding perform set_not_zero
+    dirty_made M =
+        let bytes = looked_bytes W L r refl in
+        marked_made W L M s.memory w.memory (unwritten W) (Dirty a) (bytes_if board r) (one_frame board s a 0 0) (rw bytes refl)
+
+    -- frame.rs 430, zero
+    pub zero_made
+        : {records : List ℕ} → MarkedBy W L true records
+        → MadeOf W L (Zero a) records (with_bytes w.memory (at W L) (replicate (bytes_if board r) 0)) (bytes_if board r)
+    unfolding perform zero_frame
+    zero_made M =
+        let H = (L.found r refl).held in
+        let n = bytes_if board r in
+        let q = a / board.page in
+        let start : board.page * q + 0 ≡ board.page * q = omega arith in
+        let R = rw start at (held_filled W H (looked_number W L r refl) 0 n (omega (arith, held_size H)) 0) in
+        let bytes = looked_bytes W L r refl in
+        marked_made W L M (filled (board.page * q) n 0 s.memory) (with_bytes w.memory (at W L) (replicate n 0)) R (Zero a) n
+        (one_frame board s a 0 0) (rw bytes refl)

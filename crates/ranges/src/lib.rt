@@ -3,14 +3,37 @@
 #![tactic(auto)]
 
 ghost use Rattle.definition.specs.Calls.{Zero, Dirty, Fill, Write};
+ghost use Rattle.definition.specs.World.{record_at};
+ghost use Rattle.words.specs.Words.{board_in, rows_in};
 ghost use Rattle.exam.specs.Making.{TableIn, RoomIn, Marks, Writes};
+ghost use Rattle.exam.specs.Promise.{HeldSeen};
+ghost use Rattle.ranges.specs.Marking.{RemarkedIn};
 
 use address::PhysAddr;
-use exam::Answer;
+use allocator::Seen;
+use exam::{Answer, Reply};
+
+// ---- the mark
+
+// The held frame that was seen is zeroed from now on, or is not; its KERNEL mark stays.
+pub fn mark(words: &[u64], records: &mut [u8], seen: Seen, zeroed: bool)
+    requires table_in { TableIn words.now records.old }
+    requires held_seen { HeldSeen (board_in words.now) (record_at records.old) (rows_in words.now) seen }
+    ensures { RemarkedIn words.now records.old seen zeroed records.new }
+{
+    allocator::set_marks(
+        words,
+        records,
+        seen.spot,
+        zeroed,
+        record::is_kernel(seen.marks),
+    );
+}
 
 // ---- contents
 
 // Frame::zero, frame.rs 430.
+#[tactic(auto, using(crate::proofs::Held::looked_held, crate::proofs::Held::looked_ends, crate::proofs::Held::looked_last))]
 pub fn zero(words: &[u64], records: &mut [u8], memory: &mut [u8], pa: PhysAddr) -> Answer
     requires table_in { TableIn words.now records.old }
     requires room_in { RoomIn words.now memory.old }
@@ -18,45 +41,34 @@ pub fn zero(words: &[u64], records: &mut [u8], memory: &mut [u8], pa: PhysAddr) 
         records.old memory.old
         records.new memory.new result }
 {
-    let exam = exam::look(words, records, pa, 0, 0);
-    let number = exam.number;
-    if number != 0 {
-        return exam::refused(number);
-    }
-    let seen = exam.seen;
-    let spot = seen.spot;
-    let board = words::board_in(words);
-    let bytes = exam::frame_bytes(board, seen);
-    let at = exam::place(words, spot.page, 0);
+    let frame = exam::look(words, records, pa, 0, 0)?;
+    let bytes = exam::frame_bytes(words::board_in(words), frame);
+    let at = exam::place(words, frame.spot.page, 0);
     contents::fill(memory, at, bytes as usize, 0);
-    allocator::set_marks(words, records, spot, true, record::is_kernel(seen.marks));
-    exam::done(pa.raw(), bytes)
+    mark(words, records, frame, true);
+    Ok(Reply {
+        address: pa.raw(),
+        bytes,
+    })
 }
 
 // Frame::set_not_zero, frame.rs 443.
+#[tactic(auto, using(crate::proofs::Held::looked_held))]
 pub fn dirty(words: &[u64], records: &mut [u8], pa: PhysAddr) -> Answer
     requires { TableIn words.now records.old }
     ensures { Marks (Dirty pa.0) words.now records.old records.new result }
 {
-    let exam = exam::look(words, records, pa, 0, 0);
-    let number = exam.number;
-    if number != 0 {
-        return exam::refused(number);
-    }
-    let seen = exam.seen;
-    let board = words::board_in(words);
-    let bytes = exam::frame_bytes(board, seen);
-    allocator::set_marks(
-        words,
-        records,
-        seen.spot,
-        false,
-        record::is_kernel(seen.marks),
-    );
-    exam::done(pa.raw(), bytes)
+    let frame = exam::look(words, records, pa, 0, 0)?;
+    mark(words, records, frame, false);
+    let bytes = exam::frame_bytes(words::board_in(words), frame);
+    Ok(Reply {
+        address: pa.raw(),
+        bytes,
+    })
 }
 
 // 01: `len` bytes of a frame, from `offset` on, become `byte`.
+#[tactic(auto, using(crate::proofs::Held::looked_held, crate::proofs::Held::looked_ends))]
 pub fn fill(
     words: &[u64],
     records: &mut [u8],
@@ -72,20 +84,18 @@ pub fn fill(
         records.old memory.old
         records.new memory.new result }
 {
-    let exam = exam::look(words, records, pa, offset, len);
-    let number = exam.number;
-    if number != 0 {
-        return exam::refused(number);
-    }
-    let seen = exam.seen;
-    let spot = seen.spot;
-    let at = exam::place(words, spot.page, offset);
+    let seen = exam::look(words, records, pa, offset, len)?;
+    let at = exam::place(words, seen.spot.page, offset);
     contents::fill(memory, at, len as usize, byte);
-    allocator::set_marks(words, records, spot, false, record::is_kernel(seen.marks));
-    exam::done(pa.raw(), len)
+    mark(words, records, seen, false);
+    Ok(Reply {
+        address: pa.raw(),
+        bytes: len,
+    })
 }
 
 // 01: the bytes of a frame, from `offset` on, become `bytes`.
+#[tactic(auto, using(crate::proofs::Held::looked_held, crate::proofs::Held::looked_ends))]
 pub fn write(
     words: &[u64],
     records: &mut [u8],
@@ -101,15 +111,12 @@ pub fn write(
         records.new memory.new result }
 {
     let len = bytes.len() as u64;
-    let exam = exam::look(words, records, pa, offset, len);
-    let number = exam.number;
-    if number != 0 {
-        return exam::refused(number);
-    }
-    let seen = exam.seen;
-    let spot = seen.spot;
-    let to = exam::place(words, spot.page, offset);
+    let seen = exam::look(words, records, pa, offset, len)?;
+    let to = exam::place(words, seen.spot.page, offset);
     contents::write(memory, to, bytes);
-    allocator::set_marks(words, records, spot, false, record::is_kernel(seen.marks));
-    exam::done(pa.raw(), len)
+    mark(words, records, seen, false);
+    Ok(Reply {
+        address: pa.raw(),
+        bytes: len,
+    })
 }
