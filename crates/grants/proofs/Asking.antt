@@ -1,61 +1,65 @@
 -- The refusal of a grant, from what its tests found: 7 or 8 where no level was found, and else 9, 10 or none by whether anything is listed.
 use Prim.Native.Nat.{ℕ}
-use mathlib.Core.Bool.{Bool, true, false, not, cond}
+use mathlib.Core.Bool.{Bool, true, false, cond}
 use mathlib.Core.List.{List}
-use mathlib.Core.Option.{some}
-use mathlib.Core.Path.{◌≡◌, refl, sym, ap, ◌∙◌}
+use mathlib.Core.Option.{Option, some}
+use mathlib.Core.Path.{◌≡◌, refl, ◌∙◌}
+use Rattle.std.specs.Prelude.{Result, Ok, Err}
 use native.Mathlib.Omega.{arith}
 use Rattle.definition.specs.declared.Record.{Record}
 use Rattle.definition.specs.declared.Refusal.{Refusal}
-use Rattle.definition.specs.declared.Refusal.TheVariants.{BadLayout, NoLevel}
+use Rattle.definition.specs.declared.Refusal.TheVariants.{BadLayout, NoLevel, NoFrame, MustWait}
 use Rattle.definition.specs.declared.Row.{Row}
 use Rattle.definition.specs.Board.{Board}
-use Rattle.definition.specs.Refusal.{number_of}
 use Rattle.definition.specs.Calls.{Layout, bad_layout, find_level, mine, no_level}
 use Rattle.level.specs.declared.Level.{Level}
 use Rattle.level.specs.declared.FoundLevel.TheVariants.{At, Refused}
 use Rattle.level.specs.Level.{found_level, level_at, rank}
 use Rattle.level.proofs.Choice.{finds}
 use Rattle.level.proofs.Ranks.{rank_below}
-use Rattle.world.proofs.Calling.{none_met}
 use Rattle.world.proofs.Refusing.{layout_refused}
 use Rattle.allocator.specs.Spots.{ListedAll}
-use Rattle.grants.specs.declared.Asked.{Asked}
 use Rattle.grants.specs.Granting.{Wants}
-
--- the number of a refusal is not 0
-not_none : (x : Refusal) → number_of x ≡ 0 → ⊥
-not_none x e = let n = none_met (some x) e in let z : ◌≡◌ {A = ℕ} 0 1 = cc in omega arith
 
 module _ (board : Board) where
   found_refused
-      : (y : Layout) (x : Refusal) (rest : ℕ) → found_level board y ≡ Refused x → cond (bad_layout y) 7 (cond (no_level board y) 8 rest) ≡ number_of x
+      : (y : Layout) (x : Refusal) (rest : Option Refusal) → found_level board y ≡ Refused x
+      → cond (bad_layout y) (some BadLayout) (cond (no_level board y) (some NoLevel) rest) ≡ some x
   found_refused y x rest e = go (bad_layout y) (no_level board y) e
     where
       go : (t u : Bool) → cond t (Refused BadLayout) (cond u (Refused NoLevel) (At (level_at (find_level board y)))) ≡ Refused x
-          → cond t 7 (cond u 8 rest) ≡ number_of x
-      go true u e = let k : BadLayout ≡ x = cc in ap number_of k
-      go false true e = let k : NoLevel ≡ x = cc in ap number_of k
+          → cond t (some BadLayout) (cond u (some NoLevel) rest) ≡ some x
+      go true u e = let k : BadLayout ≡ x = cc in rw k refl
+      go false true e = let k : NoLevel ≡ x = cc in rw k refl
       go false false e = let z : ◌≡◌ {A = ℕ} 0 1 = cc in absurd (omega arith)
 
-module _ {board : Board} {f : ℕ → Record} {n : ℕ} {rows : List Row} {y : Layout} {r : Asked} where
-  pub wants_refused : (x : Refusal) → found_level board y ≡ Refused x → r.number ≡ number_of x → Wants board f n rows y r
-  wants_refused x found e =
-      record {
-        number = λ s T. e ∙ sym (layout_refused board s y ∙ found_refused board y x _ found);
-        level = λ z. absurd (not_none x (sym e ∙ z));
-        small = λ z. absurd (not_none x (sym e ∙ z));
-      }
+-- a refusal is no level
+no_level_in : {x : Refusal} {l : ℕ} → ◌≡◌ {A = Result ℕ Refusal} (Err x) (Ok l) → ⊥
+no_level_in e = let z : ◌≡◌ {A = ℕ} 0 1 = cc in omega arith
 
-  pub wants_found
-      : (l : Level) → found_level board y ≡ At l → r.level ≡ rank l → {b : Bool} → ListedAll board f n rows r.level b
-      → r.number ≡ cond (not b) (cond y.flags.wait_ok 10 9) 0 → Wants board f n rows y r
-  unfolding mine
-  wants_found l found e listed number =
-      let F = finds board y l found in
-      let k : r.level ≡ find_level board y = e ∙ F.number in
-      record {
-        number = λ s T. number ∙ sym (layout_refused board s y ∙ rw (F.fine, F.within, ← k, ← listed s.allocator T) refl);
-        level = λ z. k;
-        small = λ z. omega (arith, rank_below l);
-      }
+module _ {board : Board} {f : ℕ → Record} {n : ℕ} {rows : List Row} {y : Layout} where
+  pub wants_refused : (x : Refusal) → found_level board y ≡ Refused x → Wants board f n rows y (Err x)
+  wants_refused x found =
+      record { refusal = λ s T. layout_refused board s y ∙ found_refused board y x _ found; found = λ l e. absurd (no_level_in e) }
+
+  module _ (l : Level) (found : found_level board y ≡ At l) {k : ℕ} (e : k ≡ rank l) where
+    pub wants_found : ListedAll board f n rows k true → Wants board f n rows y (Ok k)
+    unfolding mine
+    wants_found listed =
+        let F = finds board y l found in
+        let d : k ≡ find_level board y = e ∙ F.number in
+        record {
+          refusal = λ s T. layout_refused board s y ∙ rw (F.fine, F.within, ← d, ← listed s.allocator T) refl;
+          found = λ j z. let same : k ≡ j = cc in rw (← same) (d, omega (arith, e, rank_below l));
+        }
+
+    pub wants_none
+        : ListedAll board f n rows k false → {x : Refusal} → x ≡ cond y.flags.wait_ok MustWait NoFrame → Wants board f n rows y (Err x)
+    unfolding mine
+    wants_none listed {x} q =
+        let F = finds board y l found in
+        let d : k ≡ find_level board y = e ∙ F.number in
+        record {
+          refusal = λ s T. layout_refused board s y ∙ rw (F.fine, F.within, ← d, ← listed s.allocator T, q) refl;
+          found = λ j z. absurd (no_level_in z);
+        }

@@ -6,7 +6,9 @@ use Prim.Native.Nat.{ℕ, ◌+◌, ◌*◌, ◌/◌, ◌%◌, ◌≤◌, ◌<◌
 use mathlib.Core.Bool.{Bool, true, false, not, cond, ◌&&◌, false≢true}
 use mathlib.Core.List.{List}
 use mathlib.Core.Option.{Option, none, some}
-use mathlib.Core.Path.{◌≡◌, refl, sym, ◌∙◌}
+use mathlib.Core.Path.{◌≡◌, refl, sym, ap, ◌∙◌}
+use Rattle.std.specs.Prelude.{Some, None}
+use Rattle.std.specs.Prelude.{Option as MayBe}
 use native.Mathlib.Omega.{arith}
 use lib.Dec.{eqb}
 use lib.ListN.{length, replicate}
@@ -39,7 +41,8 @@ use Rattle.allocator.proofs.Standing.{sane_table, standing}
 use Rattle.allocator.proofs.TwoPasses.{turned_then}
 use Rattle.allocator.proofs.Turning.{spot_good, spot_index, stands_at, table_held}
 use Rattle.exam.specs.Promise.{State, state_with}
-use Rattle.grants.specs.Granting.{Finds, GivesBy, Granted, Holds, Near, zeroed_bytes}
+use Rattle.grants.specs.declared.Granted.{Granted as GrantedFrame}
+use Rattle.grants.specs.Granting.{Finds, GivesBy, Granted, Holds, Near, page_of, zeroed_bytes}
 use Rattle.grants.proofs.Marking.{none_left, split_none, split_some, try_none, try_some}
 
 -- ---- the frame at a spot
@@ -132,6 +135,13 @@ module _ {board : Board} {op : PhysicalFrameAllocator → Allocated} {f g : ℕ 
 
 -- ---- a grant
 
+-- of the frame that was found, if one was
+no_frame : {t : GrantedFrame} → ◌≡◌ {A = MayBe GrantedFrame} None (Some t) → ⊥
+no_frame e = let z : ◌≡◌ {A = ℕ} 0 1 = cc in omega arith
+
+same_frame : {t u : GrantedFrame} → ◌≡◌ {A = MayBe GrantedFrame} (Some t) (Some u) → t ≡ u
+same_frame e = cc
+
 module _ {board : Board} where
   -- the search turns the words ws into vs: it changes their rows, and nothing else of the state
   module _
@@ -143,13 +153,13 @@ module _ {board : Board} where
 
       -- nothing is found
       abbrev nothing : Granted
-      nothing = record { state = state_with counters vs; found = false; spot = spot; address = 0 }
+      nothing = record { state = state_with counters vs; frame = None }
 
       pub finds_none : RowsBeside ws vs → Finds board st nothing
-      finds_none B = record { queued = B.queued; pass = B.pass; address = λ z. absurd (false≢true z) }
+      finds_none B = record { queued = B.queued; pass = B.pass; address = λ t z. absurd (no_frame z) }
 
       pub holds_none : Sane board f n (rows_in ws) → Holds board g n nothing
-      holds_none S = record { sane = picked_sane P S; spot = λ z. absurd (false≢true z); held = λ z. absurd (false≢true z) }
+      holds_none S = record { sane = picked_sane P S; spot = λ t z. absurd (no_frame z); held = λ t z. absurd (no_frame z) }
 
       pub gives_none : (bytes : List ℕ) → found ≡ false → GivesBy board (try_alloc_frame board everywhere l flags) f st bytes g n bytes nothing
       gives_none bytes e s L =
@@ -162,8 +172,7 @@ module _ {board : Board} where
             as_long = refl;
             beyond = refl;
             counters = L.counters;
-            none_found = λ z. refl;
-            page = λ z. absurd (false≢true z);
+            page = refl;
           })
 
       -- a frame is found
@@ -173,10 +182,10 @@ module _ {board : Board} where
             (T : TurnsBy board (mark_at false flags.kernel (number_at board (rows_in vs) spot)) g (rows_in vs) h n (rows_in vs)) (address : ℕ)
           where
             abbrev frame : Granted
-            frame = record { state = state_with after vs; found = true; spot = spot; address = address }
+            frame = record { state = state_with after vs; frame = Some (record { spot = spot; address = address }) }
 
             pub finds_some : RowsBeside ws vs → address ≡ board.page * number_at board (rows_in vs) spot → Finds board st frame
-            finds_some B d = record { queued = B.queued; pass = B.pass; address = λ z. d }
+            finds_some B d = record { queued = B.queued; pass = B.pass; address = λ t z. rw (← same_frame z) d }
 
             pub holds_some : Sane board f n (rows_in ws) → Holds board h n frame
             holds_some S =
@@ -188,8 +197,11 @@ module _ {board : Board} where
                 let held : is_allocated (a.frames p) ≡ true = rw (table_frame I U) (is_held g (rows_in vs) spot (picked_held P S e)) in
                 record {
                   sane = N.sane;
-                  spot = λ z. I;
-                  held = λ z. table_held N spot I (rw (upd_same a.frames p (marked false flags.kernel (a.frames p))) (held_still false flags.kernel (a.frames p) held));
+                  spot = λ t z. rw (← same_frame z) I;
+                  held = λ t z.
+                      rw (← same_frame z)
+                      (table_held N spot I
+                      (rw (upd_same a.frames p (marked false flags.kernel (a.frames p))) (held_still false flags.kernel (a.frames p) held)));
                 }
 
             pub gives_some
@@ -216,8 +228,7 @@ module _ {board : Board} where
                   as_long = W.as_long;
                   beyond = W.beyond;
                   counters = rw L.counters refl;
-                  none_found = λ z. absurd (false≢true (sym z));
-                  page = λ z. refl;
+                  page = refl;
                 })
 
 -- ---- its split
@@ -227,22 +238,23 @@ module _ {board : Board} where
       {f g : ℕ → Record} {n : ℕ} {st : State} {bytes bytes2 : List ℕ} {r : Granted} (l : ℕ) (flags : FrameAllocFlags)
       (G : GivesBy board (try_alloc_frame board everywhere l flags) f st bytes g n bytes2 r)
     where
-      pub gives_whole : r.found ≡ false → GivesBy board (try_alloc_split_frames board everywhere l flags) f st bytes g n bytes2 r
-      gives_whole e s L = rw (split_none board l flags s ((G s L).none_found e)) (G s L)
+      pub gives_whole : r.frame ≡ None → GivesBy board (try_alloc_split_frames board everywhere l flags) f st bytes g n bytes2 r
+      gives_whole e s L = let x = G s L in rw (split_none board l flags s (x.page ∙ ap (page_of board r.state.rows) e)) x
 
       pub gives_split
-          : r.found ≡ true → {h : ℕ → Record} → TurnsBy board (split_at (number_at board r.state.rows r.spot)) g r.state.rows h n r.state.rows
+          : (t : GrantedFrame) → r.frame ≡ Some t → {h : ℕ → Record}
+          → TurnsBy board (split_at (number_at board r.state.rows t.spot)) g r.state.rows h n r.state.rows
           → GivesBy board (try_alloc_split_frames board everywhere l flags) f st bytes h n bytes2 r
-      gives_split e T s L =
+      gives_split t e T s L =
           let x = G s L in
           let a = (try_alloc_frame board everywhere l flags s).store.allocator in
-          rw (split_some board l flags s (number_at board r.state.rows r.spot) (x.page e))
+          let page = ap (page_of board r.state.rows) e in
+          rw (split_some board l flags s (number_at board r.state.rows t.spot) (x.page ∙ page))
           (record {
             turned = turned_then x.turned (T a x.turned.table);
             memory = x.memory;
             as_long = x.as_long;
             beyond = x.beyond;
             counters = x.counters;
-            none_found = λ z. absurd (false≢true (sym z ∙ e));
-            page = λ z. refl;
+            page = sym page;
           })

@@ -1,12 +1,15 @@
--- The promise of a grant. A world that holds a store is what a grant asks for (`lends`), and what it gives is what definition's `step` makes of that store
--- (`alloc_made`, `take_made`); where a refusal was met, the world stays (`alloc_refused`, `take_refused`).
+-- The promise of a grant. A world that holds a store is what a grant asks for (`lends`), and what it gives is what definition's `step` makes
+-- of that store (`alloc_made`, `take_made`); where a refusal was met, the world stays (`asked_refused`).
 use Prim.Native.Nat.{ℕ, ◌*◌, ◌<◌}
 use mathlib.Core.Bool.{Bool, true, false}
 use mathlib.Core.List.{List}
 use mathlib.Core.Option.{Option, none, some}
 use mathlib.Core.Path.{◌≡◌, refl, sym, ap, ◌∙◌}
+use Rattle.std.specs.Prelude.{Ok, Err, Some, None}
+use Rattle.std.specs.Prelude.{Option as MayBe}
 use lib.ListN.{length, get_or, take}
 use Rattle.definition.specs.declared.FrameAllocFlags.{FrameAllocFlags}
+use Rattle.definition.specs.declared.Refusal.{Refusal}
 use Rattle.definition.specs.Allocator.{do_alloc}
 use Rattle.definition.specs.Basics.{everywhere}
 use Rattle.definition.specs.Board.{Board}
@@ -19,11 +22,10 @@ use Rattle.world.specs.Refusals.{refusal_of}
 use Rattle.world.proofs.Spans.{overlap_spans, spans_bare}
 use Rattle.allocator.specs.Spots.{number_at}
 use Rattle.exam.specs.Making.{Made, Whole}
-use Rattle.exam.specs.Promise.{State, world_of}
+use Rattle.exam.specs.Promise.{State, reply, world_of}
 use Rattle.exam.proofs.Making.{made_left, made_refused, table_as_long, whole_table}
-use Rattle.exam.proofs.Promises.{done_by, refused_by}
-use Rattle.grants.specs.declared.Asked.{Asked}
-use Rattle.grants.specs.Granting.{Finds, Gives, GivesBy, Granted, Lends, Wants, handed}
+use Rattle.grants.specs.declared.Granted.{Granted as GrantedFrame}
+use Rattle.grants.specs.Granting.{Finds, Gives, GivesBy, Granted, Lends, Wants, asking, handed, page_of}
 use Rattle.grants.proofs.Marking.{split_none, split_some, try_none, try_some}
 
 -- ---- what a grant keeps of a store
@@ -92,12 +94,12 @@ module _ {board : Board} {w : World} {s : Store} (H : Whole board w s) where
 
     module _ {r : Granted} (F : Finds board (state_in w) r) where
       handed_made
-          : (c : Call) (l : ℕ) {x : GrantedOf} → refusal_of board s c ≡ 0 → perform board s c ≡ hands board l x
+          : (c : Call) (l : ℕ) {x : GrantedOf} → refusal_of board s c ≡ none → perform board s c ≡ hands board l x
           → Gives board (record_at w.records) (state_in w) w.memory s x (record_at bs) (pages_in bs) ms r → Kept s x.store
-          → Made board (step board s c) w (left_by r) (handed board r.found r.address l)
-      handed_made c l {x} z e G K = go r.found refl
+          → Made board (step board s c) w (left_by r) (Ok (handed board r.frame l))
+      handed_made c l {x} z e G K = go r.frame refl
         where
-          left : (a n : ℕ) → perform board s c ≡ done x.store a n → Made board (step board s c) w (left_by r) (done_by a n)
+          left : (a n : ℕ) → perform board s c ≡ done x.store a n → Made board (step board s c) w (left_by r) (Ok (reply a n))
           left a n p =
               let S = H.stands in
               made_left H x.store (left_by r) G.turned as_long small (record { memory = G.memory; as_long = G.as_long; beyond = G.beyond })
@@ -109,33 +111,34 @@ module _ {board : Board} {w : World} {s : Store} (H : Whole board w s) where
               refl
               c a n z p refl
 
-          go : (b : Bool) → r.found ≡ b → Made board (step board s c) w (left_by r) (handed board b r.address l)
-          go true d =
-              let p = number_at board r.state.rows r.spot in
-              rw (F.address d) (left (board.page * p) (bytes_of_level board l) (e ∙ hands_some board l x p (G.page d)))
-          go false d = left 0 0 (e ∙ hands_none board l x (G.none_found d))
+          page : {o : MayBe GrantedFrame} → r.frame ≡ o → x.page ≡ page_of board r.state.rows o
+          page d = G.page ∙ ap (page_of board r.state.rows) d
 
-      module _ {y : Layout} {a : Asked} (W : Wants board (record_at w.records) (pages_in w.records) w.rows y a) (z : a.number ≡ 0) where
+          go : (o : MayBe GrantedFrame) → r.frame ≡ o → Made board (step board s c) w (left_by r) (Ok (handed board o l))
+          go (Some t) d =
+              let p = number_at board r.state.rows t.spot in
+              rw (F.address t d) (left (board.page * p) (bytes_of_level board l) (e ∙ hands_some board l x p (page d)))
+          go None d = left 0 0 (e ∙ hands_none board l x (page d))
+
+      module _ {y : Layout} {l : ℕ} (W : Wants board (record_at w.records) (pages_in w.records) w.rows y (Ok l)) where
         abbrev Given : (Store → GrantedOf) → Type 0
         Given op = GivesBy board op (record_at w.records) (state_in w) w.memory (record_at bs) (pages_in bs) ms r
 
         pub alloc_made
-            : Given (try_alloc_frame board everywhere a.level y.flags)
-            → Made board (step board s (Alloc y)) w (left_by r) (handed board r.found r.address a.level)
+            : Given (try_alloc_frame board everywhere l y.flags)
+            → Made board (step board s (Alloc y)) w (left_by r) (Ok (handed board r.frame l))
         alloc_made G =
-            handed_made (Alloc y) a.level (sym (W.number s (whole_table H)) ∙ z) (performs_alloc board s y (W.level z)) (G s lends)
-            (try_keeps board a.level y.flags s)
+            handed_made (Alloc y) l (W.refusal s (whole_table H)) (performs_alloc board s y (W.found l refl).0) (G s lends)
+            (try_keeps board l y.flags s)
 
         pub take_made
-            : Given (try_alloc_split_frames board everywhere a.level y.flags)
-            → Made board (step board s (Take y)) w (left_by r) (handed board r.found r.address a.level)
+            : Given (try_alloc_split_frames board everywhere l y.flags)
+            → Made board (step board s (Take y)) w (left_by r) (Ok (handed board r.frame l))
         take_made G =
-            handed_made (Take y) a.level (sym (W.number s (whole_table H)) ∙ z) (performs_take board s y (W.level z)) (G s lends)
-            (split_keeps board a.level y.flags s)
+            handed_made (Take y) l (W.refusal s (whole_table H)) (performs_take board s y (W.found l refl).0) (G s lends)
+            (split_keeps board l y.flags s)
 
-  module _ {y : Layout} {a : Asked} (W : Wants board (record_at w.records) (pages_in w.records) w.rows y a) (d : a.number ≡ 0 → ⊥) where
-    pub alloc_refused : Made board (step board s (Alloc y)) w w (refused_by a.number)
-    alloc_refused = made_refused H (Alloc y) a.number (sym (W.number s (whole_table H))) d
-
-    pub take_refused : Made board (step board s (Take y)) w w (refused_by a.number)
-    take_refused = made_refused H (Take y) a.number (sym (W.number s (whole_table H))) d
+  module _ {y : Layout} {e : Refusal} (W : Wants board (record_at w.records) (pages_in w.records) w.rows y (Err e)) where
+    pub asked_refused : (split : Bool) → Made board (step board s (asking split y)) w w (Err e)
+    asked_refused true = made_refused H (Take y) e (W.refusal s (whole_table H))
+    asked_refused false = made_refused H (Alloc y) e (W.refusal s (whole_table H))

@@ -24,9 +24,9 @@ returns-then-not-picked c =
     let P = rw y.auto.records at y.ensures.picks_in in
     let B = y.ensures.rows_beside in
     rw y.auto.records record {
-      finds = finds_none a.counters a.words.now y.new.words a.level a.flags P B;
-      holds = holds_none a.counters a.words.now y.new.words a.level a.flags P c.requires.table_in.1;
-      gives_by = gives_none a.counters a.words.now y.new.words a.level a.flags P a.memory.now (not-true y.result.found c.if-not-picked.true);
+      finds = finds_none a.counters.now a.words.now y.new.words a.level a.flags P B;
+      holds = holds_none a.counters.now a.words.now y.new.words a.level a.flags P c.requires.table_in.1;
+      gives_by = gives_none a.counters.now a.words.now y.new.words a.level a.flags P a.memory.now (not-true y.result.found c.if-not-picked.true);
       beside = B.beside;
     }
 
@@ -38,8 +38,8 @@ address_of-address-requires c =
     rw (board_beside y.ensures.rows_beside.beside)
     (omega (arith, y.auto.words, c.requires.table_in.0), near (picked_spot P S (not-false y.result.found c.if-not-picked.false)) (picked_sane P S))
 
-pub hand_over-counted-requires : goal.hand_over-counted-requires
-hand_over-counted-requires c =
+pub hand_over-requires : goal.hand_over-requires
+hand_over-requires c =
     let y = c.do_alloc-picked in
     let P = rw y.auto.records at y.ensures.picks_in in
     let S = c.requires.table_in.1 in
@@ -56,7 +56,7 @@ returns c =
     let a = c.args in
     let y = c.do_alloc-picked in
     let x = c.address_of-address in
-    let z = c.hand_over-counted in
+    let z = c.hand_over in
     let P = rw y.auto.records at y.ensures.picks_in in
     let S = c.requires.table_in.1 in
     let found = not-false y.result.found c.if-not-picked.false in
@@ -64,9 +64,9 @@ returns c =
     let same = board_beside B.beside in
     let T = rw (same, z.auto.records, y.auto.records) at z.ensures.turns_in in
     rw (z.auto.records, y.auto.records) record {
-      finds = finds_some a.counters a.words.now y.new.words a.level a.flags P found z.ensures.value T x.result B (rw same at x.ensures);
-      holds = holds_some a.counters a.words.now y.new.words a.level a.flags P found z.ensures.value T x.result S;
-      gives_by = gives_some a.counters a.words.now y.new.words a.level a.flags P found z.ensures.value T x.result a.memory.now
+      finds = finds_some a.counters.now a.words.now y.new.words a.level a.flags P found z.ensures.value T x.result B (rw same at x.ensures);
+      holds = holds_some a.counters.now a.words.now y.new.words a.level a.flags P found z.ensures.value T x.result S;
+      gives_by = gives_some a.counters.now a.words.now y.new.words a.level a.flags P found z.ensures.value T x.result a.memory.now
           z.new.memory (rw same at z.ensures.memory_after);
       beside = B.beside;
     }

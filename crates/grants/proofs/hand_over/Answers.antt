@@ -18,4 +18,4 @@ pub count_alloc-requires : goal.count_alloc-requires
 count_alloc-requires c =
     let p = c.requires.few in
     let few = size_most p.1 in
-    (omega (arith, p.0.kernel, c.pages_at-pages.ensures, few), omega (arith, p.0.page, c.pages_at-pages.ensures, few))
+    (omega (arith, p.0.kernel, c.pages_at.ensures, few), omega (arith, p.0.page, c.pages_at.ensures, few))

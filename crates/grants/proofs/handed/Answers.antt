@@ -6,7 +6,7 @@ use Rattle.definition.proofs.Boards.{page_most}
 use Rattle.level.proofs.Sizes.{size_most}
 use Rattle.grants.proofs.handed.Goals as goal
 
-pub overflow_mul-board : goal.overflow_mul-board
-overflow_mul-board c =
-    let few : c.pages_at-pages.result ≤ 262144 = rw c.pages_at-pages.ensures (size_most c.requires.level_bound) in
+pub overflow_mul-result : goal.overflow_mul-result
+overflow_mul-result c =
+    let few : c.pages_at.result ≤ 262144 = rw c.pages_at.ensures (size_most c.requires.level_bound) in
     omega (arith, mul-le-mul (page_most c.requires.fit) few)
