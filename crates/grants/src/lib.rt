@@ -29,7 +29,6 @@ ghost use Rattle.grants.specs.Granting.{
 use allocator::Spot;
 use definition::{Board, Counters, FrameAllocFlags, MUST_WAIT, NO_FRAME, Refusal};
 use exam::{Answer, Outcome};
-use level::FoundLevel;
 
 // ---- which refusal a layout meets
 
@@ -72,7 +71,7 @@ fn wanted(words: &[u64], records: &[u8], size: u64, align: u64, flags: FrameAllo
 {
     let board = words::board_in(words);
     match level::find_level(board, size, align) {
-        FoundLevel::At(level) => {
+        Ok(level) => {
             let index = level.index();
             if allocator::is_listed(words, records, index) {
                 return Asked {
@@ -85,7 +84,7 @@ fn wanted(words: &[u64], records: &[u8], size: u64, align: u64, flags: FrameAllo
                 level: index,
             }
         }
-        FoundLevel::Refused(refusal) => Asked {
+        Err(refusal) => Asked {
             number: number_of(refusal),
             level: 0,
         },

@@ -14,7 +14,7 @@ listed
     → WantsIn c.args.words.now c.args.records.now (record { size = c.args.size; align = c.args.align; flags = c.args.flags })
     (record { number = n; level = c.index-index.result })
 listed c n e =
-    wants_found c.in-At.level (rw (← c.board_in-board.ensures.0) (sym (c.find_level.ensures c.args.flags) ∙ c.in-At.is)) c.index-index.ensures
+    wants_found c.in-Ok.level (rw (← c.board_in-board.ensures.0) (sym (c.find_level.ensures c.args.flags) ∙ c.in-Ok.is)) c.index-index.ensures
     c.is_listed.ensures e
 
 pub returns-then-is_listed : goal.returns-then-is_listed
@@ -26,6 +26,6 @@ returns-then-flags c = listed (goal.at.returns-then-flags c).After-is_listed 10 
 pub returns-else-flags : goal.returns-else-flags
 returns-else-flags c = listed (goal.at.returns-else-flags c).After-is_listed 9 (rw (c.if-is_listed.false, c.if-flags.false) refl)
 
-pub returns-in-Refused : goal.returns-in-Refused
-returns-in-Refused c =
-    wants_refused c.in-Refused.refusal (rw (← c.board_in-board.ensures.0) (sym (c.find_level.ensures c.args.flags) ∙ c.in-Refused.is)) c.number_of.ensures
+pub returns-in-Err : goal.returns-in-Err
+returns-in-Err c =
+    wants_refused c.in-Err.refusal (rw (← c.board_in-board.ensures.0) (sym (c.find_level.ensures c.args.flags) ∙ c.in-Err.is)) c.number_of.ensures
