@@ -24,7 +24,7 @@ use Rattle.world.proofs.Sheets.{good_at}
 use Rattle.world.proofs.Tables.{table_set, used_row}
 use Rattle.allocator.specs.declared.Seen.{Seen}
 use Rattle.allocator.specs.declared.Spot.{Spot}
-use Rattle.allocator.specs.Spots.{HeldAt, InRows, Sees, free_at, mark_at, number_at, split_at}
+use Rattle.allocator.specs.Spots.{HeldAt, InRows, SeesPage, free_at, mark_at, number_at, split_at}
 
 -- ---- one row of many
 
@@ -121,16 +121,16 @@ unfolding frame_of
 held_marks x e h = rw (e, h) refl
 
 module _ {board : Board} where
-  module _ {f : ℕ → Record} {rows : List Row} {p : ℕ} {a : PhysicalFrameAllocator} {r : Seen} (S : Sees board f rows p a r) (m : r.managed ≡ true) where
+  module _ {f : ℕ → Record} {rows : List Row} {p : ℕ} {a : PhysicalFrameAllocator} {r : Seen} (S : SeesPage board f rows p a r) where
     pub sees_number : number_at board rows r.spot ≡ p
-    sees_number = sym (S.spot m).number
+    sees_number = sym S.spot.number
 
     pub sees_in : InRows board rows r.spot
-    sees_in = rw sees_number (S.spot m)
+    sees_in = rw sees_number S.spot
 
     -- ADMITTED and ALLOCATED: what the functions that change a held frame require
     pub sees_held : r.marks % 2 ≡ 1 → r.marks / 2 % 2 ≡ 1 → InRows board rows r.spot × HeldAt board f rows r.spot
     unfolding state_of
     sees_held e h =
-        let held = held_marks (f r.spot.page) (rw (S.marks m) at e) (rw (S.marks m) at h) in
-        (sees_in, record { inside = (S.spot m).inside; held = held })
+        let held = held_marks (f r.spot.page) (rw S.marks at e) (rw S.marks at h) in
+        (sees_in, record { inside = S.spot.inside; held = held })

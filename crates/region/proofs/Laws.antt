@@ -222,13 +222,13 @@ pub none_in : (r : Search) → r.page ≡ None → page_in r ≡ none
 none_in r e = rw e refl
 
 -- and by its test
-pub some_of : (o : code.Option ℕ) → is_some o ≡ true → (p : ℕ) × (o ≡ Some p)
+pub some_of : {A : Type 0} (o : code.Option A) → is_some o ≡ true → (x : A) × (o ≡ Some x)
 some_of None e = let z : ◌≡◌ {A = ℕ} 0 1 = cc in absurd (omega arith)
-some_of (Some p) e = (p, refl)
+some_of (Some x) e = (x, refl)
 
-pub none_of : (o : code.Option ℕ) → is_some o ≡ false → o ≡ None
+pub none_of : {A : Type 0} (o : code.Option A) → is_some o ≡ false → o ≡ None
 none_of None e = refl
-none_of (Some p) e = let z : ◌≡◌ {A = ℕ} 0 1 = cc in absurd (omega arith)
+none_of (Some x) e = let z : ◌≡◌ {A = ℕ} 0 1 = cc in absurd (omega arith)
 
 pub or_page : (a b : Found) (p : ℕ) → a.page ≡ some p → or_else a b ≡ a
 or_page a b p e = rw e refl
