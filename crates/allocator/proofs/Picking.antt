@@ -2,9 +2,10 @@
 -- definition's pass, and where the row i has a frame, the definition's pass finds the same.
 use Rattle.definition.specs.Basics.{everywhere}
 use Prim.Native.Nat.{ℕ, ◌+◌, ◌≤◌, ◌<◌}
-use mathlib.Core.Bool.{Bool, true, false, false≢true}
+use mathlib.Core.Bool.{Bool}
 use mathlib.Core.List.{List}
 use mathlib.Core.Option.{none, some}
+use Rattle.std.specs.Prelude.{Some, None}
 use mathlib.Core.Path.{◌≡◌, refl, sym, ap, ◌∙◌, subst}
 use native.Mathlib.Decide.{ℕ_discrete}
 use native.Mathlib.Omega.{arith}
@@ -24,7 +25,8 @@ use Rattle.world.specs.Tables.{Sane, Table}
 use Rattle.world.proofs.Allocators.{given, pass_found, pass_none}
 use Rattle.world.proofs.Carrying.{alike_allocate}
 use Rattle.world.proofs.Tables.{table_set, used_set}
-use Rattle.allocator.specs.Spots.{Picked, HeldAt, InRows, PicksBy, pass_by}
+use Rattle.allocator.specs.declared.Spot.{Spot}
+use Rattle.allocator.specs.Spots.{HeldAt, InRows, PicksBy, pass_by}
 use Rattle.allocator.proofs.Barren.{granted_held, nothing_granted, unchanged}
 use Rattle.allocator.proofs.Arrays.{base_first, base_row, region_stands, row_good, stand_length, used_more}
 use Rattle.allocator.proofs.InOrder.{base_set, row_tiled}
@@ -59,7 +61,7 @@ module _ {board : Board} where
 
     module _ {g : ℕ → Record} {m : ℕ} {r : Search} (A : Answers board f base row g m r has) where
       -- a region that has nothing stays as it was
-      none_here : r.found ≡ false → (g ≡ f) × (r.row ≡ row) × HasNone f rows l t o i
+      none_here : r.page ≡ None → (g ≡ f) × (r.row ≡ row) × HasNone f rows l t o i
       none_here e =
           let p : has.page ≡ none = sym A.found ∙ none_in r e in
           let u = unchanged (row_good S i h).sound (subst (λ (s : Levels). Becomes board f base row g m r.row s) (nothing_granted (row_tiled S i h) l few t o p) A.became) in
@@ -75,16 +77,13 @@ module _ {board : Board} where
 
     module _ (i : ℕ) (h : i < length (used_rows rows)) (before : (j : ℕ) → j < i → HasNone f rows l t o j) {g : ℕ → Record} {r : Search}
         (A : Answers board f (base_at board 0 (used_rows rows) i) (row_at rows i) g n r (allocate everywhere l (state_of f (row_at rows i)) t o))
-        (W : WholeRow board g (base_at board 0 (used_rows rows) i) r.row) (e : r.found ≡ true)
+        (W : WholeRow board g (base_at board 0 (used_rows rows) i) r.row) {p : ℕ} (e : r.page ≡ Some p)
       where
         abbrev first : ℕ
         first = base_at board 0 (used_rows rows) i
 
-        abbrev p : ℕ
-        p = r.page
-
-        abbrev picked : Picked
-        picked = record { rows = set rows i r.row; found = true; spot = record { index = i; base = first; page = p } }
+        abbrev place : Spot
+        place = record { index = i; base = first; page = p }
 
         paged : (allocate everywhere l (state_of f (row_at rows i)) t o).page ≡ some p
         paged = sym A.found ∙ page_in_lem r e
@@ -101,7 +100,7 @@ module _ {board : Board} where
         used_is : used_rows (set rows i r.row) ≡ set (used_rows rows) i r.row
         used_is = used_set rows i r.row h A.became.pages
 
-        spotted : InRows board (set rows i r.row) picked.spot
+        spotted : InRows board (set rows i r.row) place
         spotted =
             record {
               used = rw (used_is, length-set (used_rows rows) i r.row) h;
@@ -110,12 +109,12 @@ module _ {board : Board} where
               number = refl;
             }
 
-        held : HeldAt board g (set rows i r.row) picked.spot
+        held : HeldAt board g (set rows i r.row) place
         held =
             let k = granted_held (row_tiled S i h) l few t o p paged in
             record { inside = rw pages_is k.0; held = rw (row_is, rep_state A.became.rep) k.1 }
 
-        picks_found : PicksBy board (pass_by l t o) f rows g n picked
+        picks_found : PicksBy board (pass_by l t o) f rows g n (record { rows = set rows i r.row; spot = Some place })
         picks_found a T =
             let q = shift (from_of board (row_at rows i)) first p in
             let L = region_alike S l few t o i h T in
@@ -123,23 +122,16 @@ module _ {board : Board} where
             rw (pass_found l t o a.frames a.regions i q (rw (stand_length T.stands) h) (none_before T i (omega arith) before) k)
             (record {
               turned = table_set T i h A.became W L.carried;
-              none_found = λ d. absurd (false≢true (sym d));
-              page = λ d. ap (λ (x : ℕ). some (shift x first p)) (sym from_is);
-              spot = λ d. spotted;
-              held = λ d. held;
+              picked = record { page = ap (λ (x : ℕ). some (shift x first p)) (sym from_is); spot = spotted; held = held };
             })
 
     -- none has
-    picks_none : ((j : ℕ) → j < length (used_rows rows) → HasNone f rows l t o j) → {r : Picked} → r.rows ≡ rows → r.found ≡ false → PicksBy board (pass_by l t o) f rows f n r
-    picks_none b {r} d e a T =
+    picks_none
+        : ((j : ℕ) → j < length (used_rows rows) → HasNone f rows l t o j) → {rows2 : List Row} → rows2 ≡ rows
+        → PicksBy board (pass_by l t o) f rows f n (record { rows = rows2; spot = None })
+    picks_none b d a T =
         rw (pass_none l t o a.frames a.regions (λ j k. none_before T (length (used_rows rows)) (omega arith) b j (omega (arith, stand_length T.stands))))
-        (record {
-          turned = rw d (record { table = T; spans = refl; outside = λ q k. refl });
-          none_found = λ k. refl;
-          page = λ k. absurd (false≢true (sym e ∙ k));
-          spot = λ k. absurd (false≢true (sym e ∙ k));
-          held = λ k. absurd (false≢true (sym e ∙ k));
-        })
+        (record { turned = rw d (record { table = T; spans = refl; outside = λ q k. refl }); picked = refl })
 
 -- ---- the loop
 
@@ -183,8 +175,9 @@ module _ {board : Board} where
       pub gone_eight : 8 ≤ i → i ≡ length (used_rows rows)
       gone_eight h = omega (arith, G.used, G.sane.eight, used_most rows)
 
-      pub gone_all : i ≡ length (used_rows rows) → {r : Picked} → r.rows ≡ rows → r.found ≡ false → PicksBy board (pass_by l t o) f rows g m r
-      gone_all e d k = rw (G.same, G.size) (picks_none G.sane l G.few t o (λ j u. G.before j (omega arith)) d k)
+      pub gone_all
+          : i ≡ length (used_rows rows) → {rows2 : List Row} → rows2 ≡ rows → PicksBy board (pass_by l t o) f rows g m (record { rows = rows2; spot = None })
+      gone_all e d = rw (G.same, G.size) (picks_none G.sane l G.few t o (λ j u. G.before j (omega arith)) d)
 
       module _ (h : i < length (used_rows rows)) where
         pub gone_good : Good board g m base (row_at rows i)
@@ -195,10 +188,10 @@ module _ {board : Board} where
           answered = rw (k, G.same, G.size, G.based) at A
 
           -- the region had nothing, so its row is as it was
-          pub gone_row : r.found ≡ false → set rows i r.row ≡ rows
+          pub gone_row : r.page ≡ None → set rows i r.row ≡ rows
           gone_row e = ap (set rows i) (none_here G.sane l G.few t o i h answered e).1 ∙ set-get_or rows i _
 
-          pub gone_on : r.found ≡ false → Gone board f n rows l t o g2 m2 (base + managed board (row_at rows i).pages) (i + 1)
+          pub gone_on : r.page ≡ None → Gone board f n rows l t o g2 m2 (base + managed board (row_at rows i).pages) (i + 1)
           gone_on e =
               let N = none_here G.sane l G.few t o i h answered e in
               record {
@@ -216,6 +209,6 @@ module _ {board : Board} where
               up_to b j u (no d) = G.before j (omega arith)
 
           pub gone_found
-              : WholeRow board g2 base r.row → r.found ≡ true
-              → PicksBy board (pass_by l t o) f rows g2 m2 (record { rows = set rows i r.row; found = true; spot = record { index = i; base = base; page = r.page } })
+              : WholeRow board g2 base r.row → {p : ℕ} → r.page ≡ Some p
+              → PicksBy board (pass_by l t o) f rows g2 m2 (record { rows = set rows i r.row; spot = Some (record { index = i; base = base; page = p }) })
           gone_found W e = rw (k, G.size, G.based) (picks_found G.sane l G.few t o i h G.before answered (rw G.based at W) e)

@@ -4,6 +4,7 @@ use Prim.Native.Nat.{ℕ, ◌+◌, ◌≤◌, ◌<◌, ◌^◌}
 use mathlib.Core.Bool.{Bool, true, false, cond}
 use mathlib.Core.List.{List}
 use mathlib.Core.Option.{none, some}
+use Rattle.std.specs.Prelude.{Some, None}
 use mathlib.Core.Path.{◌≡◌, refl, sym, ap, ◌∙◌}
 use native.Mathlib.Omega.{arith}
 use borrow.Author.Tests.{leb-true, ltb-true}
@@ -16,17 +17,11 @@ use Rattle.definition.specs.Frame.{Frames}
 use Rattle.definition.specs.Allocator.{AllocationRegion, contains, end, first, is_managed, table_pages}
 use Rattle.definition.specs.World.{bare_region, frame_of, page_number, used_rows}
 use Rattle.definition.proofs.Tests.{and_left, and_right}
-use Rattle.region.specs.declared.FoundPage.{FoundPage}
-use Rattle.region.specs.declared.FoundPage.TheVariants.{Nothing, At}
-use Rattle.region.specs.Rep.{Inside, from_of, lookup, managed, page_of, state_of}
+use Rattle.region.specs.Rep.{Inside, from_of, lookup, managed, state_of}
 use Rattle.world.specs.Stands.{StandsRow, base_at, region_at, row_at, shift}
 use Rattle.world.specs.Tables.{Sane}
 use Rattle.world.proofs.Sheets.{good_few}
-use Rattle.allocator.specs.declared.Seen.{Seen}
-use Rattle.std.specs.Prelude.{Option, None, Some}
-use Rattle.definition.specs.Allocator.{PhysicalFrameAllocator}
-use Rattle.world.specs.Tables.{Spotted}
-use Rattle.allocator.specs.Spots.{SeesAll, SeesPage}
+use Rattle.allocator.specs.Spots.{SeesAll}
 use Rattle.allocator.proofs.Arrays.{Onward, onward_none, onward_row, onward_found, onward_end, row_good, row_used, base_first, base_row, region_stands}
 
 -- ---- a look at one row
@@ -47,18 +42,18 @@ module _ (board : Board) where
         let b = ltb-true p (end board r) (and_right (leb (first board r) p) _ t) in
         record { has = t; inside = record { low = omega arith; high = omega arith }; number = omega arith }
 
-    looked : (r : FoundPage) (q : ℕ) → page_of r ≡ lookup board row base p → r ≡ At q → Looked row base p q
+    looked : (q : ℕ) → some q ≡ lookup board row base p → Looked row base p q
     unfolding lookup
-    looked r q e k = go (contains board (bare_region board row) p) refl (sym e ∙ ap page_of k)
+    looked q e = go (contains board (bare_region board row) p) refl (sym e)
       where
         go : (t : Bool) → contains board (bare_region board row) p ≡ t → cond t (some (page_number board base (bare_region board row) p)) none ≡ some q
             → Looked row base p q
         go true h m = let z : page_number board base (bare_region board row) p ≡ q = cc in rw z at (looked_at h)
         go false h m = let z : ◌≡◌ {A = ℕ} 0 1 = cc in absurd (omega arith)
 
-    missed : (r : FoundPage) → page_of r ≡ lookup board row base p → r ≡ Nothing → contains board (bare_region board row) p ≡ false
+    missed : none ≡ lookup board row base p → contains board (bare_region board row) p ≡ false
     unfolding lookup
-    missed r e k = go (contains board (bare_region board row) p) refl (sym e ∙ ap page_of k)
+    missed e = go (contains board (bare_region board row) p) refl (sym e)
       where
         go : (t : Bool) → contains board (bare_region board row) p ≡ t → cond t (some (page_number board base (bare_region board row) p)) none ≡ none
             → contains board (bare_region board row) p ≡ false
@@ -114,39 +109,32 @@ module _ {board : Board} where
     -- no row is left
     pub nothing_left : length (used_rows rows) ≤ i → SeesAll board f n rows p None
     unfolding is_managed
-    nothing_left h a T = record { managed = sym (onward_end K.onward T h); page = λ r e. let z : ◌≡◌ {A = ℕ} 0 1 = cc in absurd (omega arith) }
+    nothing_left h a T = onward_end K.onward T h
 
-    module _ (H : Here board n rows base i) (r : FoundPage) (e : page_of r ≡ lookup board (row_at rows i) base p) where
-      pub not_here : r ≡ Nothing → Looking board f n rows p (base + managed board (row_at rows i).pages) (i + 1)
-      not_here k =
+    module _ (H : Here board n rows base i) where
+      pub not_here : none ≡ lookup board (row_at rows i) base p → Looking board f n rows p (base + managed board (row_at rows i).pages) (i + 1)
+      not_here e =
           record {
             onward =
                 onward_row K.onward H.used
-                (λ a T. manages_same (region_stands T i H.used) p ∙ missed board (row_at rows i) base p r e k);
+                (λ a T. manages_same (region_stands T i H.used) p ∙ missed board (row_at rows i) base p e);
             based = ap (λ (b : ℕ). b + managed board (row_at rows i).pages) K.based ∙ sym (base_row board rows i H.used);
           }
 
-      module _ (q : ℕ) (k : r ≡ At q) where
+      module _ (q : ℕ) (e : some q ≡ lookup board (row_at rows i) base p) where
         pub found_inside : q < n
-        found_inside = omega (arith, (looked board (row_at rows i) base p r q e k).inside.high, H.fits)
-
-        found_page
-            : (m l : ℕ) → m ≡ (f q).marks → l ≡ (f q).level → (a : PhysicalFrameAllocator) → Spotted board rows i base q p → a.frames p ≡ frame_of (f q)
-            → (t : Seen) → ◌≡◌ {A = Option Seen} (Some (record { spot = record { index = i; base = base; page = q }; marks = m; level = l })) (Some t)
-            → SeesPage board f rows p a t
-        found_page m l x y a S F t k =
-            let z : ◌≡◌ {A = Seen} (record { spot = record { index = i; base = base; page = q }; marks = m; level = l }) t = cc in
-            let seen : SeesPage board f rows p a (record { spot = record { index = i; base = base; page = q }; marks = m; level = l }) =
-            record { spot = S; marks = x; level = y; frame = F } in
-            rw z at seen
+        found_inside = omega (arith, (looked board (row_at rows i) base p q e).inside.high, H.fits)
 
         pub found_here : (m l : ℕ) → m ≡ (f q).marks → l ≡ (f q).level
             → SeesAll board f n rows p (Some (record { spot = record { index = i; base = base; page = q }; marks = m; level = l }))
         unfolding is_managed
         found_here m l x y a T =
-            let L = looked board (row_at rows i) base p r q e k in
+            let L = looked board (row_at rows i) base p q e in
             let S : StandsRow board f n base (row_at rows i) a.frames (region_at a.regions i) = rw K.based (region_stands T i H.used) in
             record {
-              managed = sym (onward_found K.onward T H.used (manages_same S p ∙ L.has));
-              page = found_page m l x y a (record { used = H.used; based = K.based; inside = L.inside; number = L.number }) (looked_frame S p q L);
+              managed = onward_found K.onward T H.used (manages_same S p ∙ L.has);
+              spot = record { used = H.used; based = K.based; inside = L.inside; number = L.number };
+              marks = x;
+              level = y;
+              frame = looked_frame S p q L;
             }

@@ -5,6 +5,7 @@ use Prim.Native.Nat.{ℕ}
 use mathlib.Core.Bool.{Bool, true, false}
 use mathlib.Core.List.{List, [], ◌∷◌}
 use mathlib.Core.Option.{Option, none, some}
+use Rattle.std.specs.Prelude.{Some, None}
 use mathlib.Core.Path.{◌≡◌, refl, sym, ap, ◌∙◌}
 use native.Mathlib.Omega.{arith}
 use Rattle.definition.specs.Board.{Board}
@@ -13,6 +14,7 @@ use Rattle.definition.specs.declared.Row.{Row}
 use Rattle.definition.specs.Frame.{Found, Frames, allocate}
 use Rattle.definition.specs.Allocator.{AllocationRegion, Allocated, PhysicalFrameAllocator, behind_region, do_alloc, laid_out, levels_of, or_next_region, or_second_pass, pass}
 use Rattle.world.specs.Tables.{Sane, Turned}
+use Rattle.allocator.specs.declared.Spot.{Spot}
 use Rattle.allocator.specs.Spots.{Picked, PicksBy, number_at, pass_by}
 use Rattle.allocator.proofs.Standing.{sane_table, standing}
 
@@ -58,19 +60,21 @@ second_is a b e = rw e refl
 
 module _ {board : Board} where
   module _ {f g : ℕ → Record} {n : ℕ} {rows : List Row} {r : Picked} (l : ℕ) (z : Bool) (P : PicksBy board (pass_by l false z) f rows g n r) where
-    pub picks_first : r.found ≡ true → PicksBy board (do_alloc everywhere l z) f rows g n r
+    pub picks_first : {s : Spot} → r.spot ≡ Some s → PicksBy board (do_alloc everywhere l z) f rows g n r
     unfolding do_alloc
-    picks_first e a T = rw (first_is (pass_by l false z a) (pass_by l true false a) (number_at board r.rows r.spot) ((P a T).page e)) (P a T)
+    picks_first {s} e a T =
+        let here = rw e at (P a T).picked in
+        rw (first_is (pass_by l false z a) (pass_by l true false a) (number_at board r.rows s) here.page) (P a T)
 
     -- what the second pass asks of the table that the first leaves
     pub second_asks : Sane board f n rows → Sane board g n r.rows
     second_asks S = (P (standing board f rows) (sane_table S)).turned.table.sane
 
-    pub picks_second : {h : ℕ → Record} {r2 : Picked} → r.found ≡ false → PicksBy board (pass_by l true false) g r.rows h n r2 → PicksBy board (do_alloc everywhere l z) f rows h n r2
+    pub picks_second
+        : {h : ℕ → Record} {r2 : Picked} → r.spot ≡ None → PicksBy board (pass_by l true false) g r.rows h n r2 → PicksBy board (do_alloc everywhere l z) f rows h n r2
     unfolding do_alloc
     picks_second e Q a T =
-        let k = (P a T).none_found e in
+        let k = rw e at (P a T).picked in
         let A : Turned board f rows g n r.rows a = rw (pass_nothing l false z a.frames a.regions k) at (P a T).turned in
         let y = Q a A.table in
-        rw (second_is (pass_by l false z a) (pass_by l true false a) k)
-        (record { turned = turned_then A y.turned; none_found = y.none_found; page = y.page; spot = y.spot; held = y.held })
+        rw (second_is (pass_by l false z a) (pass_by l true false a) k) (record { turned = turned_then A y.turned; picked = y.picked })

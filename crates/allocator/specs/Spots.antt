@@ -1,7 +1,7 @@
 -- What the functions of the allocator promise, for every allocator that the table stands for: `Sees` what stands at an address, `TurnsBy` what a free, a split
 -- or other marks make of the table, `PicksBy` what a search for a frame does.
-use Rattle.std.specs.Prelude.{ℕ, ◌-◌, ◌*◌, Bool, true, false, not, List, Option, Some, is_some, ◌≡◌, eqb, get_or}
-use Rattle.std.proofs.Math.Option.{none, some}
+use Rattle.std.specs.Prelude.{ℕ, ◌-◌, ◌*◌, Bool, true, false, not, List, ◌≡◌, eqb, get_or, Option, Some, None}
+use Rattle.std.proofs.Math.Option as maybe
 use Rattle.definition.specs.declared.Record.{Record}
 use Rattle.definition.specs.declared.Row.{Row}
 use Rattle.definition.specs.Basics.{upd, any, range, everywhere}
@@ -28,11 +28,10 @@ split_at p a = with_frames_of a (split_and_keep a.frames p)
 abbrev pub mark_at : (zeroed kernel : Bool) → ℕ → PhysicalFrameAllocator → PhysicalFrameAllocator
 mark_at zeroed kernel p a = with_frames_of a (upd a.frames p (marked zeroed kernel (a.frames p)))
 
--- the rows that a search over the regions leaves, and the spot that it found
+-- the rows that a search over the regions leaves, and the spot that it found, if any
 pub record Picked : Type 0 where
   pub rows : List Row
-  pub found : Bool
-  pub spot : Spot
+  pub spot : Option Spot
 
 abbrev pub pass_by : (level : ℕ) (try_zero only_zero : Bool) → PhysicalFrameAllocator → Allocated
 pass_by level try_zero only_zero a = pass everywhere level try_zero only_zero a.frames a.regions
@@ -54,20 +53,21 @@ module _ (board : Board) where
   abbrev pub HeldAt : (ℕ → Record) → List Row → Spot → Type 0
   HeldAt f rows s = Held board (state_of f (row_at rows s.index)) s.base (row_at rows s.index).pages s.page
 
-  -- a page that was seen, whose page frame number is p
-  pub record SeesPage (f : ℕ → Record) (rows : List Row) (p : ℕ) (a : PhysicalFrameAllocator) (r : Seen) : Type 0 where
-    pub spot : Spotted board rows r.spot.index r.spot.base r.spot.page p
-    pub marks : r.marks ≡ (f r.spot.page).marks
-    pub level : r.level ≡ (f r.spot.page).level
-    pub frame : a.frames p ≡ frame_of (f r.spot.page)
+  -- a region manages the page frame number p, and this stands there
+  pub record SeesPage (f : ℕ → Record) (rows : List Row) (p : ℕ) (a : PhysicalFrameAllocator) (s : Seen) : Type 0 where
+    pub managed : is_managed board a.regions p ≡ true
+    pub spot : Spotted board rows s.spot.index s.spot.base s.spot.page p
+    pub marks : s.marks ≡ (f s.spot.page).marks
+    pub level : s.level ≡ (f s.spot.page).level
+    pub frame : a.frames p ≡ frame_of (f s.spot.page)
 
-  -- what stands at the page frame number p: its page where a region manages it, and only there
-  pub record Sees (f : ℕ → Record) (rows : List Row) (p : ℕ) (a : PhysicalFrameAllocator) (o : Option Seen) : Type 0 where
-    pub managed : is_some o ≡ is_managed board a.regions p
-    pub page : (r : Seen) → o ≡ Some r → SeesPage f rows p a r
+  -- what stands at the page frame number p, if a region manages it
+  abbrev pub Sees : (ℕ → Record) → List Row → ℕ → PhysicalFrameAllocator → Option Seen → Type 0
+  Sees f rows p a (Some s) = SeesPage f rows p a s
+  Sees f rows p a None = is_managed board a.regions p ≡ false
 
   abbrev pub SeesAll : (ℕ → Record) → ℕ → List Row → ℕ → Option Seen → Type 0
-  SeesAll f n rows p o = (a : PhysicalFrameAllocator) → Table board f n rows a → Sees f rows p a o
+  SeesAll f n rows p r = (a : PhysicalFrameAllocator) → Table board f n rows a → Sees f rows p a r
 
   -- the table became that of what `op` makes of its allocator
   abbrev pub TurnsBy : (PhysicalFrameAllocator → PhysicalFrameAllocator) → (ℕ → Record) → List Row → (ℕ → Record) → ℕ → List Row → Type 0
@@ -77,13 +77,21 @@ module _ (board : Board) where
   abbrev pub free_at : ℕ → PhysicalFrameAllocator → PhysicalFrameAllocator
   free_at p a = free_in board p a.frames a.regions
 
-  -- what a search over the regions leaves, and the page that it found
+  -- the page that a search over the regions found is that of a spot, where a held frame starts
+  pub record PicksPage (g : ℕ → Record) (rows : List Row) (s : Spot) (x : maybe.Option ℕ) : Type 0 where
+    pub page : x ≡ maybe.some (number_at rows s)
+    pub spot : InRows rows s
+    pub held : HeldAt g rows s
+
+  -- what it found, if anything
+  abbrev pub PicksSpot : (ℕ → Record) → List Row → Option Spot → maybe.Option ℕ → Type 0
+  PicksSpot g rows (Some s) x = PicksPage g rows s x
+  PicksSpot g rows None x = x ≡ maybe.none
+
+  -- what it leaves, and what it found
   pub record Picks (f : ℕ → Record) (rows : List Row) (g : ℕ → Record) (n : ℕ) (r : Picked) (x : Allocated) : Type 0 where
     pub turned : Turned board f rows g n r.rows x.allocator
-    pub none_found : r.found ≡ false → x.page ≡ none
-    pub page : r.found ≡ true → x.page ≡ some (number_at r.rows r.spot)
-    pub spot : r.found ≡ true → InRows r.rows r.spot
-    pub held : r.found ≡ true → HeldAt g r.rows r.spot
+    pub picked : PicksSpot g r.rows r.spot x.page
 
   abbrev pub PicksBy : (PhysicalFrameAllocator → Allocated) → (ℕ → Record) → List Row → (ℕ → Record) → ℕ → Picked → Type 0
   PicksBy op f rows g n r = (a : PhysicalFrameAllocator) → Table board f n rows a → Picks f rows g n r (op a)
@@ -104,7 +112,7 @@ abbrev pub HeldIn : (records words : List ℕ) → Spot → Type 0
 HeldIn records words s = InRows (board_in words) (rows_in words) s × HeldAt (board_in words) (record_at records) (rows_in words) s
 
 abbrev pub SeesIn : (records words : List ℕ) → ℕ → Option Seen → Type 0
-SeesIn records words p o = SeesAll (board_in words) (record_at records) (pages_in records) (rows_in words) p o
+SeesIn records words p r = SeesAll (board_in words) (record_at records) (pages_in records) (rows_in words) p r
 
 abbrev pub ListedIn : (records words : List ℕ) → ℕ → Bool → Type 0
 ListedIn records words level r = ListedAll (board_in words) (record_at records) (pages_in records) (rows_in words) level r
@@ -114,7 +122,7 @@ abbrev pub TurnsIn : (PhysicalFrameAllocator → PhysicalFrameAllocator) → (re
 TurnsIn op records words records2 words2 =
     TurnsBy (board_in words) op (record_at records) (rows_in words) (record_at records2) (pages_in records2) (rows_in words2)
 
-abbrev pub PicksIn : (PhysicalFrameAllocator → Allocated) → (records words records2 words2 : List ℕ) → Bool → Spot → Type 0
-PicksIn op records words records2 words2 found spot =
+abbrev pub PicksIn : (PhysicalFrameAllocator → Allocated) → (records words records2 words2 : List ℕ) → Option Spot → Type 0
+PicksIn op records words records2 words2 spot =
     PicksBy (board_in words) op (record_at records) (rows_in words) (record_at records2) (pages_in records2)
-    (record { rows = rows_in words2; found = found; spot = spot })
+    (record { rows = rows_in words2; spot = spot })

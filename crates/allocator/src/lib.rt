@@ -5,7 +5,7 @@
 #![tactic(auto)]
 
 ghost use Rattle.definition.specs.Basics.{everywhere};
-ghost use Rattle.std.specs.Prelude.{◌≡◌, false, ◌/◌, ◌<◌};
+ghost use Rattle.std.specs.Prelude.{◌≡◌, ◌/◌, ◌<◌};
 ghost use Rattle.definition.specs.Allocator.{do_alloc};
 ghost use Rattle.words.specs.Words.{board_in, Long, RowsBeside};
 ghost use Rattle.allocator.specs.Spots.{
@@ -25,7 +25,6 @@ ghost use Rattle.allocator.specs.Spots.{
 
 use address::PhysAddr;
 use definition::Row;
-use region::FoundPage;
 
 // A page of a region: the region's row, the page number of its first managed page, and the page's own.
 #[derive(Clone, Copy)]
@@ -35,7 +34,7 @@ pub struct Spot {
     pub page: usize,
 }
 
-// What stands at an address that a region manages: where, with the marks and the level of its page's record.
+// What stands at an address that a region manages: where it is, with the marks and the level of its page's record.
 #[derive(Clone, Copy)]
 pub struct Seen {
     pub spot: Spot,
@@ -43,35 +42,30 @@ pub struct Seen {
     pub level: u32,
 }
 
-// get_frame, frame.rs 742.
+// get_frame, frame.rs 742: none where no region manages the address.
 pub fn see(words: &[u64], records: &[u8], pa: PhysAddr) -> Option<Seen>
     requires { Long words.now × SaneIn records.now words.now }
     ensures { SeesIn records.now words.now (pa.0 / (board_in words.now).page) result }
 {
     let board = words::board_in(words);
     let mut base: usize = 0;
-    let mut i: usize = 0;
-    while i < 8 {
+    for i in 0..8 {
         let row = words::row_at(words, i);
         if row.pages == 0 {
             return None;
         }
-        match region::get_frame(board, row, base, pa) {
-            FoundPage::At(page) => {
-                return Some(Seen {
-                    spot: Spot {
-                        index: i,
-                        base,
-                        page,
-                    },
-                    marks: record::marks(records, page),
-                    level: record::level(records, page),
-                });
-            }
-            FoundPage::Nothing => {}
+        if let Some(page) = region::get_frame(board, row, base, pa) {
+            return Some(Seen {
+                spot: Spot {
+                    index: i,
+                    base,
+                    page,
+                },
+                marks: record::marks(records, page),
+                level: record::level(records, page),
+            });
         }
         base += row.pages - region::table_pages(board, row.pages);
-        i += 1;
     }
     None
 }
@@ -82,8 +76,7 @@ pub fn is_listed(words: &[u64], records: &[u8], level: usize) -> bool
     requires level_bound { level < 3 }
     ensures { ListedIn records.now words.now level result }
 {
-    let mut i: usize = 0;
-    while i < 8 {
+    for i in 0..8 {
         let row = words::row_at(words, i);
         if row.pages == 0 {
             return false;
@@ -91,7 +84,6 @@ pub fn is_listed(words: &[u64], records: &[u8], level: usize) -> bool
         if lists_some(row, level) {
             return true;
         }
-        i += 1;
     }
     false
 }
@@ -101,16 +93,7 @@ fn lists_some(row: Row, level: usize) -> bool
     requires { level < 3 }
     ensures { result ≡ lists_some row level }
 {
-    let lists = row.lists;
-    let mut k = level * 2;
-    while k < 6 {
-        let l = lists[k];
-        if l.count != 0 {
-            return true;
-        }
-        k += 1;
-    }
-    false
+    row.lists[level * 2..].iter().any(|l| l.count != 0)
 }
 
 // free, frame.rs 611, of a held frame.
@@ -149,13 +132,6 @@ pub fn set_marks(words: &[u64], records: &mut [u8], spot: Spot, zeroed: bool, ke
     region::set_marks(board, records, spot.base, row, spot.page, zeroed, kernel);
 }
 
-// The frame that a search over the regions found.
-#[derive(Clone, Copy)]
-pub struct Picked {
-    pub found: bool,
-    pub spot: Spot,
-}
-
 // frame.rs 596 and 602: the first region, in order, that has a frame.
 fn pass(
     words: &mut [u64],
@@ -163,61 +139,48 @@ fn pass(
     level: usize,
     try_zero: bool,
     only_zero: bool,
-) -> Picked
+) -> Option<Spot>
     requires long { Long words.old × SaneIn records.old words.old }
     requires level_bound { level < 3 }
     ensures picks_in { PicksIn (pass_by level try_zero only_zero) records.old words.old records.new
-        words.new result.found result.spot }
+        words.new result }
     ensures rows_beside { RowsBeside words.old words.new }
 {
     let board = words::board_in(words);
     let mut base: usize = 0;
-    let mut i: usize = 0;
-    while i < 8 {
+    for i in 0..8 {
         let pages = words::pages_at(words, i);
         if pages == 0 {
-            return nothing_picked();
+            return None;
         }
         let got = region::allocate(board, records, base, words, i, level, try_zero, only_zero);
-        if got.found {
-            return Picked {
-                found: true,
-                spot: Spot {
-                    index: i,
-                    base,
-                    page: got.page,
-                },
-            };
+        if let Some(page) = got {
+            return Some(Spot {
+                index: i,
+                base,
+                page,
+            });
         }
         base += pages - region::table_pages(board, pages);
-        i += 1;
     }
-    nothing_picked()
-}
-
-fn nothing_picked() -> Picked
-    ensures { result.found ≡ false }
-{
-    Picked {
-        found: false,
-        spot: Spot {
-            index: 0,
-            base: 0,
-            page: 0,
-        },
-    }
+    None
 }
 
 // __do_alloc, frame.rs 594: zeroed only where that was asked, else dirty only; then either kind.
-pub fn do_alloc(words: &mut [u64], records: &mut [u8], level: usize, needs_zero: bool) -> Picked
+pub fn do_alloc(
+    words: &mut [u64],
+    records: &mut [u8],
+    level: usize,
+    needs_zero: bool,
+) -> Option<Spot>
     requires long { Long words.old × SaneIn records.old words.old }
     requires level_bound { level < 3 }
     ensures picks_in { PicksIn (do_alloc everywhere level needs_zero) records.old words.old records.new
-        words.new result.found result.spot }
+        words.new result }
     ensures rows_beside { RowsBeside words.old words.new }
 {
     let picked = pass(words, records, level, false, needs_zero);
-    if picked.found {
+    if picked.is_some() {
         return picked;
     }
     pass(words, records, level, true, false)

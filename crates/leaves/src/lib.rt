@@ -13,7 +13,6 @@ ghost use Rattle.leaves.specs.Contents.{inside, turns_if, filled, copied};
 
 use address::PhysAddr;
 use definition::{Board, Links, Pass, Record, Row};
-use list::Popped;
 
 fn wide(x: u32) -> u64
     ensures { (result ≡ x) × (result < 4294967296) }
@@ -88,11 +87,7 @@ fn push_all(records: &mut [u8], count: usize) -> Links
     ensures sound { Sound (record_at records.new) (pages_in records.new) result }
     ensures count_value { result.count ≡ count }
 {
-    let mut l = Links {
-        front: 0,
-        back: 0,
-        count: 0,
-    };
+    let mut l = list::EMPTY;
     let mut i: usize = 0;
     while i < count {
         l = list::push_back(records, l, i);
@@ -109,14 +104,10 @@ fn pop_all(records: &mut [u8], list: Links, count: usize) -> usize
     let mut l = list;
     let mut i: usize = 0;
     while i < count {
-        match list::pop_back(records, l) {
-            Popped::Empty => {
-                return i;
-            }
-            Popped::Page(_, rest) => {
-                l = rest;
-            }
-        }
+        let Some((_, rest)) = list::pop_back(records, l) else {
+            return i;
+        };
+        l = rest;
         i += 1;
     }
     i
@@ -188,7 +179,7 @@ fn grant_all(
     let mut i: usize = 0;
     while i < times {
         let got = region::allocate(board, records, 0, words, 0, level, false, false);
-        if !got.found {
+        if got.is_none() {
             return i;
         }
         i += 1;

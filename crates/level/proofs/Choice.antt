@@ -4,6 +4,7 @@ use mathlib.Core.Bool.{Bool, true, false, not, cond, false≢true, and-eq-true_i
 use mathlib.Core.List.{List, ◌∷◌}
 use mathlib.Core.Logic.{⊎_elim}
 use mathlib.Core.Option.{some}
+use Rattle.std.specs.Prelude.{Ok, Err}
 use mathlib.Core.Path.{◌≡◌, refl, sym, ap, ap₂, ◌∙◌}
 use native.Mathlib.Decide.{dec_le}
 use native.Mathlib.Nat.{le_refl, le_step, le_trans, le_antisymm, le-suc_iff, le_of_suc-le-suc, eq-or-lt_of_le, mod-one}
@@ -18,7 +19,6 @@ use Rattle.definition.specs.declared.Refusal.{Refusal}
 use Rattle.definition.specs.declared.Refusal.TheVariants.{BadLayout, NoLevel}
 use Rattle.level.specs.Level.{rank, level_at, serves, takes, found_level, Finds}
 use Rattle.level.specs.declared.Level.{Level}
-use Rattle.level.specs.declared.FoundLevel.TheVariants.{At, Refused}
 use Rattle.level.proofs.Ranks.{rank_of_level}
 use Rattle.level.proofs.Sizes.{bytes_rise}
 
@@ -96,7 +96,7 @@ module _ (s a : ℕ) where
       neither true q = refl
       neither false q = refl
 
-refusal : (t u : Bool) (l : Level) (r : Refusal) (later : List Test) → cond t (Refused BadLayout) (cond u (Refused NoLevel) (At l)) ≡ Refused r
+refusal : (t u : Bool) (l : Level) (r : Refusal) (later : List Test) → cond t (Err BadLayout) (cond u (Err NoLevel) (Ok l)) ≡ Err r
     → first_met ((BadLayout when t) ∷ (NoLevel when u) ∷ later) ≡ some r
 unfolding first_met
 refusal true u l r later e = cc
@@ -135,13 +135,13 @@ module _ (b : Board) (y : Layout) where
 
   -- what the code finds: no level serves; or one serves and none below it
   module _ (fine : bad_layout y ≡ false) where
-    pub found_none : serves (bytes_of_level b (levels - 1)) y.size y.align ≡ false → found_level b y ≡ Refused NoLevel
+    pub found_none : serves (bytes_of_level b (levels - 1)) y.size y.align ≡ false → found_level b y ≡ Err NoLevel
     found_none e =
         let none : no_level b y ≡ true = over y.size y.align (bytes_of_level b (levels - 1)) ∙ ap not e in
         rw (fine, none)
 
     pub found_at : (l : ℕ) → l < levels → serves (bytes_of_level b l) y.size y.align ≡ true
-        → ((m : ℕ) → m < l → serves (bytes_of_level b m) y.size y.align ≡ false) → found_level b y ≡ At (level_at l)
+        → ((m : ℕ) → m < l → serves (bytes_of_level b m) y.size y.align ≡ false) → found_level b y ≡ Ok (level_at l)
     found_at l h e below =
         let most = serves_more y.size y.align (bytes_of_level b l) (bytes_of_level b (levels - 1)) (bytes_rise b (le_of_suc-le-suc h)) e in
         let within : no_level b y ≡ false = over y.size y.align (bytes_of_level b (levels - 1)) ∙ ap not most in
@@ -153,24 +153,24 @@ module _ (b : Board) (y : Layout) where
         least w' (no w) = absurd (false≢true (sym (below (find_level b y) (omega arith)) ∙ (found w').0))
 
   -- what an answer says to whom it is given, of the sheet's lines 7 and 8 and of the level
-  pub finds : (l : Level) → found_level b y ≡ At l → Finds b y l
+  pub finds : (l : Level) → found_level b y ≡ Ok l → Finds b y l
   finds l e = go (bad_layout y) refl (no_level b y) refl
     where
       go : (t : Bool) → bad_layout y ≡ t → (u : Bool) → no_level b y ≡ u → Finds b y l
       go true p u q =
-          let f : found_level b y ≡ Refused BadLayout = rw p in
+          let f : found_level b y ≡ Err BadLayout = rw p in
           let z : ◌≡◌ {A = ℕ} 0 1 = cc in
           absurd (omega arith)
       go false p true q =
-          let f : found_level b y ≡ Refused NoLevel = rw (p, q) in
+          let f : found_level b y ≡ Err NoLevel = rw (p, q) in
           let z : ◌≡◌ {A = ℕ} 0 1 = cc in
           absurd (omega arith)
       go false p false q =
-          let f : found_level b y ≡ At (level_at (find_level b y)) = rw (p, q) in
+          let f : found_level b y ≡ Ok (level_at (find_level b y)) = rw (p, q) in
           let same : l ≡ level_at (find_level b y) = cc in
           record { fine = p; within = q; number = ap rank same ∙ rank_of_level (find_level b y) (found_below q) }
 
-  pub refuses : (r : Refusal) → found_level b y ≡ Refused r → (later : List Test)
+  pub refuses : (r : Refusal) → found_level b y ≡ Err r → (later : List Test)
       → first_met ((BadLayout when bad_layout y) ∷ (NoLevel when no_level b y) ∷ later) ≡ some r
   refuses r e later = refusal (bad_layout y) (no_level b y) (level_at (find_level b y)) r later e
 

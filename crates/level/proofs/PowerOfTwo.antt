@@ -10,7 +10,7 @@ use native.Mathlib.Omega.{arith}
 use lib.Count.{ones, ones_step, ones_cat}
 use lib.Dec.{eqb, ltb, lit<}
 use lib.Pow.{pow-add, pow_pos, pow_mono}
-use borrow.Author.Tests.{eq-eqb, eqb-true, ne_eqb, lt-ltb, le-ltb}
+use borrow.Author.Tests.{eq-eqb, eqb-true, lt-ltb, le-ltb}
 use Rattle.address.proofs.Rounding.{up_no_less, up_least}
 use Rattle.definition.specs.Basics.{any, range}
 use Rattle.definition.specs.Calls.{is_power_of_two, round_up}
@@ -115,13 +115,6 @@ rounded_over e k size h = go (dec_le size (2 ^ e - 2 ^ k))
         lt-ltb (2 ^ e - 1) (round_up size (2 ^ k)) (omega (arith, pow_pos e)) ∙ sym (lt-ltb (2 ^ e - 2 ^ k) size (omega arith))
 
 -- ---- what the code tests
-
-module _ (n : ℕ) (fits : n < 2 ^ 64) where
-  pub is_power : ones n ≡ 1 → is_power_of_two n ≡ true
-  is_power e = sym (one_bit_is_power n fits) ∙ eq-eqb (ones n) 1 e
-
-  pub is_no_power : (ones n ≡ 1 → ⊥) → is_power_of_two n ≡ false
-  is_no_power e = sym (one_bit_is_power n fits) ∙ ne_eqb (ones n) 1 e
 
 pub power_within : (n : ℕ) → is_power_of_two n ≡ true → n ≤ 2 ^ 63
 power_within n p =

@@ -1,8 +1,10 @@
 -- A level and its number: each gives the other, below the count of levels.
 use Prim.Native.Nat.{ℕ, zero, suc, ◌<◌}
+use mathlib.Core.List.{[], ◌∷◌}
 use mathlib.Core.Path.{◌≡◌, refl}
 use native.Mathlib.Omega.{arith}
 use lib.Dec.{lit<}
+use lib.ListN.{get_or}
 use Rattle.definition.specs.Frame.{levels}
 use Rattle.level.specs.Level.{rank, level_at}
 use Rattle.level.specs.declared.Level.{Level}
@@ -24,8 +26,9 @@ rank_of_level (suc zero) h = refl
 rank_of_level (suc (suc zero)) h = refl
 rank_of_level (suc (suc (suc n))) h = absurd (omega arith)
 
--- a number that is neither 0 nor 1
-pub level_above : (n : ℕ) → (n ≡ 0 → ⊥) → (n ≡ 1 → ⊥) → level_at n ≡ Huge
-level_above zero a b = absurd (a refl)
-level_above (suc zero) a b = absurd (b refl)
-level_above (suc (suc n)) a b = refl
+-- the levels stand in the order of their numbers
+pub level_in : (n : ℕ) → n < levels → get_or (Small ∷ Large ∷ Huge ∷ []) n Small ≡ level_at n
+level_in zero h = refl
+level_in (suc zero) h = refl
+level_in (suc (suc zero)) h = refl
+level_in (suc (suc (suc n))) h = absurd (omega arith)

@@ -1,12 +1,11 @@
 -- What the code of this crate says in the terms of the definitions: a level's number, and the answer of a search for one.
-use Rattle.std.specs.Prelude.{ℕ, zero, suc, ◌%◌, Bool, false, cond, ◌&&◌, ◌≡◌, leb, eqb}
+use Rattle.std.specs.Prelude.{ℕ, zero, suc, ◌%◌, Bool, false, cond, ◌&&◌, ◌≡◌, leb, eqb, Result, Ok, Err}
 use Rattle.definition.specs.Board.{Board}
 use Rattle.definition.specs.Calls.{Layout, bad_layout, no_level, find_level}
+use Rattle.definition.specs.declared.Refusal.{Refusal}
 use Rattle.definition.specs.declared.Refusal.TheVariants.{BadLayout, NoLevel}
 use Rattle.level.specs.declared.Level.{Level}
 use Rattle.level.specs.declared.Level.TheVariants.{Small, Large, Huge}
-use Rattle.level.specs.declared.FoundLevel.{FoundLevel}
-use Rattle.level.specs.declared.FoundLevel.TheVariants.{At, Refused}
 
 abbrev pub rank : Level → ℕ
 rank Small = 0
@@ -28,8 +27,8 @@ abbrev pub takes : (pages number left : ℕ) → Bool
 takes pages number left = eqb (number % pages) 0 && leb pages left
 
 -- the lowest refusal of 7 and 8 that is met, else the level that is found
-abbrev pub found_level : Board → Layout → FoundLevel
-found_level b y = cond (bad_layout y) (Refused BadLayout) (cond (no_level b y) (Refused NoLevel) (At (level_at (find_level b y))))
+abbrev pub found_level : Board → Layout → Result Level Refusal
+found_level b y = cond (bad_layout y) (Err BadLayout) (cond (no_level b y) (Err NoLevel) (Ok (level_at (find_level b y))))
 
 -- what it says that a level is found: neither refusal is met, and the level is the first that serves
 pub record Finds (b : Board) (y : Layout) (l : Level) : Type 0 where

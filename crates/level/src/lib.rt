@@ -11,7 +11,7 @@ ghost use Rattle.level.specs.Level.{rank, level_at, serves, takes, found_level};
 
 use definition::{Board, Refusal};
 
-#[derive(Clone, Copy)]
+#[derive(Clone, Copy, PartialEq, Eq, Debug)]
 pub enum Level {
     Small,
     Large,
@@ -21,6 +21,8 @@ pub enum Level {
 impl Level {
     // frame.rs 67, NR_LEVELS
     pub const COUNT: usize = 3;
+
+    pub const ALL: [Level; Level::COUNT] = [Level::Small, Level::Large, Level::Huge];
 
     // frame.rs 69, PHYS_LEVEL_LAYOUTS: the size of a frame of each level, in pages. Its bytes are as many times the page of the board.
     pub const SMALL_PAGES: usize = 1;
@@ -40,11 +42,7 @@ impl Level {
     pub fn index(self) -> usize
         ensures { result ≡ rank self }
     {
-        match self {
-            Level::Small => 0,
-            Level::Large => 1,
-            Level::Huge => 2,
-        }
+        self as usize
     }
 
     // The level of a number; any above 2 is taken for 2.
@@ -128,11 +126,7 @@ pub fn pages_at(level: usize) -> usize
     requires { level < levels }
     ensures { result ≡ pages_of level }
 {
-    match level {
-        0 => Level::Small.pages(),
-        1 => Level::Large.pages(),
-        _ => Level::Huge.pages(),
-    }
+    Level::at(level).pages()
 }
 
 // frame.rs 313, "select level based on alignment and space": the highest that fits.
@@ -148,37 +142,27 @@ pub fn level_at(number: usize, left: usize) -> usize
     }
 }
 
-#[derive(Clone, Copy)]
-pub enum FoundLevel {
-    At(Level),
-    Refused(Refusal),
-}
-
 // 01's refusal 7, which Rust's Layout keeps out: an alignment that is no power of two, or a size that is over 2^63 - 1 once rounded up to
-// it. A power of two has one bit set. 2^63 is a multiple of it, so that no size need be rounded, and no sum can wrap.
+// it. 2^63 is a multiple of each power of two up to it, so that no size need be rounded, and no sum can wrap.
 fn is_bad_layout(size: u64, align: u64) -> bool
     ensures { result ≡ not (is_power_of_two align) || ltb (2 ^ 63 - 1) (round_up size align) }
 {
-    u64::count_ones(align) != 1 || size > 9223372036854775808 - align
+    !align.is_power_of_two() || size > (1 << 63) - align
 }
 
 // frame.rs 176, find_level: the first level that suffices, after 01's refusals 7 and 8. It looks at no flag, so the definition's answer is
 // given for any.
-pub fn find_level(board: Board, size: u64, align: u64) -> FoundLevel
+pub fn find_level(board: Board, size: u64, align: u64) -> Result<Level, Refusal>
     requires { Fit board }
     ensures { (flags : FrameAllocFlags) → result ≡ found_level board (record { size = size; align = align; flags = flags }) }
 {
     if is_bad_layout(size, align) {
-        return FoundLevel::Refused(Refusal::BadLayout);
+        return Err(Refusal::BadLayout);
     }
-    if Level::Small.suffices(board, size, align) {
-        return FoundLevel::At(Level::Small);
+    for level in Level::ALL {
+        if level.suffices(board, size, align) {
+            return Ok(level);
+        }
     }
-    if Level::Large.suffices(board, size, align) {
-        return FoundLevel::At(Level::Large);
-    }
-    if Level::Huge.suffices(board, size, align) {
-        return FoundLevel::At(Level::Huge);
-    }
-    FoundLevel::Refused(Refusal::NoLevel)
+    Err(Refusal::NoLevel)
 }

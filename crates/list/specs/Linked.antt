@@ -1,13 +1,11 @@
 -- What it is for a list of pages to be linked both ways in the pages' records, and what a push, a removal and a pop leave. A contract takes a list to
 -- be `Sound` and speaks of `pages_of`, the pages that walking it finds; `Linked`, with the pages named, is what the laws are about. Each of `Pushed`,
 -- `Removed` and `Taken` fixes all records and the list: links by `sound` and `alone`, the rest by `others`, `marks` and `level`.
-use Rattle.std.specs.Prelude.{ℕ, ◌+◌, ◌-◌, ◌<◌, cond, List, [], ◌∷◌, ◌++◌, ◌≢◌, ◌≡◌, eqb, length}
+use Rattle.std.specs.Prelude.{ℕ, ◌+◌, ◌-◌, ◌<◌, cond, List, [], ◌∷◌, ◌++◌, ◌≢◌, ◌≡◌, eqb, length, Option, Some, None}
 use Rattle.definition.specs.declared.Record.{Record}
 use Rattle.definition.specs.declared.Links.{Links}
 use Rattle.definition.specs.Basics.{upd}
 use Rattle.definition.specs.World.{pages_of}
-use Rattle.list.specs.declared.Popped.{Popped}
-use Rattle.list.specs.declared.Popped.TheVariants.{Empty, Page}
 
 -- ---- lists of numbers
 
@@ -90,10 +88,10 @@ pub record Taken (f : ℕ → Record) (l : Links) (p : ℕ) (g : ℕ → Record)
   pub marks : (q : ℕ) → (g q).marks ≡ (f q).marks
   pub level : (q : ℕ) → (g q).level ≡ (f q).level
 
--- what a pop answers
-abbrev pub Pops : (ℕ → Record) → Links → (ℕ → Record) → ℕ → Popped → Type 0
-Pops f l g n Empty = (pages_of f l ≡ []) × (g ≡ f)
-Pops f l g n (Page p r) = Taken f l p g n r
+-- what a pop answers: none where the list is empty, else its last page and the list without it
+abbrev pub Pops : (ℕ → Record) → Links → (ℕ → Record) → ℕ → Option (ℕ × Links) → Type 0
+Pops f l g n None = (pages_of f l ≡ []) × (g ≡ f)
+Pops f l g n (Some (p, r)) = Taken f l p g n r
 
 -- ---- the record of a neighbour
 

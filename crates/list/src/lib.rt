@@ -11,6 +11,13 @@ ghost use Rattle.list.specs.Linked.{Sound, Out, In, Pushed, Pops, Removed, later
 
 use definition::Links;
 
+// A list of no pages.
+pub const EMPTY: Links = Links {
+    front: 0,
+    back: 0,
+    count: 0,
+};
+
 fn either(c: u32, a: u32, b: u32) -> u32
     ensures { result ≡ cond (eqb c 0) a b }
 {
@@ -22,8 +29,8 @@ fn later_at(records: &mut [u8], c: u32, v: u32)
     requires { c ≢ 0 → c - 1 < pages_in records.old }
     ensures { record_at records.new ≡ later_at (record_at records.old) c v }
 {
-    if c != 0 {
-        record::set_later(records, (c - 1) as usize, v);
+    if let Some(page) = c.checked_sub(1) {
+        record::set_later(records, page as usize, v);
     }
 }
 
@@ -31,8 +38,8 @@ fn earlier_at(records: &mut [u8], c: u32, v: u32)
     requires { c ≢ 0 → c - 1 < pages_in records.old }
     ensures { record_at records.new ≡ earlier_at (record_at records.old) c v }
 {
-    if c != 0 {
-        record::set_earlier(records, (c - 1) as usize, v);
+    if let Some(page) = c.checked_sub(1) {
+        record::set_earlier(records, page as usize, v);
     }
 }
 
@@ -75,22 +82,11 @@ pub fn remove(records: &mut [u8], list: Links, page: usize) -> Links
     }
 }
 
-// What a pop answers: that the list is empty, or its last page and the list without it.
-#[derive(Clone, Copy)]
-pub enum Popped {
-    Empty,
-    Page(usize, Links),
-}
-
 // Takes the last page off a list, if it has any, and leaves it with no neighbours.
-pub fn pop_back(records: &mut [u8], list: Links) -> Popped
+pub fn pop_back(records: &mut [u8], list: Links) -> Option<(usize, Links)>
     requires { Sound (record_at records.old) (pages_in records.old) list }
     ensures { Pops (record_at records.old) list (record_at records.new) (pages_in records.new) result }
 {
-    let last = list.back;
-    if last == 0 {
-        return Popped::Empty;
-    }
-    let page = (last - 1) as usize;
-    Popped::Page(page, remove(records, list, page))
+    let page = list.back.checked_sub(1)? as usize;
+    Some((page, remove(records, list, page)))
 }

@@ -2,6 +2,7 @@
 use Prim.Native.Nat.{ℕ, ◌+◌, ◌-◌, ◌*◌, ◌<◌}
 use mathlib.Core.Bool.{Bool, true, false}
 use mathlib.Core.Option.{none, some}
+use Rattle.std.specs.Prelude.{Some, None}
 use mathlib.Core.Path.{◌≡◌, refl, sym, ap, ◌∙◌}
 use native.Mathlib.Omega.{arith}
 use Rattle.definition.specs.Board.{Board}
@@ -24,10 +25,10 @@ granted_page a p e = rw e refl
 
 module _ (board : Board) where
   -- what it takes to hold the page that a search found, and what then is answered
-  pub record Grants (f : ℕ → Record) (first : ℕ) (row : Row) (g : ℕ → Record) (m : ℕ) (r : Search) (a : Found) : Type 0 where
-    pub inside : r.page < m
-    pub free : allocated_in (g r.page).marks ≡ false
-    pub answers : Answers board f first row (with_marks g r.page ((g r.page).marks + 2)) m r a
+  pub record Grants (f : ℕ → Record) (first : ℕ) (row : Row) (g : ℕ → Record) (m : ℕ) (r : Search) (p : ℕ) (a : Found) : Type 0 where
+    pub inside : p < m
+    pub free : allocated_in (g p).marks ≡ false
+    pub answers : Answers board f first row (with_marks g p ((g p).marks + 2)) m r a
 
 module _ {board : Board} where
   module _
@@ -37,14 +38,11 @@ module _ {board : Board} where
       abbrev a : Found
       a = do_allocate everywhere (3 - l) l s t o
 
-      pub not_granted : r.found ≡ false → Answers board f first row g m r (allocate everywhere l s t o)
+      pub not_granted : r.page ≡ None → Answers board f first row g m r (allocate everywhere l s t o)
       unfolding allocate
       not_granted e = rw (granted_none a (sym A.found ∙ none_in r e)) A
 
-      module _ (e : r.found ≡ true) where
-        abbrev p : ℕ
-        p = r.page
-
+      module _ {p : ℕ} (e : r.page ≡ Some p) where
         paged : a.page ≡ some p
         paged = sym A.found ∙ page_in_lem r e
 
@@ -71,7 +69,7 @@ module _ {board : Board} where
               found = page_in_lem r e;
             })
 
-        pub grants : Grants board f first row g m r (allocate everywhere l s t o)
+        pub grants : Grants board f first row g m r p (allocate everywhere l s t o)
         grants =
             record {
               inside = omega (arith, inside.high, A.became.rep.fits);

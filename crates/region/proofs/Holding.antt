@@ -1,11 +1,12 @@
 -- A held frame is split into held ones.
 use Prim.Native.Nat.{ℕ, zero, suc, ◌+◌, ◌*◌, ◌≤◌, ◌<◌}
-use mathlib.Core.Bool.{true}
+use mathlib.Core.Bool.{Bool, true, false, cond}
 use mathlib.Core.Logic.{◌≢◌}
 use mathlib.Core.Option.{Option, none, some}
-use mathlib.Core.Path.{◌≡◌, refl, sym, ap, ◌∙◌}
+use mathlib.Core.Path.{◌≡◌, refl, sym, ap, ◌∙◌, fun_ext}
 use native.Mathlib.Numerals.{add-one}
 use native.Mathlib.Omega.{arith}
+use lib.Dec.{eqb}
 use Rattle.definition.specs.Board.{Board}
 use Rattle.definition.specs.Basics.{upd}
 use Rattle.definition.specs.Frame.{Frame, Levels, is_allocated, kept, size, split_and_keep}
@@ -33,6 +34,27 @@ module _ {board : Board} where
 unfoldable pub many : {A : Type 0} → ℕ → (ℕ → A) → ℕ → ℕ → A → ℕ → A
 many zero f p step v = f
 many (suc i) f p step v = upd (many i f p step v) (p + suc i * step) v
+
+-- the same value at two places, in either order
+upd_either : {A : Type 0} (f : ℕ → A) (a b : ℕ) (v : A) → upd (upd f a v) b v ≡ upd (upd f b v) a v
+unfolding upd
+upd_either f a b v = fun_ext (λ q. either (eqb q b) (eqb q a) v (f q))
+  where
+    either : {A : Type 0} (s t : Bool) (v x : A) → cond s v (cond t v x) ≡ cond t v (cond s v x)
+    either true true v x = refl
+    either true false v x = refl
+    either false true v x = refl
+    either false false v x = refl
+
+-- v at the places 0 to i - 1 from p on
+unfoldable pub many_from : {A : Type 0} → ℕ → (ℕ → A) → ℕ → ℕ → A → ℕ → A
+many_from zero f p step v = f
+many_from (suc i) f p step v = upd (many i f p step v) p v
+
+pub many_next : {A : Type 0} (i : ℕ) (f : ℕ → A) (p step : ℕ) (v : A) → upd (many_from i f p step v) (p + i * step) v ≡ many_from (suc i) f p step v
+unfolding many many_from
+many_next zero f p step v = let e : p + 0 * step ≡ p = omega arith in rw e refl
+many_next (suc i) f p step v = upd_either (many i f p step v) p (p + suc i * step) v
 
 module _ {board : Board} where
   module _
@@ -87,7 +109,8 @@ module _ {board : Board} where
             (keep_splits.out (p + suc i * size l) (omega arith) (omega (arith, child_ends (suc i) (size l) (omega arith), size_positive l)))
             marks refl (record { earlier = refl; later = refl }))
 
-        pub keep_last : Becomes board f first row (upd (many 511 f p (size l) v) p v) n row (kept_levels s p)
+        pub keep_last : Becomes board f first row (many_from 512 f p (size l) v) n row (kept_levels s p)
+        unfolding many_from
         keep_last =
             let B = keep_many 511 (omega arith) in
             rw keep_parts (then B (marked_as (some c) B.rep H.inside (held_out R H) marks refl (record { earlier = refl; later = refl })))

@@ -4,6 +4,8 @@ use mathlib.Core.Bool.{Bool, true, false}
 use mathlib.Core.List.{List, [], ◌∷◌, ◌++◌}
 use mathlib.Core.Logic.{◌≢◌}
 use mathlib.Core.Option.{Option, none, some}
+use Rattle.std.specs.Prelude as code
+use Rattle.std.specs.Prelude.{Some, None, is_some}
 use mathlib.Core.Path.{◌≡◌, refl, sym, ap, ◌∙◌, subst, fun_ext}
 use native.Mathlib.Decide.{ℕ_discrete, dec_lt}
 use native.Mathlib.Omega.{arith}
@@ -165,9 +167,8 @@ module _ {board : Board} where
 
   module _ {f : ℕ → Record} {n first : ℕ} {row : Row} {s : Levels} {k : ℕ} (R : Rep board f n first row s) (h : k < 6) where
     pub pop_nothing
-        : {found : Bool} {page : ℕ} → found ≡ false → pages_of f (get_or row.lists k no_links) ≡ []
-        → Answers board f first row f n (record { row = row; found = found; page = page }) (pop_from everywhere s k)
-    pop_nothing d e = rw (pop_from_none s k (sym (linked_pages (R.lists k h)) ∙ e)) (record { became = stays R; found = rw d refl })
+        : pages_of f (get_or row.lists k no_links) ≡ [] → Answers board f first row f n (record { row = row; page = None }) (pop_from everywhere s k)
+    pop_nothing e = rw (pop_from_none s k (sym (linked_pages (R.lists k h)) ∙ e)) (record { became = stays R; found = refl })
 
     module _ {g : ℕ → Record} {p : ℕ} {r : Links} (T : Taken f (get_or row.lists k no_links) p g n r) where
       abbrev rest : List ℕ
@@ -185,7 +186,7 @@ module _ {board : Board} where
       left_alone : (q : ℕ) → Out q (s.free k) → q ≢ p → g q ≡ f q
       left_alone q o m = T.others q (subst (λ (xs : List ℕ). Out q xs) (sym (linked_pages (R.lists k h))) o)
 
-      pub pop_page : Answers board f first row g n (record { row = with_list row k r; found = true; page = p }) (pop_from everywhere s k)
+      pub pop_page : Answers board f first row g n (record { row = with_list row k r; page = Some p }) (pop_from everywhere s k)
       pop_page =
           rw (pop_from_some s k rest p ends)
           (record {
@@ -213,12 +214,21 @@ module _ {board : Board} where
 
 -- ---- a level's search
 
--- the page that a search tells of, by its flag alone: the number beside a false flag is never read
-pub page_in_lem : (r : Search) → r.found ≡ true → page_in r ≡ some r.page
+-- what an answer tells: a page, or that there is none
+pub page_in_lem : (r : Search) {p : ℕ} → r.page ≡ Some p → page_in r ≡ some p
 page_in_lem r e = rw e refl
 
-pub none_in : (r : Search) → r.found ≡ false → page_in r ≡ none
+pub none_in : (r : Search) → r.page ≡ None → page_in r ≡ none
 none_in r e = rw e refl
+
+-- and by its test
+pub some_of : {A : Type 0} (o : code.Option A) → is_some o ≡ true → (x : A) × (o ≡ Some x)
+some_of None e = let z : ◌≡◌ {A = ℕ} 0 1 = cc in absurd (omega arith)
+some_of (Some x) e = (x, refl)
+
+pub none_of : {A : Type 0} (o : code.Option A) → is_some o ≡ false → o ≡ None
+none_of None e = refl
+none_of (Some x) e = let z : ◌≡◌ {A = ℕ} 0 1 = cc in absurd (omega arith)
 
 pub or_page : (a b : Found) (p : ℕ) → a.page ≡ some p → or_else a b ≡ a
 or_page a b p e = rw e refl
@@ -239,22 +249,24 @@ module _ {board : Board} where
       {f g : ℕ → Record} {first n : ℕ} {row : Row} {r : Search} (s : Levels) (l : ℕ)
       (A : Answers board f first row g n r (pop_from everywhere s (l * 2)))
     where
-      pub level_page : (t : Bool) → r.found ≡ true → Answers board f first row g n r (level_allocate everywhere s l t false)
+      pub level_page : (t : Bool) → is_some r.page ≡ true → Answers board f first row g n r (level_allocate everywhere s l t false)
       unfolding level_allocate
-      level_page t e = rw (or_page (pop_from everywhere s (l * 2)) _ r.page (sym A.found ∙ page_in_lem r e)) A
+      level_page t e =
+          let h = some_of r.page e in
+          rw (or_page (pop_from everywhere s (l * 2)) _ h.0 (sym A.found ∙ page_in_lem r h.1)) A
 
-      none_here : r.found ≡ false → pop_from everywhere s (l * 2) ≡ nothing s
+      none_here : r.page ≡ None → pop_from everywhere s (l * 2) ≡ nothing s
       none_here e = pop_from_nothing s (l * 2) (sym A.found ∙ none_in r e)
 
-      pub level_none : r.found ≡ false → Answers board f first row g n r (level_allocate everywhere s l false false)
+      pub level_none : r.page ≡ None → Answers board f first row g n r (level_allocate everywhere s l false false)
       unfolding level_allocate
       level_none e = rw (or_none_lem (pop_from everywhere s (l * 2)) (nothing s) (sym A.found ∙ none_in r e)) (subst (λ (a : Found). Answers board f first row g n r a) (none_here e) A)
 
-      pub after_none : r.found ≡ false → Becomes board f first row g n r.row s
+      pub after_none : r.page ≡ None → Becomes board f first row g n r.row s
       after_none e = subst (λ (a : Found). Becomes board f first row g n r.row a.levels) (none_here e) A.became
 
       pub level_zeroed
-          : {h : ℕ → Record} {m : ℕ} {r2 : Search} → r.found ≡ false → Answers board g first r.row h m r2 (pop_from everywhere (state_of g r.row) (l * 2 + 1))
+          : {h : ℕ → Record} {m : ℕ} {r2 : Search} → r.page ≡ None → Answers board g first r.row h m r2 (pop_from everywhere (state_of g r.row) (l * 2 + 1))
           → Answers board f first row h m r2 (level_allocate everywhere s l true false)
       unfolding level_allocate
       level_zeroed {h} {m} {r2} e B =

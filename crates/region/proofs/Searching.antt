@@ -4,6 +4,8 @@ use Prim.Native.Nat.{ℕ, suc, ◌+◌, ◌-◌, ◌≤◌, ◌<◌}
 use mathlib.Core.Bool.{Bool, true, false}
 use mathlib.Core.List.{List}
 use mathlib.Core.Option.{Option, none, some}
+use Rattle.std.specs.Prelude as code
+use Rattle.std.specs.Prelude.{Some, None}
 use mathlib.Core.Path.{◌≡◌, refl, sym, ap, ◌∙◌, subst}
 use native.Mathlib.Omega.{arith}
 use lib.ListN.{length}
@@ -13,7 +15,6 @@ use Rattle.definition.specs.declared.Record.{Record}
 use Rattle.definition.specs.declared.Row.{Row}
 use Rattle.words.specs.Words.{InUse, RowBeside, row_of, rows_in}
 use Rattle.words.proofs.Words.{in_use_then, row_beside_same, row_beside_then}
-use Rattle.region.specs.declared.Got.{Got}
 use Rattle.region.specs.Rep.{Answers, Becomes, Rep, SoundRow, Splits, Whole, from_of, page_in, searched, state_of}
 use Rattle.region.proofs.Laws.{rep_state, rep_sound, then, stays, or_page, or_none_lem, page_in_lem, none_in, pop_from_nothing}
 use Rattle.region.proofs.Tiling.{Good, rep_kept, fine_do, splits, parted_page, parted_none}
@@ -97,7 +98,7 @@ module _ (board : Board) where
     pub beside : RowBeside ws i vs
 
   -- the same after a search, with what it found
-  pub record Sought (f : ℕ → Record) (first : ℕ) (ws : List ℕ) (i : ℕ) (g : ℕ → Record) (n : ℕ) (vs : List ℕ) (r : Got) (a : Found) : Type 0 where
+  pub record Sought (f : ℕ → Record) (first : ℕ) (ws : List ℕ) (i : ℕ) (g : ℕ → Record) (n : ℕ) (vs : List ℕ) (r : code.Option ℕ) (a : Found) : Type 0 where
     pub reached : Reached f first ws i g n vs a.levels
     pub found : page_in (searched vs i r) ≡ a.page
 
@@ -127,7 +128,7 @@ module _ {board : Board} where
               }
 
           pub sought
-              : {r : Got} (op : Levels → Found)
+              : {r : code.Option ℕ} (op : Levels → Found)
               → Answers board g first (row_of (rows_in vs) i) h k (searched us i r) (op (state_of g (row_of (rows_in vs) i))) × RowBeside vs i us
               → Sought board f first ws i h k us r (op s)
           sought {r} op c =
@@ -136,17 +137,17 @@ module _ {board : Board} where
                 found = subst (λ (x : Levels). page_in (searched us i r) ≡ (op x).page) (rep_state A.became.rep) c.0.found;
               }
 
-      module _ {r : Got} {a : Found} (A : Sought board f first ws i g m vs r a) where
+      module _ {r : code.Option ℕ} {a : Found} (A : Sought board f first ws i g m vs r a) where
         pub told : Answers board f first (row_of (rows_in ws) i) g m (searched vs i r) a × RowBeside ws i vs
         told = (record { became = A.reached.became; found = A.found }, A.reached.beside)
 
-        pub some_told : r.found ≡ true → a.page ≡ some r.page
+        pub some_told : {p : ℕ} → r ≡ Some p → a.page ≡ some p
         some_told e = sym A.found ∙ page_in_lem (searched vs i r) e
 
-        pub none_told : r.found ≡ false → a.page ≡ none
+        pub none_told : r ≡ None → a.page ≡ none
         none_told e = sym A.found ∙ none_in (searched vs i r) e
 
       -- a level that has none leaves all as it was
-      pub none_here : (w : Wanted) (s : Levels) {r : Got} → Sought board f first ws i g m vs r (here w s) → r.found ≡ false → Reached board f first ws i g m vs s
+      pub none_here : (w : Wanted) (s : Levels) {r : code.Option ℕ} → Sought board f first ws i g m vs r (here w s) → r ≡ None → Reached board f first ws i g m vs s
       none_here w s A e =
           subst (λ (a : Found). Reached board f first ws i g m vs a.levels) (level_nothing s w.level w.try_zero w.only_zero (none_told A e)) A.reached

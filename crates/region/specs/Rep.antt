@@ -2,6 +2,8 @@
 -- `Rep` ties the two, `Whole` says that the frames tile the region and that each free one is listed; both are what a call finds once the
 -- audit has passed. The post-conditions `Becomes` and `Answers` fix every record of the region and its row, and leave all other records as they were.
 use Rattle.std.specs.Prelude.{ℕ, ◌+◌, ◌-◌, ◌*◌, ◌/◌, ◌%◌, ◌≤◌, ◌<◌, ◌^◌, Bool, true, false, cond, List, [], ◌∷◌, ◌≡◌, ◌≢◌, get_or, length, replicate}
+use Rattle.std.specs.Prelude as code
+use Rattle.std.specs.Prelude.{Some, None}
 use Rattle.std.proofs.Math.Option.{Option, none, some}
 use Rattle.address.specs.declared.PhysAddr.{PhysAddr}
 use Rattle.definition.specs.declared.Record.{Record}
@@ -15,9 +17,6 @@ use Rattle.definition.specs.World.{record_at, no_links, pages_of, frame_of, mark
 use Rattle.record.specs.Records.{cleared, pages_in}
 use Rattle.words.specs.Words.{InUse, RowBeside, row_of, rows_in}
 use Rattle.list.specs.Linked.{All, Out, In, Linked}
-use Rattle.region.specs.declared.FoundPage.{FoundPage}
-use Rattle.region.specs.declared.FoundPage.TheVariants.{Nothing, At}
-use Rattle.region.specs.declared.Got.{Got}
 
 unfoldable pub state_of : (ℕ → Record) → Row → Levels
 state_of f row = record { frames = λ q. frame_of (f q); free = λ k. pages_of f (get_or row.lists k no_links) }
@@ -26,23 +25,23 @@ pub record Loose (r : Record) : Type 0 where
   pub earlier : r.earlier ≡ 0
   pub later : r.later ≡ 0
 
-abbrev pub page_of : FoundPage → Option ℕ
-page_of Nothing = none
-page_of (At p) = some p
+-- the code's answer as the definitions have it
+abbrev pub page_of : code.Option ℕ → Option ℕ
+page_of None = none
+page_of (Some p) = some p
 
--- what a search leaves of the row, and what it found
+-- what a search leaves of the row, and the page that it found, if any
 pub record Search : Type 0 where
   pub row : Row
-  pub found : Bool
-  pub page : ℕ
+  pub page : code.Option ℕ
 
 -- the same of a search that leaves the row i in words
-abbrev pub searched : List ℕ → ℕ → Got → Search
-searched ws i r = record { row = row_of (rows_in ws) i; found = r.found; page = r.page }
+abbrev pub searched : List ℕ → ℕ → code.Option ℕ → Search
+searched ws i r = record { row = row_of (rows_in ws) i; page = r }
 
 -- the page of a search, none where it found nothing
 abbrev pub page_in : Search → Option ℕ
-page_in r = cond r.found (some r.page) none
+page_in r = page_of r.page
 
 -- the record of a free frame that is on no list yet
 abbrev pub free_record : (level : ℕ) → (zeroed kernel : Bool) → Record
@@ -201,7 +200,7 @@ module _ (board : Board) where
       Becomes (record_at bytes) first (row_of (rows_in ws) i) (record_at bytes') (pages_in bytes') (row_of (rows_in ws') i) s × RowBeside ws i ws'
 
   -- the same of a search, with what it found
-  abbrev pub FindsAt : (bytes : List ℕ) (first : ℕ) (ws : List ℕ) (i : ℕ) (bytes' ws' : List ℕ) (r : Got) (a : Found) → Type 0
+  abbrev pub FindsAt : (bytes : List ℕ) (first : ℕ) (ws : List ℕ) (i : ℕ) (bytes' ws' : List ℕ) (r : code.Option ℕ) (a : Found) → Type 0
   FindsAt bytes first ws i bytes' ws' r a =
       Answers (record_at bytes) first (row_of (rows_in ws) i) (record_at bytes') (pages_in bytes') (searched ws' i r) a × RowBeside ws i ws'
 
@@ -233,10 +232,10 @@ module _ (bytes : List ℕ) (first : ℕ) (ws : List ℕ) (i : ℕ) where
       (board : Board) × SoundAt board bytes first ws i × Splits board (levels_at bytes ws i) first (row_of (rows_in ws) i).pages page l
 
   module _ (bytes' ws' : List ℕ) where
-    abbrev pub FindsBy : Got → (Levels → Found) → Type 0
+    abbrev pub FindsBy : code.Option ℕ → (Levels → Found) → Type 0
     FindsBy r op = (board : Board) → SoundAt board bytes first ws i → FindsAt board bytes first ws i bytes' ws' r (op (levels_at bytes ws i))
 
-    abbrev pub SeeksBy : Got → (Levels → Found) → Type 0
+    abbrev pub SeeksBy : code.Option ℕ → (Levels → Found) → Type 0
     SeeksBy r op =
         (board : Board) → SoundAt board bytes first ws i → WholeAt board bytes first ws i
         → FindsAt board bytes first ws i bytes' ws' r (op (levels_at bytes ws i))

@@ -7,7 +7,7 @@
 // for some board, and promise the same of every one.
 #![tactic(auto)]
 
-ghost use Rattle.std.specs.Prelude.{false, [], ◌∷◌, ◌≡◌, ℕ, ◌+◌, ◌-◌, ◌*◌, ◌/◌, ◌%◌, ◌≤◌, ◌<◌, ◌^◌};
+ghost use Rattle.std.specs.Prelude.{[], ◌∷◌, ◌≡◌, ℕ, ◌+◌, ◌-◌, ◌*◌, ◌/◌, ◌%◌, ◌≤◌, ◌<◌, ◌^◌};
 ghost use Rattle.definition.specs.Board.{Fit};
 ghost use Rattle.definition.specs.Allocator.{table_pages};
 ghost use Rattle.definition.specs.Basics.{everywhere, upd};
@@ -58,46 +58,17 @@ ghost use Rattle.region.specs.Rep.{
 
 use address::PhysAddr;
 use definition::{Board, Links, Record, Row};
-use list::Popped;
-
-// The page of a frame, or none: Option<FrameRef>.
-#[derive(Clone, Copy)]
-pub enum FoundPage {
-    Nothing,
-    At(usize),
-}
-
-// What a search found: Option<FrameRef> again, in a shape that a caller reads without a branch.
-#[derive(Clone, Copy)]
-pub struct Got {
-    pub found: bool,
-    pub page: usize,
-}
-
-fn nothing() -> Got
-    ensures { result.found ≡ false }
-{
-    Got {
-        found: false,
-        page: 0,
-    }
-}
-
 // pop_back of the list `k`.
-fn pop(records: &mut [u8], first: usize, words: &mut [u64], index: usize, k: usize) -> Got
+fn pop(records: &mut [u8], first: usize, words: &mut [u64], index: usize, k: usize) -> Option<usize>
     requires sound_some { SoundSome records.old first words.old index }
     requires k_bound { k < 6 }
     ensures { FindsBy records.old first words.old index records.new words.new result
         (λ s. pop_from everywhere s k) }
 {
     let l = words::list_at(words, index, k);
-    match list::pop_back(records, l) {
-        Popped::Empty => nothing(),
-        Popped::Page(page, rest) => {
-            words::put_list(words, index, k, rest);
-            Got { found: true, page }
-        }
-    }
+    let (page, rest) = list::pop_back(records, l)?;
+    words::put_list(words, index, k, rest);
+    Some(page)
 }
 
 // The number of a level's list, dirty or zeroed.
@@ -117,7 +88,7 @@ fn level_allocate(
     level: usize,
     try_zero: bool,
     only_zero: bool,
-) -> Got
+) -> Option<usize>
     requires sound_some { SoundSome records.old first words.old index }
     requires level_bound { level < 3 }
     ensures { FindsBy records.old first words.old index records.new words.new result
@@ -127,10 +98,7 @@ fn level_allocate(
         return pop(records, first, words, index, level * 2 + 1);
     }
     let dirty = pop(records, first, words, index, level * 2);
-    if dirty.found {
-        return dirty;
-    }
-    if try_zero {
+    if dirty.is_none() && try_zero {
         return pop(records, first, words, index, level * 2 + 1);
     }
     dirty
@@ -210,10 +178,8 @@ fn split(
     let step = level::pages_at(level);
     let k = slot(level, zeroed);
     let mut l = words::list_at(words, index, k);
-    let mut i: usize = 0;
-    while i < 511 {
-        l = admit(records, l, page + (i + 1) * step, level, zeroed, false);
-        i += 1;
+    for i in 1..512 {
+        l = admit(records, l, page + i * step, level, zeroed, false);
     }
     let all = admit(records, l, page, level, zeroed, false);
     words::put_list(words, index, k, all);
@@ -228,23 +194,20 @@ pub fn do_allocate(
     level: usize,
     try_zero: bool,
     only_zero: bool,
-) -> Got
+) -> Option<usize>
     requires { WholeSome records.old first words.old index }
     ensures { SeeksBy records.old first words.old index records.new words.new result
         (λ s. do_allocate everywhere (3 - level) level s try_zero only_zero) }
 {
     if 3 <= level {
-        return nothing();
+        return None;
     }
     let here = level_allocate(records, first, words, index, level, try_zero, only_zero);
-    if here.found {
+    if here.is_some() {
         return here;
     }
-    let up = do_allocate(records, first, words, index, level + 1, try_zero, only_zero);
-    if !up.found {
-        return up;
-    }
-    split(records, first, words, index, up.page, level);
+    let page = do_allocate(records, first, words, index, level + 1, try_zero, only_zero)?;
+    split(records, first, words, index, page, level);
     level_allocate(records, first, words, index, level, try_zero, only_zero)
 }
 
@@ -258,22 +221,18 @@ pub fn allocate(
     level: usize,
     try_zero: bool,
     only_zero: bool,
-) -> Got
+) -> Option<usize>
     requires sound_at { SoundAt board records.old first words.old index }
     requires whole_at { (WholeAt board records.old first words.old index) × (level < 3) }
     ensures finds_at { FindsAt board records.old first words.old index records.new words.new result
         (allocate_def everywhere level (levels_at records.old words.old index) try_zero only_zero) }
     ensures whole_at_2 { WholeAt board records.new first words.new index }
 {
-    let got = do_allocate(records, first, words, index, level, try_zero, only_zero);
-    if !got.found {
-        return got;
-    }
-    let page = got.page;
+    let page = do_allocate(records, first, words, index, level, try_zero, only_zero)?;
     let marks = record::marks(records, page);
     let held = record::set_allocated(marks);
     record::set_marks(records, page, held);
-    got
+    Some(page)
 }
 
 // AllocationRegion::free and AllocationRegionLevel::free, frame.rs 166 and 97: clears ALLOCATED only, and puts the frame on the back of its
@@ -347,12 +306,9 @@ pub fn split_and_keep(board: Board, records: &mut [u8], first: usize, row: Row, 
         earlier: 0,
         later: 0,
     };
-    let mut i: usize = 0;
-    while i < 511 {
-        record::store(records, page + (i + 1) * step, child);
-        i += 1;
+    for i in 0..512 {
+        record::store(records, page + i * step, child);
     }
-    record::store(records, page, child);
 }
 
 // "Organize into levels", frame.rs 308: frames over `count` pages that have none, from the page frame number `from` on.
@@ -387,25 +343,17 @@ pub fn table_pages(board: Board, pages: usize) -> usize
     requires pages_bound { pages ≤ 2 ^ 32 }
     ensures { result ≡ table_pages board pages }
 {
-    let page = board.page;
-    let bytes = board.record_bytes;
-    (bytes * pages + (page - 1)) / page
+    (board.record_bytes * pages).div_ceil(board.page)
 }
 
 // A row with no frames.
 pub fn empty_row(start: PhysAddr, pages: usize) -> Row
     ensures { result ≡ empty_row start pages }
 {
-    let none = Links {
-        front: 0,
-        back: 0,
-        count: 0,
-    };
-    let lists = [none; 6];
     Row {
         start,
         pages,
-        lists,
+        lists: [list::EMPTY; 6],
     }
 }
 
@@ -434,7 +382,7 @@ pub fn new(board: Board, records: &mut [u8], first: usize, start: PhysAddr, page
 }
 
 // FrameIndexer::get_frame, frame.rs 669: the page of an address, where the region manages it.
-pub fn get_frame(board: Board, row: Row, first: usize, pa: PhysAddr) -> FoundPage
+pub fn get_frame(board: Board, row: Row, first: usize, pa: PhysAddr) -> Option<usize>
     requires fit { Fit board }
     requires pages_bound { (row.pages ≤ 2 ^ 32) × (first + managed board row.pages < 2 ^ 64) }
     ensures { page_of result ≡ lookup board row first (pa.0 / board.page) }
@@ -443,15 +391,11 @@ pub fn get_frame(board: Board, row: Row, first: usize, pa: PhysAddr) -> FoundPag
     let number = pa.page_number(size);
     let begin = row.start;
     let start = begin.page_number(size);
-    let pages = row.pages;
-    let from = start + table_pages(board, pages);
-    if number < from {
-        return FoundPage::Nothing;
+    let from = start + table_pages(board, row.pages);
+    if !(from..start + row.pages).contains(&number) {
+        return None;
     }
-    if start + pages <= number {
-        return FoundPage::Nothing;
-    }
-    FoundPage::At(first + (number - from))
+    Some(first + (number - from))
 }
 
 // Frame::start_address, frame.rs 414: the first address of a page of the region.

@@ -4,6 +4,7 @@ use mathlib.Core.Bool.{false}
 use mathlib.Core.Path.{◌≡◌, sym, subst}
 use native.Mathlib.Omega.{arith}
 use Rattle.definition.specs.World.{record_at}
+use Rattle.region.proofs.Laws.{none_of, some_of}
 use Rattle.record.specs.Records.{pages_in}
 use Rattle.words.specs.Words.{board_in, rows_in}
 use Rattle.words.proofs.Words.{board_beside, rows_beside_then}
@@ -12,10 +13,10 @@ use Rattle.allocator.specs.Spots.{Picked, PicksBy, pass_by}
 use Rattle.allocator.proofs.TwoPasses.{picks_first, picks_second, second_asks}
 use Rattle.allocator.proofs.do_alloc.Goals as goal
 
-pub returns-then-picked : goal.returns-then-picked
-returns-then-picked c =
+pub returns-then-is_some : goal.returns-then-is_some
+returns-then-is_some c =
     let a = c.args in record {
-      picks_in = picks_first a.level a.needs_zero c.pass-picked.ensures.picks_in c.if-picked.true;
+      picks_in = picks_first a.level a.needs_zero c.pass-picked.ensures.picks_in (some_of _ (sym c.if-is_some.ensures)).1;
       rows_beside = c.pass-picked.ensures.rows_beside;
     }
 
@@ -36,7 +37,7 @@ returns c =
     let d = c.pass-picked in
     let u = c.pass in
     let e : pages_in d.new.records ≡ pages_in u.new.records = omega (arith, d.auto.records, u.auto.records) in
-    let left : Picked = record { rows = rows_in d.new.words; found = d.result.found; spot = d.result.spot } in
+    let left : Picked = record { rows = rows_in d.new.words; spot = d.result } in
     let P =
     subst
     (λ (n : ℕ).
@@ -46,6 +47,6 @@ returns c =
     d.ensures.picks_in
     in
     let Q = rw (board_beside d.ensures.rows_beside.beside) at u.ensures.picks_in in record {
-      picks_in = picks_second a.level a.needs_zero P c.if-picked.false Q;
+      picks_in = picks_second a.level a.needs_zero P (none_of _ (sym c.if-is_some.ensures)) Q;
       rows_beside = rows_beside_then d.ensures.rows_beside u.ensures.rows_beside;
     }

@@ -1,5 +1,4 @@
 -- `is_listed` meets its contract. The loop's invariant: some region lists a frame of the level or above exactly if one of those that are left does.
-use Prim.Native.Nat.{◌-◌}
 use Rattle.definition.specs.World.{record_at}
 use Rattle.record.specs.Records.{pages_in}
 use Rattle.words.specs.Words.{board_in, rows_in}
@@ -9,6 +8,3 @@ use Rattle.allocator.proofs.is_listed.Given as goal
 
 abbrev pub invariant-loop-i : goal.invariant-loop-i
 invariant-loop-i l = Onward (board_in l.words) (record_at l.records) (pages_in l.records) (rows_in l.words) (lists_in l.level) l.i
-
-abbrev pub decreases-loop-i : goal.decreases-loop-i
-decreases-loop-i l = 8 - l.i

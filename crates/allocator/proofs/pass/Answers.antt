@@ -30,7 +30,7 @@ pub returns-then-pages-eq0 : goal.returns-then-pages-eq0
 returns-then-pages-eq0 c =
     let I = c.loop-i.invariant in
     let z = rw (pages_are (goal.at.returns-then-pages-eq0 c).After-pages_at-pages) at c.if-pages-eq0.true in record {
-      picks_in = gone_all I.gone (gone_past I.gone z) I.rows c.nothing_picked.ensures;
+      picks_in = gone_all I.gone (gone_past I.gone z) I.rows;
       rows_beside = I.rest;
     }
 
@@ -58,15 +58,15 @@ allocate-got-requires c =
       whole_at = (g.whole, I.gone.few);
     }
 
-pub returns-then-got : goal.returns-then-got
-returns-then-got c =
-    let e = (goal.at.returns-then-got c).Else-pages-eq0 in
+pub returns-in-Some : goal.returns-in-Some
+returns-in-Some c =
+    let e = (goal.at.returns-in-Some c).Else-pages-eq0 in
     let I = c.loop-i.invariant in
     let A = rw (I.rows, board_is e) at c.allocate-got.ensures.finds_at in
     let W = rw (board_is e) at c.allocate-got.ensures.whole_at_2 in
     let B = A.1 in
     let m = c.allocate-got.auto.records in record {
-      picks_in = rw (B.rows, I.rows) (gone_found I.gone (used e) A.0 (omega (arith, m)) W c.if-got.true);
+      picks_in = rw (B.rows, I.rows) (gone_found I.gone (used e) A.0 (omega (arith, m)) W c.in-Some.is);
       rows_beside = rows_beside_then I.rest B.rest;
     }
 
@@ -97,21 +97,20 @@ unfolding managed
 loop-i-preserved c =
     let e = (goal.at.loop-i-preserved c).Else-pages-eq0 in
     let I = c.loop-i.invariant in
-    let A = rw (I.rows, board_is e) at c.allocate-got.ensures.finds_at in
+    let A = rw (I.rows, board_is e) at c.in_default.ensures.finds_at in
     let B = A.1 in
     let m = c.allocate-got.auto.records in
-    let n = c.if-got.false in
     record {
-      rows = rw (B.rows, I.rows) (gone_row I.gone (used e) A.0 (omega (arith, m)) n);
+      rows = rw (B.rows, I.rows) (gone_row I.gone (used e) A.0 (omega (arith, m)) refl);
       rest = rows_beside_then I.rest B.rest;
       wide = omega (arith, I.wide, c.allocate-got.auto.words);
       long = omega (arith, I.long, m);
-      gone = rw (c.table_pages.ensures, pages_are (goal.at.loop-i-preserved c).After-pages_at-pages, board_is e) (gone_on I.gone (used e) A.0 (omega (arith, m)) n);
+      gone = rw (c.table_pages.ensures, pages_are (goal.at.loop-i-preserved c).After-pages_at-pages, board_is e) (gone_on I.gone (used e) A.0 (omega (arith, m)) refl);
     }
 
 pub returns : goal.returns
 returns c =
     let I = c.loop-i.invariant in record {
-      picks_in = gone_all I.gone (gone_eight I.gone (omega arith)) I.rows c.nothing_picked-2.ensures;
+      picks_in = gone_all I.gone (gone_eight I.gone (omega arith)) I.rows;
       rows_beside = I.rest;
     }

@@ -10,14 +10,15 @@ use Rattle.words.proofs.Words.{fit_in}
 use Rattle.allocator.proofs.Arrays.{row_last, row_eighth}
 use Rattle.allocator.proofs.Seeing.{looking_none, Here, here, nothing_left, not_here, found_inside, found_here}
 use Rattle.allocator.proofs.see.Goals as goal
-use Rattle.allocator.proofs.see.Goals.{Else-row-eq0, In-At}
+use Rattle.allocator.proofs.see.Goals.{Else-row-eq0, In-Some}
 
 pub loop-i-init : goal.loop-i-init
 loop-i-init c = looking_none
 
 pub returns-then-row-eq0 : goal.returns-then-row-eq0
 returns-then-row-eq0 c =
-    nothing_left c.loop-i.invariant (row_last c.requires.1 c.loop-i.i c.loop-i.invariant.onward.used (rw c.row_at-row.ensures at c.if-row-eq0.true))
+    nothing_left c.loop-i.invariant
+    (row_last c.requires.1 c.loop-i.i c.loop-i.invariant.onward.used (rw c.row_at-row.ensures at c.if-row-eq0.true))
 
 -- the row of a turn
 turn
@@ -38,32 +39,29 @@ get_frame-requires c =
     }
 
 -- the page has a record
-inside : (c : In-At) → c.in-At.page < pages_in c.args.records.now
+inside : (c : In-Some) → c.in-Some.page < pages_in c.args.records.now
 inside c =
-    let e = (goal.at.In-At c).Else-row-eq0 in
-    let g = c.get_frame in
-    found_inside c.loop-i.invariant (turn e) g.result (rw (c.row_at-row.ensures, board_is e) at g.ensures) c.in-At.page c.in-At.is
+    let e = (goal.at.In-Some c).Else-row-eq0 in
+    found_inside c.loop-i.invariant (turn e) c.in-Some.page (rw (c.row_at-row.ensures, board_is e) at c.in-Some.ensures)
 
 pub marks-requires : goal.marks-requires
 marks-requires c = inside c
 
 pub level-requires : goal.level-requires
-level-requires c = inside (goal.at.level-requires c).In-At
+level-requires c = inside (goal.at.level-requires c).In-Some
 
-pub returns-in-At : goal.returns-in-At
-returns-in-At c =
-    let e = (goal.at.returns-in-At c).Else-row-eq0 in
-    let g = c.get_frame in
-    found_here c.loop-i.invariant (turn e) g.result (rw (c.row_at-row.ensures, board_is e) at g.ensures) c.in-At.page c.in-At.is
+pub returns-in-Some : goal.returns-in-Some
+returns-in-Some c =
+    let e = (goal.at.returns-in-Some c).Else-row-eq0 in
+    found_here c.loop-i.invariant (turn e) c.in-Some.page (rw (c.row_at-row.ensures, board_is e) at c.in-Some.ensures)
     c.marks.result c.level.result c.marks.ensures c.level.ensures
 
 pub loop-i-preserved : goal.loop-i-preserved
 unfolding managed
 loop-i-preserved c =
     let e = (goal.at.loop-i-preserved c).Else-row-eq0 in
-    let g = c.get_frame in
     rw (c.table_pages.ensures, c.row_at-row.ensures, board_is e)
-    (not_here c.loop-i.invariant (turn e) g.result (rw (c.row_at-row.ensures, board_is e) at g.ensures) c.in-Nothing.is)
+    (not_here c.loop-i.invariant (turn e) (rw (c.row_at-row.ensures, board_is e) at c.in_default.ensures))
 
 pub table_pages-requires : goal.table_pages-requires
 table_pages-requires c =

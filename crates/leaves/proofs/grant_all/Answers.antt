@@ -24,14 +24,8 @@ allocate-got-requires c =
       whole_at = (v.whole, c.requires.whole_at.1);
     }
 
-pub shape_of-records-then-not-got : goal.shape_of-records-then-not-got
-shape_of-records-then-not-got c = omega arith
-
-pub shape_of-words-then-not-got : goal.shape_of-words-then-not-got
-shape_of-words-then-not-got c = omega arith
-
-pub returns-then-not-got : goal.returns-then-not-got
-returns-then-not-got c = omega arith
+pub returns-then-is_none : goal.returns-then-is_none
+returns-then-is_none c = omega arith
 
 pub overflow_add-i : goal.overflow_add-i
 overflow_add-i c = omega arith

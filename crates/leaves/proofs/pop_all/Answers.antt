@@ -10,14 +10,8 @@ loop-i-init c = record { left = omega (arith, c.requires.count_value); same = re
 pub pop_back-requires : goal.pop_back-requires
 pop_back-requires c = c.loop-i.invariant.sound
 
-pub shape_of-records-in-Empty : goal.shape_of-records-in-Empty
-shape_of-records-in-Empty c = omega arith
-
-pub returns-in-Empty : goal.returns-in-Empty
-returns-in-Empty c =
-    let k = c.loop-i in
-    let e = c.in-Empty.ensures in
-    omega (arith, count_none k.invariant.sound e.0)
+pub returns-in_default : goal.returns-in_default
+returns-in_default c = omega (arith, count_none c.loop-i.invariant.sound c.in_default.ensures.0)
 
 pub overflow_add-i : goal.overflow_add-i
 overflow_add-i c = omega arith
@@ -28,7 +22,7 @@ loop-i-smaller c = omega arith
 pub loop-i-preserved : goal.loop-i-preserved
 loop-i-preserved c =
     let k = c.loop-i in
-    let e = c.in-Page.ensures in
+    let e = c.in-Some.ensures in
     record {
       left = omega (arith, count_less k.invariant.sound e);
       same = omega (arith, c.pop_back.auto.records);

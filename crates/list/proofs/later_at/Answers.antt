@@ -1,15 +1,17 @@
 -- `list::later_at` meets its contract: where the neighbour is none, nothing changes.
+use native.Mathlib.Omega.{arith}
 use borrow.Author.Tests.{eq-eqb, ne_eqb}
 use Rattle.list.specs.Linked.{upd_neighbour}
 use Rattle.list.proofs.later_at.Goals as goal
 
 pub set_later-requires : goal.set_later-requires
-set_later-requires c = c.requires c.if-c-ne0.true
+set_later-requires c = rw c.in-Some.ensures.1 (c.requires (omega (arith, c.in-Some.ensures)))
 
-pub returns-then-c-ne0 : goal.returns-then-c-ne0
+pub returns-in-Some : goal.returns-in-Some
 unfolding upd_neighbour
-returns-then-c-ne0 c = rw (ne_eqb _ _ c.if-c-ne0.true) c.set_later.ensures.records
+returns-in-Some c =
+    rw (ne_eqb c.args.c 0 (omega (arith, c.in-Some.ensures)), ← c.in-Some.ensures.1) c.set_later.ensures.records
 
-pub returns-else-c-ne0 : goal.returns-else-c-ne0
+pub returns-in_default : goal.returns-in_default
 unfolding upd_neighbour
-returns-else-c-ne0 c = rw (eq-eqb _ _ c.if-c-ne0.false)
+returns-in_default c = rw (eq-eqb c.args.c 0 (omega (arith, c.in_default.ensures)))

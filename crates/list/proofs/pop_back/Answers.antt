@@ -5,17 +5,18 @@ use Rattle.list.proofs.Laws.{empty, back_in}
 use Rattle.list.proofs.Removal.{taken}
 use Rattle.list.proofs.pop_back.Goals as goal
 
-pub returns-then-last-eq0 : goal.returns-then-last-eq0
-returns-then-last-eq0 c = (empty _ c.requires (omega arith), refl)
+pub returns-in_err-page : goal.returns-in_err-page
+returns-in_err-page c = rw c.from_residual.ensures (empty _ c.requires (omega (arith, c.in_err-page.ensures)), refl)
 
 pub remove-requires : goal.remove-requires
 remove-requires c =
     record {
       sound = c.requires;
-      fact = back_in c.requires (omega arith);
+      fact = rw c.in_ok-page.ensures.1 (back_in c.requires (omega (arith, c.in_ok-page.ensures)));
     }
 
 pub returns : goal.returns
 returns c =
     let m = c.remove in
-    rw m.auto.records (taken c.requires (omega arith) (rw m.auto.records at m.ensures))
+    let e = c.in_ok-page.ensures.1 in
+    rw (m.auto.records, e) (taken c.requires (omega (arith, c.in_ok-page.ensures)) (rw (m.auto.records, e) at m.ensures))

@@ -1,6 +1,5 @@
 -- The frame that was found has ALLOCATED set, and the region stays whole.
 use mathlib.Core.Option.{none}
-use borrow.Author.Tests.{not-true, not-false}
 use Rattle.definition.specs.Basics.{everywhere}
 use Rattle.definition.specs.Frame.{Found, allocate}
 use Rattle.definition.specs.World.{record_at}
@@ -12,7 +11,7 @@ use Rattle.region.proofs.Keeping.{row_whole, whole_allocate}
 use Rattle.region.proofs.Tiling.{rep_kept}
 use Rattle.region.proofs.Granting.{Grants, not_granted, grants}
 use Rattle.region.proofs.allocate.Goals as goal
-use Rattle.region.proofs.allocate.Goals.{Else-not-got, Start}
+use Rattle.region.proofs.allocate.Goals.{In_ok-page, Start}
 
 abbrev row : Start → Row
 row s = row_of (rows_in s.args.words.now) s.args.index
@@ -24,36 +23,38 @@ whole : (s : Start) → Whole s.args.board (answer s).levels none (from_of s.arg
 whole s = whole_allocate s.args.level s.args.try_zero s.args.only_zero (rep_kept s.requires.sound_at.1) s.requires.whole_at.0 s.requires.whole_at.1
 
 granted
-    : (c : Else-not-got) → let e = c.do_allocate-got.new in
-    Grants c.args.board (record_at c.args.records.now) c.args.first (row (goal.at.Else-not-got c).Start) (record_at e.records) (pages_in e.records) (searched e.words c.args.index c.do_allocate-got.result) (answer (goal.at.Else-not-got c).Start)
+    : (c : In_ok-page) → let e = c.do_allocate.new in
+    Grants c.args.board (record_at c.args.records.now) c.args.first (row (goal.at.In_ok-page c).Start) (record_at e.records) (pages_in e.records)
+    (searched e.words c.args.index c.do_allocate.result) c.in_ok-page.page (answer (goal.at.In_ok-page c).Start)
 granted c =
-    grants c.args.try_zero c.args.only_zero c.requires.sound_at.1 c.requires.whole_at.0 c.requires.whole_at.1 (c.do_allocate-got.ensures c.args.board c.requires.sound_at c.requires.whole_at.0).0 (not-false _ c.if-not-got.false)
+    grants c.args.try_zero c.args.only_zero c.requires.sound_at.1 c.requires.whole_at.0 c.requires.whole_at.1 (c.do_allocate.ensures c.args.board c.requires.sound_at c.requires.whole_at.0).0 c.in_ok-page.was
 
-pub do_allocate-got-requires : goal.do_allocate-got-requires
-do_allocate-got-requires c = (c.args.board, c.requires.sound_at, c.requires.whole_at.0)
+pub do_allocate-requires : goal.do_allocate-requires
+do_allocate-requires c = (c.args.board, c.requires.sound_at, c.requires.whole_at.0)
 
-pub returns-then-not-got : goal.returns-then-not-got
-returns-then-not-got c =
-    let e = c.do_allocate-got.ensures c.args.board c.requires.sound_at c.requires.whole_at.0 in
-    let g = not_granted c.args.try_zero c.args.only_zero c.requires.sound_at.1 c.requires.whole_at.0 c.requires.whole_at.1 e.0 (not-true _ c.if-not-got.true) in record {
+pub returns-in_err-page : goal.returns-in_err-page
+returns-in_err-page c =
+    let e = c.do_allocate.ensures c.args.board c.requires.sound_at c.requires.whole_at.0 in
+    let g = not_granted c.args.try_zero c.args.only_zero c.requires.sound_at.1 c.requires.whole_at.0 c.requires.whole_at.1 e.0 c.in_err-page.was in
+    rw (c.from_residual.ensures, ← c.in_err-page.was) record {
       finds_at = (g, e.1);
-      whole_at_2 = row_whole g.became (whole (goal.at.returns-then-not-got c).Start);
+      whole_at_2 = row_whole g.became (whole (goal.at.returns-in_err-page c).Start);
     }
 
 pub marks-marks-requires : goal.marks-marks-requires
-marks-marks-requires c = (granted (goal.at.marks-marks-requires c).Else-not-got).inside
+marks-marks-requires c = (granted (goal.at.marks-marks-requires c).In_ok-page).inside
 
 pub set_allocated-held-requires : goal.set_allocated-held-requires
-set_allocated-held-requires c = rw c.marks-marks.ensures (granted (goal.at.set_allocated-held-requires c).Else-not-got).free
+set_allocated-held-requires c = rw c.marks-marks.ensures (granted (goal.at.set_allocated-held-requires c).In_ok-page).free
 
 pub set_marks-requires : goal.set_marks-requires
-set_marks-requires c = (granted (goal.at.set_marks-requires c).Else-not-got).inside
+set_marks-requires c = (granted (goal.at.set_marks-requires c).In_ok-page).inside
 
 pub returns : goal.returns
 returns c =
     let m = c.set_marks in
-    let g = (granted (goal.at.returns c).Else-not-got).answers in
-    rw (m.ensures.records, m.auto.records, c.set_allocated-held.ensures, c.marks-marks.ensures) record {
-      finds_at = (g, (c.do_allocate-got.ensures c.args.board c.requires.sound_at c.requires.whole_at.0).1);
+    let g = (granted (goal.at.returns c).In_ok-page).answers in
+    rw (← c.in_ok-page.was, m.ensures.records, m.auto.records, c.set_allocated-held.ensures, c.marks-marks.ensures) record {
+      finds_at = (g, (c.do_allocate.ensures c.args.board c.requires.sound_at c.requires.whole_at.0).1);
       whole_at_2 = row_whole g.became (whole (goal.at.returns c).Start);
     }

@@ -1,8 +1,12 @@
--- The three ways out are the three cases of the definition's test.
+-- The two ways out are the two cases of the definition's test.
+use Prim.Native.Nat.{◌+◌, ◌≤◌, ◌<◌}
 use mathlib.Core.Path.{sym}
+use native.Mathlib.Decide.{dec_le}
 use native.Mathlib.Omega.{arith}
+use Rattle.std.proofs.lemmas.Bool.Decides.{nat_tests}
 use Rattle.region.proofs.Addresses.{lookup_below, lookup_past, lookup_in, lookup_fits, number_few, page_some, tables_few}
 use Rattle.region.proofs.get_frame.Goals as goal
+use Rattle.region.proofs.get_frame.Goals.{Else-not-contains, Then-not-contains}
 
 pub page_number-number-requires : goal.page_number-number-requires
 page_number-number-requires c = page_some c.requires.fit
@@ -14,34 +18,45 @@ pub overflow_add-from : goal.overflow_add-from
 overflow_add-from c =
     omega (arith, c.page_number-start.ensures, c.table_pages.ensures, number_few c.requires.fit c.args.row.start.0 (omega arith), tables_few c.requires.fit c.args.row.pages c.requires.pages_bound.0)
 
-pub returns-then-number-from : goal.returns-then-number-from
-returns-then-number-from c =
-    let n = c.page_number-number.ensures in
-    let b = c.page_number-start.ensures in
-    let t = c.table_pages.ensures in
-    sym (lookup_below c.args.board c.args.row c.args.first n b t c.if-number-from.true)
-
 pub overflow_add-start : goal.overflow_add-start
 overflow_add-start c =
     omega (arith, c.page_number-start.ensures, number_few c.requires.fit c.args.row.start.0 (omega arith), c.requires.pages_bound.0)
 
-pub returns-then-start-pages : goal.returns-then-start-pages
-returns-then-start-pages c =
+-- the page frame number is one that the region manages
+within
+    : (c : Else-not-contains)
+    → (c.page_number-start.result + c.table_pages.result ≤ c.page_number-number.result)
+    × (c.page_number-number.result < c.page_number-start.result + c.args.row.pages)
+within c = grind (arith, nat_tests)
+
+-- it is below those, where it is not past them
+below
+    : (c : Then-not-contains) → (c.page_number-start.result + c.args.row.pages ≤ c.page_number-number.result → ⊥)
+    → c.page_number-number.result < c.page_number-start.result + c.table_pages.result
+below c h = grind (arith, nat_tests)
+
+pub returns-then-not-contains : goal.returns-then-not-contains
+returns-then-not-contains c =
     let n = c.page_number-number.ensures in
     let b = c.page_number-start.ensures in
     let t = c.table_pages.ensures in
-    sym (lookup_past c.args.board c.args.row c.args.first n b t c.if-start-pages.true)
+    elim (dec_le (c.page_number-start.result + c.args.row.pages) c.page_number-number.result) [
+      | yes h ↦ sym (lookup_past c.args.board c.args.row c.args.first n b t h)
+      | no h ↦ sym (lookup_below c.args.board c.args.row c.args.first n b t (below c h))
+    ]
 
 pub overflow_add-result : goal.overflow_add-result
 overflow_add-result c =
     let n = c.page_number-number.ensures in
     let b = c.page_number-start.ensures in
     let t = c.table_pages.ensures in
-    omega (arith, lookup_fits c.args.board c.args.row c.args.first n b t c.if-number-from.false c.if-start-pages.false, c.requires.pages_bound.1)
+    let w = within (goal.at.overflow_add-result c).Else-not-contains in
+    omega (arith, lookup_fits c.args.board c.args.row c.args.first n b t w.0 w.1, c.requires.pages_bound.1)
 
 pub returns : goal.returns
 returns c =
     let n = c.page_number-number.ensures in
     let b = c.page_number-start.ensures in
     let t = c.table_pages.ensures in
-    sym (lookup_in c.args.board c.args.row c.args.first n b t c.if-number-from.false c.if-start-pages.false)
+    let w = within (goal.at.returns c).Else-not-contains in
+    sym (lookup_in c.args.board c.args.row c.args.first n b t w.0 w.1)

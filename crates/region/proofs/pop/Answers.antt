@@ -12,16 +12,16 @@ pub pop_back-requires : goal.pop_back-requires
 pop_back-requires c =
     rw c.list_at-l.ensures (linked_sound (c.requires.sound_some.1.1.lists _ c.requires.k_bound))
 
-pub returns-in-Empty : goal.returns-in-Empty
-returns-in-Empty c =
+pub returns-in_err-page : goal.returns-in_err-page
+returns-in_err-page c =
     let d = c.pop_back in
-    let e = rw c.list_at-l.ensures at c.in-Empty.ensures in
-    λ board S. (rw (e.1, d.auto.records) (pop_nothing S.1 c.requires.k_bound c.nothing.ensures e.0), row_beside_same)
+    let e = rw c.list_at-l.ensures at c.in_err-page.ensures in
+    λ board S. (rw (c.from_residual.ensures, e.1, d.auto.records) (pop_nothing S.1 c.requires.k_bound e.0), row_beside_same)
 
-pub returns-in-Page : goal.returns-in-Page
-returns-in-Page c =
+pub returns : goal.returns
+returns c =
     let w = c.put_list in
-    let v = c.in-Page in
+    let v = c.in_ok-page in
     let a = c.args in
     let t : Taken (record_at a.records.now) (list_in (row_of (rows_in a.words.now) a.index) a.k) v.page (record_at c.pop_back.new.records) (pages_in a.records.now) v.rest =
     rw (c.pop_back.auto.records, c.list_at-l.ensures) at v.ensures in

@@ -1,12 +1,12 @@
--- The loop has pushed the children 1 to i on their list, which is out of the row; the push after it is child 0's, and then the list is written back.
-use Prim.Native.Nat.{ℕ, suc, ◌+◌, ◌*◌, ◌<◌, ◌^◌}
+-- The loop has pushed the children before i on their list, which is out of the row; the push after it is child 0's, and then the list is written back.
+use Prim.Native.Nat.{ℕ, suc, ◌+◌, ◌-◌, ◌*◌, ◌<◌, ◌^◌}
 use mathlib.Core.Bool.{true, false}
 use mathlib.Core.Path.{◌≡◌, refl, sym, subst, ◌∙◌}
-use native.Mathlib.Numerals.{add-one}
 use native.Mathlib.Omega.{arith}
-use Rattle.definition.specs.Frame.{children, slot}
+use Rattle.definition.specs.Frame.{children, size, slot}
 use Rattle.definition.specs.World.{record_at}
 use Rattle.words.specs.Words.{row_of, rows_in}
+use Rattle.list.specs.Linked.{Out}
 use Rattle.region.specs.Rep.{state_of}
 use Rattle.region.proofs.Laws.{taken_out, out_asks, out_next}
 use Rattle.region.proofs.Splitting.{zeroed_mark, child_inside, page_inside, child_out, page_out, split_is}
@@ -27,7 +27,6 @@ unfolding children
 loop-i-init c =
     let z = c.is_zeroed-zeroed.result in
     record {
-      some = omega arith;
       same = refl;
       became = λ board R S. rw (c.list_at-l.ensures, c.slot-k.ensures.0) (taken_out (slot c.args.level z) R);
     }
@@ -35,14 +34,15 @@ loop-i-init c =
 a_list : (c : At-loop-i) → slot c.args.level c.is_zeroed-zeroed.result < 6
 a_list c = let t = c.slot-k in rw t.ensures.0 at t.ensures.1
 
--- the child's page is a number that fits
-child_fits : (c : In-loop-i) → c.args.page + (c.loop-i.i + 1) * c.pages_at-step.result < 2 ^ 32
-child_fits c =
-    subst (λ (m : ℕ). c.args.page + (c.loop-i.i + 1) * m < 2 ^ 32) (sym c.pages_at-step.ensures)
-    (omega (arith, (child_inside c.requires.2 c.is_zeroed-zeroed.result (c.loop-i.i + 1) (omega arith)).high, c.requires.1.1.small))
+-- the child of a turn, i, is the one after those that were pushed
+turn : (c : In-loop-i) → c.loop-i.i ≡ suc (c.loop-i.i - 1)
+turn c = omega arith
 
-pub overflow_add-i : goal.overflow_add-i
-overflow_add-i c = omega arith
+-- the child's page is a number that fits
+child_fits : (c : In-loop-i) → c.args.page + c.loop-i.i * c.pages_at-step.result < 2 ^ 32
+child_fits c =
+    subst (λ (m : ℕ). c.args.page + c.loop-i.i * m < 2 ^ 32) (sym c.pages_at-step.ensures)
+    (omega (arith, (child_inside c.requires.2 c.is_zeroed-zeroed.result c.loop-i.i (omega arith)).high, c.requires.1.1.small))
 
 pub overflow_mul-i : goal.overflow_mul-i
 overflow_mul-i c = omega (arith, child_fits (goal.at.overflow_mul-i c).In-loop-i)
@@ -50,36 +50,35 @@ overflow_mul-i c = omega (arith, child_fits (goal.at.overflow_mul-i c).In-loop-i
 pub overflow_add-page : goal.overflow_add-page
 overflow_add-page c = omega (arith, child_fits (goal.at.overflow_add-page c).In-loop-i)
 
+-- the child is out of the list that it is pushed on
+out : (c : In-loop-i) → (k : ℕ) → Out (c.args.page + c.loop-i.i * size c.args.level) ((children (c.loop-i.i - 1) (state_of (record_at c.args.records.now) (row_of (rows_in c.args.words.now) c.args.index)) c.args.page c.args.level c.is_zeroed-zeroed.result).free k)
+out c = rw (sym (turn c)) at (child_out c.requires.2 c.is_zeroed-zeroed.result (c.loop-i.i - 1) (omega arith))
+
 pub admit-l-requires : goal.admit-l-requires
 admit-l-requires c =
     let i = c.loop-i.i in
-    let z = out_asks c.args.level c.is_zeroed-zeroed.result false (c.loop-i.invariant.became c.requires.0 c.requires.1.1 c.requires.2) (a_list (goal.at.admit-l-requires c).At-loop-i) (child_inside c.requires.2 c.is_zeroed-zeroed.result (suc i) (omega arith))
-    (child_out c.requires.2 c.is_zeroed-zeroed.result i (omega arith))
+    let z = out_asks c.args.level c.is_zeroed-zeroed.result false (c.loop-i.invariant.became c.requires.0 c.requires.1.1 c.requires.2) (a_list (goal.at.admit-l-requires c).At-loop-i) (child_inside c.requires.2 c.is_zeroed-zeroed.result i (omega arith))
+    (out (goal.at.admit-l-requires c).In-loop-i)
     (omega (arith, c.requires.2.small)) in
-    rw (c.pages_at-step.ensures, add-one i) record { sound = z.0; level_bound = z.1.0; out = z.1.1.0; page_bound = z.1.1.1 }
-
-pub overflow_add-i-in-loop-i : goal.overflow_add-i-in-loop-i
-overflow_add-i-in-loop-i c = omega arith
-
-pub loop-i-smaller : goal.loop-i-smaller
-loop-i-smaller c = omega arith
+    rw c.pages_at-step.ensures record { sound = z.0; level_bound = z.1.0; out = z.1.1.0; page_bound = z.1.1.1 }
 
 pub loop-i-preserved : goal.loop-i-preserved
 unfolding children
 loop-i-preserved c =
     let i = c.loop-i.i in
     let d = c.admit-l in
+    let t = turn (goal.at.loop-i-preserved c).In-loop-i in
+    let more : i + 1 - 1 ≡ suc (i - 1) = omega arith in
     record {
-      some = omega arith;
       same = omega (arith, d.auto.records);
       became = λ board R S.
-          rw (add-one i, d.auto.records)
-          (out_next c.args.level c.is_zeroed-zeroed.result false (c.loop-i.invariant.became board R S) (a_list (goal.at.loop-i-preserved c).At-loop-i) (child_inside S c.is_zeroed-zeroed.result (suc i) (omega arith))
-          (child_out S c.is_zeroed-zeroed.result i (omega arith))
-          (rw (c.pages_at-step.ensures, add-one i, d.auto.records) at d.ensures));
+          rw (more, sym t, d.auto.records)
+          (out_next c.args.level c.is_zeroed-zeroed.result false (c.loop-i.invariant.became board R S) (a_list (goal.at.loop-i-preserved c).At-loop-i) (child_inside S c.is_zeroed-zeroed.result i (omega arith))
+          (rw (sym t) at (child_out S c.is_zeroed-zeroed.result (i - 1) (omega arith)))
+          (rw (c.pages_at-step.ensures, d.auto.records) at d.ensures));
     }
 
-all_pushed : (c : After-loop-i) → c.loop-i.i ≡ 511
+all_pushed : (c : After-loop-i) → c.loop-i.i - 1 ≡ 511
 all_pushed c = omega arith
 
 pub admit-all-requires : goal.admit-all-requires
@@ -103,7 +102,7 @@ returns c =
     let y = rw c.marks.ensures at c.is_zeroed-zeroed.ensures in
     let u = state_of (record_at c.args.records.now) (row_of (rows_in c.args.words.now) c.args.index) in
     λ board R S. let i = page_inside S c.is_zeroed-zeroed.result in
-    let w = split_is u c.args.page c.args.level c.is_zeroed-zeroed.result c.loop-i.i e (y ∙ zeroed_mark c.args.page i R.1) in (
+    let w = split_is u c.args.page c.args.level c.is_zeroed-zeroed.result (c.loop-i.i - 1) e (y ∙ zeroed_mark c.args.page i R.1) in (
       rw (p.row, d.auto.records, c.slot-k.ensures.0, ← w)
           (out_next c.args.level c.is_zeroed-zeroed.result false (c.loop-i.invariant.became board R.1 S) (a_list (goal.at.returns c).At-loop-i) i (rw e (page_out S c.is_zeroed-zeroed.result)) (rw d.auto.records at d.ensures)),
       p.rest,

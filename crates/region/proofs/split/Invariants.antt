@@ -1,6 +1,6 @@
--- The loop has pushed the children 1 to i on their list, which is out of the row. It reads no board, so what became is said of every board on
+-- The loop has pushed the children before i on their list, which is out of the row. It reads no board, so what became is said of every board on
 -- which the region is sound and the frame is one to split.
-use Rattle.std.proofs.Common.{◌≡◌, ◌-◌, ◌≤◌, length}
+use Rattle.std.proofs.Common.{◌≡◌, ◌-◌, length}
 use Rattle.definition.specs.Board.{Board}
 use Rattle.definition.specs.Frame.{children, slot}
 use Rattle.definition.specs.World.{record_at}
@@ -12,15 +12,11 @@ use Rattle.region.proofs.split.Given as goal
 abbrev pub invariant-loop-i : goal.invariant-loop-i
 invariant-loop-i l =
     record {
-      some : l.i ≤ 511;
       same : length l.records ≡ length l.initial.records;
       became
           : (board : Board) → SoundRow board (record_at l.initial.records) (pages_in l.initial.records) l.first (row_of (rows_in l.words) l.index)
           → Splits board (state_of (record_at l.initial.records) (row_of (rows_in l.words) l.index)) l.first (row_of (rows_in l.words) l.index).pages l.page l.level
           → Becomes board (record_at l.initial.records) l.first (row_of (rows_in l.words) l.index) (record_at l.records) (pages_in l.records)
           (with_list (row_of (rows_in l.words) l.index) (slot l.level l.zeroed) l.l)
-          (children l.i (state_of (record_at l.initial.records) (row_of (rows_in l.words) l.index)) l.page l.level l.zeroed);
+          (children (l.i - 1) (state_of (record_at l.initial.records) (row_of (rows_in l.words) l.index)) l.page l.level l.zeroed);
     }
-
-abbrev pub decreases-loop-i : goal.decreases-loop-i
-decreases-loop-i l = 511 - l.i
