@@ -1,7 +1,7 @@
 -- A call's promise (`Made`) from what its tests found and what it left: refused, the world stays; done, `left_whole` and `left_written` put together the table that
 -- it turned, the bytes that it wrote, and the counters, queue and pass. `leaves_made` is the one law at the door: with the torn test before it, a call is
 -- definition's `call`; `sound_ready` is what the test gives.
-use Prim.Native.Nat.{ℕ, ◌+◌, ◌*◌, ◌/◌, ◌%◌, ◌≤◌, ◌<◌}
+use Prim.Native.Nat.{ℕ, ◌+◌, ◌*◌, ◌/◌, ◌≤◌, ◌<◌}
 use mathlib.Core.Bool.{true}
 use mathlib.Core.List.{List}
 use mathlib.Core.Option.{none, some}

@@ -1,6 +1,6 @@
 -- What was seen at an address, in the sheet's terms: the refusal of a held frame read off its record is the definition's, and where there is none a held frame
 -- starts there.
-use Prim.Native.Nat.{ℕ, ◌+◌, ◌*◌, ◌/◌, ◌%◌, ◌≤◌}
+use Prim.Native.Nat.{ℕ, ◌+◌, ◌*◌, ◌/◌, ◌%◌, ◌<◌}
 use mathlib.Core.Bool.{Bool, true, false, not, cond, ◌&&◌}
 use mathlib.Core.List.{List, [], ◌∷◌}
 use mathlib.Core.Option.{Option, none, some}
@@ -108,24 +108,28 @@ module _ {board : Board} where
     page_seen true false e d = rw (starts_seen, e, d) refl
     page_seen true true e d = rw (bytes_seen, starts_seen, held_seen d, e, d) (last_two (eqb (r.marks / 2 % 2) 1) (ltb (board.page * size r.level) (off + len)))
 
+module _ (board : Board) (f : ℕ → Record) (rows : List Row) where
   pub frame_seen
-      : {f : ℕ → Record} {rows : List Row} (s : Store) (a off len : ℕ) (o : MayBe Seen) → Sees board f rows (a / board.page) s.allocator o
+      : (s : Store) (a off len : ℕ) (o : MayBe Seen) → Sees board f rows (a / board.page) s.allocator o
       → frame_refusal board s (range_of a off len) ≡ refusal_in (held_as board o a off len)
   frame_seen s a off len None S =
       by_tests (is_managed board s.allocator.regions (a / board.page)) (starts_frame board s a) (is_held board s a) (leaves_frame board s (range_of a off len))
-      ∙ rw (← S.managed) refl
+      ∙ rw S refl
   frame_seen s a off len (Some r) S =
       by_tests (is_managed board s.allocator.regions (a / board.page)) (starts_frame board s a) (is_held board s a) (leaves_frame board s (range_of a off len))
-      ∙ rw (← S.managed) (page_seen s a off len r (S.page r refl) (eqb (a % board.page) 0) (eqb (r.marks % 2) 1) refl refl)
+      ∙ rw S.managed (page_seen s a off len r S (eqb (a % board.page) 0) (eqb (r.marks % 2) 1) refl refl)
 
   -- the frames of a sane table have one of the three levels
-  pub sees_leveled : {f : ℕ → Record} {n p : ℕ} {rows : List Row} {a : PhysicalFrameAllocator} {o : MayBe Seen} → Sane board f n rows → Sees board f rows p a o → Leveled o
+  page_leveled : {n p : ℕ} {a : PhysicalFrameAllocator} {r : Seen} → Sane board f n rows → SeesPage board f rows p a r → r.marks % 2 ≡ 1 → r.level < 3
   unfolding state_of
-  sees_leveled {f = f} {rows = rows} N S r k d =
-      let P = S.page r k in
+  page_leveled {r = r} N P d =
       let G = spot_good N (sees_in P) in
       let e : frame_of (f r.spot.page) ≡ some (of_record (f r.spot.page)) = admitted_frame (f r.spot.page) (eq-eqb _ 1 (sym (ap (λ (x : ℕ). x % 2) P.marks) ∙ d)) in
       omega (arith, P.level, (G.whole.tile r.spot.page (of_record (f r.spot.page)) P.spot.inside e).level)
+
+  pub sees_leveled : {n : ℕ} (p : ℕ) (a : PhysicalFrameAllocator) (o : MayBe Seen) → Sane board f n rows → Sees board f rows p a o → Leveled o
+  sees_leveled p a None N S r k d = absurd (let z : ◌≡◌ {A = ℕ} 0 1 = cc in omega arith)
+  sees_leveled p a (Some t) N S r k d = let e : t ≡ r = cc in page_leveled N (rw e at S) d
 
 -- ---- where nothing is refused, a held frame starts there and the range lies in it
 
@@ -143,14 +147,14 @@ module _ {board : Board} {f : ℕ → Record} {n : ℕ} {rows : List Row} (N : S
       let t = all_passed r r (eqb (a % board.page) 0 && eqb (r.marks % 2) 1) (eqb (r.marks / 2 % 2) 1) (ltb (bytes_if board r) (off + len)) e in
       let admitted = eqb-true (r.marks % 2) 1 (and_right (eqb (a % board.page) 0) _ t.0) in
       let S = all (standing board f rows) (sane_table N) in
-      let P = S.page r refl in
+      let P = S in
       let h = sees_held P admitted (eqb-true (r.marks / 2 % 2) 1 t.1) in
       let bytes : bytes_if board r ≡ board.page * size r.level = rw (and_right (eqb (a % board.page) 0) _ t.0) refl in
       record {
-        held = record { inside = h.0; held = h.1; leveled = sees_leveled N S r refl admitted; marks = P.marks; level = P.level };
+        held = record { inside = h.0; held = h.1; leveled = page_leveled board f rows N P admitted; marks = P.marks; level = P.level };
         edge = eqb-true (a % board.page) 0 (and_left _ _ t.0);
         range = omega (arith, ltb-false (bytes_if board r) (off + len) t.2, bytes);
-        sees = λ x T. (all x T).page r refl;
+        sees = all;
       }
 
   seen_found : (o : MayBe Seen) → SeesAll board f n rows (a / board.page) o → (r : Seen) → held_as board o a off len ≡ Ok r → Found board f n rows a off len r
@@ -160,4 +164,4 @@ module _ {board : Board} {f : ℕ → Record} {n : ℕ} {rows : List Row} (N : S
       page_found r (rw k at all) (rw k at e)
 
   pub looks_at : (o : MayBe Seen) → SeesAll board f n rows (a / board.page) o → Looks board f n rows a off len (held_as board o a off len)
-  looks_at o all = record { refusal = λ s T. frame_seen s a off len o (all s.allocator T); found = seen_found o all }
+  looks_at o all = record { refusal = λ s T. frame_seen board f rows s a off len o (all s.allocator T); found = seen_found o all }

@@ -10,7 +10,8 @@ held-requires c =
     let a = c.args in
     record {
       fit = c.board_in.ensures.1;
-      leveled = sees_leveled c.requires.1
+      leveled =
+          sees_leveled (board_in a.words.now) (record_at a.records.now) (rows_in a.words.now) _ _ c.see-seen.result c.requires.1
           (c.see-seen.ensures (standing (board_in a.words.now) (record_at a.records.now) (rows_in a.words.now)) (sane_table c.requires.1));
     }
 

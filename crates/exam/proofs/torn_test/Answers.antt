@@ -1,6 +1,5 @@
 -- The audit's answer is the sheet's, and what it accepts is what the calls ask for.
 use Prim.Native.Nat.{ℕ}
-use mathlib.Core.Bool.{true, false}
 use mathlib.Core.Path.{◌≡◌, refl, sym, ◌∙◌}
 use native.Mathlib.Omega.{arith}
 use Rattle.exam.proofs.Making.{bytes_small, sound_ready}
