@@ -1,6 +1,6 @@
 -- What a call promises: `Leaves w c v y`, that what it leaves is v and what it answers is y, as definition's `call` says of the world w that it was given. The
 -- rest names what the parts of a call promise each other.
-use Rattle.std.specs.Prelude.{ℕ, ◌+◌, ◌*◌, ◌/◌, ◌%◌, ◌≤◌, ◌<◌, not, cond, ◌&&◌, List, Result, Ok, Err, Some, None, ◌≡◌, eqb, ltb, length}
+use Rattle.std.specs.Prelude.{ℕ, ◌+◌, ◌*◌, ◌/◌, ◌%◌, ◌≤◌, ◌<◌, not, cond, ◌&&◌, List, Result, Ok, Err, ⊤, Some, None, ◌≡◌, eqb, ltb, length}
 use Rattle.std.specs.Prelude.{Option as MayBe}
 use Rattle.std.proofs.Math.Option.{Option, none, some}
 use Rattle.definition.specs.declared.Record.{Record}
@@ -64,15 +64,15 @@ told (Done a n) = Ok (reply a n)
 told (Text t) = Ok (reply 0 (length t))
 told (Bytes t) = Ok (reply 0 (length t))
 
+-- a result without its value
+abbrev pub unit_of : {A : Type 0} → Result A Refusal → Result ⊤ Refusal
+unit_of (Ok x) = Ok tt
+unit_of (Err r) = Err r
+
 -- the refusal of a result, where it is one
 abbrev pub refusal_in : {A : Type 0} → Result A Refusal → Option Refusal
 refusal_in (Ok x) = none
 refusal_in (Err r) = some r
-
--- a state that is left, and the answer with it
-pub record Outcome : Type 0 where
-  pub state : State
-  pub answer : Answer
 
 -- ---- the tests of a call
 

@@ -2,19 +2,20 @@
 -- numbers of the answer. `served` is the whole outcome: the loans as `call` of definition/specs/Torn.antt leaves them, and the refusal's number, 0 where the call
 -- was accepted. Words that are too few or of another version, and an answer slice of under two places, are refused 6 and nothing changes. `served_with` is the same
 -- where the counters are a record lent beside the words, whose own counters it then neither reads nor writes.
-use Rattle.std.specs.Prelude.{ℕ, Bool, cond, ◌&&◌, List, [], ◌∷◌, ◌≡◌, eqb, leb, length, take, drop}
+use Rattle.std.specs.Prelude.{ℕ, Bool, cond, ◌&&◌, List, [], ◌∷◌, Result, Ok, Err, is_ok, ◌≡◌, eqb, leb, length, take, drop}
+use Rattle.std.proofs.Math.Option.{Option, none, some}
 use Rattle.definition.specs.declared.Counters.{Counters}
 use Rattle.definition.specs.declared.MemoryRegion.{MemoryRegion}
 use Rattle.definition.specs.Board.{Board, standard}
 use Rattle.definition.specs.Boot.{boot_sheet}
-use Rattle.definition.specs.Refusal.{first_met}
+use Rattle.definition.specs.declared.Refusal.{Refusal}
+use Rattle.definition.specs.declared.Refusal.TheVariants.{ShortLoan}
+use Rattle.definition.specs.Refusal.{first_met, number_of}
 use Rattle.definition.specs.Calls.{Call, Read, Stats}
 use Rattle.definition.specs.World.{World, used_rows}
 use Rattle.definition.specs.Torn.{Left, call, boot_call}
 use Rattle.record.specs.Records.{with_bytes}
-use Rattle.world.specs.Refusals.{number_if}
-use Rattle.exam.specs.declared.Answer.{Answer}
-use Rattle.exam.specs.Promise.{told}
+use Rattle.exam.specs.Promise.{Answer, told}
 use Rattle.counts.specs.Counting.{text_of}
 use Rattle.copies.specs.Copies.{bytes_of}
 use Rattle.words.specs.Words.{board_in, word_in, state_words, counters_at, rows_in, queued_in, pass_in, counters_in, is_kept, kept_in, kept_of, counter_words}
@@ -64,7 +65,13 @@ boot_state_over w ws = with_bytes (boot_over w ws) counters_at (counter_words w.
 
 -- the address and the bytes of an accepted call stand in front of the answer; a refusal leaves it as it is
 unfoldable pub tells : Answer → List ℕ → List ℕ
-tells y ys = cond (eqb y.number 0) (with_bytes ys 0 (y.address ∷ y.bytes ∷ [])) ys
+tells (Ok y) ys = with_bytes ys 0 (y.address ∷ y.bytes ∷ [])
+tells (Err r) ys = ys
+
+-- the number that an exported function returns: 0, or the refusal's
+abbrev pub code : {A : Type 0} → Result A Refusal → ℕ
+code (Ok x) = 0
+code (Err r) = number_of r
 
 pub record Served : Type 0 where
   pub lent : Lent
@@ -84,7 +91,7 @@ written over l x =
             queue = x.world.queue;
             answer = tells (told x.answer) l.answer;
           };
-      number = (told x.answer).number;
+      number = code (told x.answer);
     }
 
 -- ---- a call
@@ -158,22 +165,22 @@ PlacesWith a off len k l = PlacesBy (world_with k l) (served_with (Read a off le
 abbrev pub is_roomy : Lent → Bool
 is_roomy l = leb state_words (length l.words) && has_room l
 
--- 5 where no lower refusal meets the map: the words and the answer are loans too
-abbrev pub short_number : ℕ → ℕ
-short_number n = cond (eqb n 0) 5 n
+-- 5 where no earlier refusal meets the map: the words and the answer are loans too
+abbrev pub short_refusal : Option Refusal → Refusal
+short_refusal none = ShortLoan
+short_refusal (some r) = r
 
-abbrev pub ShortBoots : List MemoryRegion → (count records memory r : ℕ) → Type 0
+abbrev pub ShortBoots : List MemoryRegion → (count records memory : ℕ) → Refusal → Type 0
 ShortBoots map count records memory r =
-    (ms : List MemoryRegion) → length ms ≡ count → take 8 ms ≡ take count map
-    → r ≡ short_number (number_if (first_met (boot_sheet standard ms records memory)))
+    (ms : List MemoryRegion) → length ms ≡ count → take 8 ms ≡ take count map → r ≡ short_refusal (first_met (boot_sheet standard ms records memory))
 
 abbrev pub boot_written : Lent → Left → Served
-boot_written l x = cond (eqb (told x.answer).number 0) (written boot_state_over l x) (refused_as l (told x.answer).number)
+boot_written l x = cond (is_ok (told x.answer)) (written boot_state_over l x) (refused_as l (code (told x.answer)))
 
 unfoldable pub booted : List MemoryRegion → Lent → Served
 booted ms l =
     cond (is_roomy l) (boot_written l (boot_call standard ms (world_in l)))
-    (refused_as l (short_number (number_if (first_met (boot_sheet standard ms (length l.records) (length l.memory))))))
+    (refused_as l (number_of (short_refusal (first_met (boot_sheet standard ms (length l.records) (length l.memory))))))
 
 -- whatever stands past the eighth entry of the map
 abbrev pub Boots : List MemoryRegion → ℕ → Lent → Lent → ℕ → Type 0
@@ -184,12 +191,12 @@ Boots map count l l' r =
 
 abbrev pub boot_counted : Counters → Lent → Left → Counted
 boot_counted k l x =
-    cond (eqb (told x.answer).number 0) (record { counters = x.world.counters; served = written boot_over l x }) (stays k l (told x.answer).number)
+    cond (is_ok (told x.answer)) (record { counters = x.world.counters; served = written boot_over l x }) (stays k l (code (told x.answer)))
 
 unfoldable pub booted_with : List MemoryRegion → Counters → Lent → Counted
 booted_with ms k l =
     cond (is_roomy l) (boot_counted k l (boot_call standard ms (world_with k l)))
-    (stays k l (short_number (number_if (first_met (boot_sheet standard ms (length l.records) (length l.memory))))))
+    (stays k l (number_of (short_refusal (first_met (boot_sheet standard ms (length l.records) (length l.memory))))))
 
 abbrev pub BootsWith : List MemoryRegion → ℕ → Counters → Lent → Counters → Lent → ℕ → Type 0
 BootsWith map count k l k' l' r =

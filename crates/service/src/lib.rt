@@ -1,15 +1,17 @@
 // The calls over lent words, for a kernel to make: the words are tested for their number and version, and the call is made on them where
-// they stand. The answer's two numbers go to a lent slice, and the refusal's number, 0 where the call was accepted, is returned. Every
-// promise is `served` or `booted` of specs/Serving.antt. What ends in `_with` takes the counters apart from the words; beside it stands the
-// same with those of the words, which are read out and written back.
+// they stand. The answer's two numbers go to a lent slice, and what is refused is returned. Every promise is `served` or `booted` of
+// specs/Serving.antt. What ends in `_with` takes the counters apart from the words; beside it stands the same with those of the words,
+// which are read out and written back.
 #![tactic(auto)]
 
 ghost use Rattle.std.specs.Prelude.{[], ◌≡◌, ◌≤◌, length, get_or};
 ghost use Rattle.definition.specs.Calls.{Alloc, Free, Find, Write};
 ghost use Rattle.definition.specs.Script.{flags_of};
+ghost use Rattle.exam.specs.Promise.{unit_of};
 ghost use Rattle.lines.specs.Reading.{call_of};
 ghost use Rattle.service.specs.Serving.{
   tells,
+  code,
   is_lent,
   is_roomy,
   Serves,
@@ -25,9 +27,12 @@ ghost use Rattle.service.specs.Serving.{
 };
 
 use address::PhysAddr;
-use definition::{Counters, MemoryRegion};
-use exam::Answer;
+use definition::{Counters, FrameAllocFlags, MemoryRegion, Refusal};
+use exam::{Answer, Reply};
 use lines::Ask;
+
+// What a call that tells its answer in a lent slice returns.
+pub type Told = Result<(), Refusal>;
 
 // ---- the words
 
@@ -36,38 +41,27 @@ fn is_lent(words: &[u64], answer: &[u64]) -> bool
     ensures { result ≡ is_lent
         (record { words = words.now; records = []; memory = []; queue = []; answer = answer.now }) }
 {
-    if answer.len() < 2 {
-        return false;
-    }
-    words::is_kept(words)
+    2 <= answer.len() && words::is_kept(words)
 }
 
 // ---- the answer
 
-// The two numbers of an accepted call; the refusal's number, or 0.
-fn tell(answer: &mut [u64], y: Answer) -> u32
+// The two numbers of an accepted call.
+fn tell(answer: &mut [u64], y: Answer) -> Told
     requires { 2 ≤ length answer.old }
-    ensures { (result ≡ y.number) × (answer.new ≡ tells y answer.old) }
+    ensures { (result ≡ unit_of y) × (answer.new ≡ tells y answer.old) }
 {
-    if y.number == 0 {
-        answer[0] = y.address;
-        answer[1] = y.bytes;
-    }
-    y.number
+    let reply = y?;
+    answer[0] = reply.address;
+    answer[1] = reply.bytes;
+    Ok(())
 }
 
 // ---- the calls
 
-// The counters that a call left, and the refusal's number.
-#[derive(Clone, Copy)]
-pub struct Counted {
-    pub counters: Counters,
-    pub number: u32,
-}
-
 // A call that answers by numbers, where the counters are a record of their own.
 pub fn serve_with(
-    counters: Counters,
+    counters: &mut Counters,
     words: &mut [u64],
     records: &mut [u8],
     memory: &mut [u8],
@@ -75,24 +69,16 @@ pub fn serve_with(
     answer: &mut [u64],
     op: Ask,
     n: [u64; 5],
-) -> Counted
-    ensures { ServesWith (call_of op (λ i. get_or n i 0)) counters
-        (loans_of words.old records.old memory.old queue.old answer.old) result.counters
-        (loans_of words.new records.new memory.new queue.new answer.new) result.number }
+) -> Told
+    ensures { ServesWith (call_of op (λ i. get_or n i 0)) counters.old
+        (loans_of words.old records.old memory.old queue.old answer.old) counters.new
+        (loans_of words.new records.new memory.new queue.new answer.new) (code result) }
 {
     if !is_lent(words, answer) {
-        return Counted {
-            counters,
-            number: 6,
-        };
+        return Err(Refusal::Torn);
     }
-    let o = door::ask(counters, words, records, memory, queue, op, n);
-    let left = o.counters;
-    let number = tell(answer, o.answer);
-    Counted {
-        counters: left,
-        number,
-    }
+    let y = door::ask(counters, words, records, memory, queue, op, n);
+    tell(answer, y)
 }
 
 // The same with the counters of the words.
@@ -104,24 +90,21 @@ pub fn serve(
     answer: &mut [u64],
     op: Ask,
     n: [u64; 5],
-) -> u32
+) -> Told
     ensures { Serves (call_of op (λ i. get_or n i 0))
         (loans_of words.old records.old memory.old queue.old answer.old)
-        (loans_of words.new records.new memory.new queue.new answer.new) result }
+        (loans_of words.new records.new memory.new queue.new answer.new) (code result) }
 {
     if !is_lent(words, answer) {
-        return 6;
+        return Err(Refusal::Torn);
     }
-    let counters = words::counters_in(words);
-    let c = serve_with(counters, words, records, memory, queue, answer, op, n);
-    let left = c.counters;
-    words::put_counters(words, left);
-    c.number
+    let mut counters = words::counters_in(words);
+    let told = serve_with(&mut counters, words, records, memory, queue, answer, op, n);
+    words::put_counters(words, counters);
+    told
 }
 
-// ---- the three calls that a kernel makes most
-
-// They go straight to their crates: on the way through the dispatch above the counters would be copied at every step.
+// ---- the three calls that a kernel makes most, straight to their crates
 
 // get_frame, which leaves all loans but the answer as they are.
 pub fn serve_find(
@@ -131,13 +114,13 @@ pub fn serve_find(
     queue: &[u64],
     answer: &mut [u64],
     pa: PhysAddr,
-) -> u32
+) -> Told
     ensures { Serves (Find pa.0)
         (loans_of words.now records.now memory.now queue.now answer.old)
-        (loans_of words.now records.now memory.now queue.now answer.new) result }
+        (loans_of words.now records.now memory.now queue.now answer.new) (code result) }
 {
     if !is_lent(words, answer) {
-        return 6;
+        return Err(Refusal::Torn);
     }
     let counters = words::counters_in(words);
     let y = door::find(counters, words, records, memory, queue, pa);
@@ -152,19 +135,18 @@ pub fn serve_free(
     queue: &[u64],
     answer: &mut [u64],
     pa: PhysAddr,
-) -> u32
+) -> Told
     ensures { Serves (Free pa.0)
         (loans_of words.old records.old memory.now queue.now answer.old)
-        (loans_of words.new records.new memory.now queue.now answer.new) result }
+        (loans_of words.new records.new memory.now queue.now answer.new) (code result) }
 {
     if !is_lent(words, answer) {
-        return 6;
+        return Err(Refusal::Torn);
     }
-    let counters = words::counters_in(words);
-    let o = door::free(counters, words, records, memory, queue, pa);
-    let left = o.counters;
-    words::put_counters(words, left);
-    tell(answer, o.answer)
+    let mut counters = words::counters_in(words);
+    let y = door::free(&mut counters, words, records, memory, queue, pa);
+    words::put_counters(words, counters);
+    tell(answer, y)
 }
 
 // try_alloc_frame. `flags` adds 1 for ZEROED, 2 for KERNEL, 4 for WAIT_OK.
@@ -177,28 +159,19 @@ pub fn serve_alloc(
     size: u64,
     align: u64,
     flags: u64,
-) -> u32
+) -> Told
     ensures { Serves (Alloc (record { size = size; align = align; flags = flags_of flags }))
         (loans_of words.old records.old memory.old queue.now answer.old)
-        (loans_of words.new records.new memory.new queue.now answer.new) result }
+        (loans_of words.new records.new memory.new queue.now answer.new) (code result) }
 {
     if !is_lent(words, answer) {
-        return 6;
+        return Err(Refusal::Torn);
     }
-    let counters = words::counters_in(words);
-    let o = door::alloc(
-        counters,
-        words,
-        records,
-        memory,
-        queue,
-        size,
-        align,
-        calls::flags_of(flags),
-    );
-    let left = o.counters;
-    words::put_counters(words, left);
-    tell(answer, o.answer)
+    let mut counters = words::counters_in(words);
+    let flags = FrameAllocFlags::from(flags);
+    let y = door::alloc(&mut counters, words, records, memory, queue, size, align, flags);
+    words::put_counters(words, counters);
+    tell(answer, y)
 }
 
 // ---- the calls that take or give bytes
@@ -214,13 +187,13 @@ pub fn serve_write_with(
     pa: PhysAddr,
     offset: u64,
     bytes: &[u8],
-) -> u32
+) -> Told
     ensures { ServesWith (Write pa.0 offset bytes.now) counters
         (loans_of words.now records.old memory.old queue.now answer.old) counters
-        (loans_of words.now records.new memory.new queue.now answer.new) result }
+        (loans_of words.now records.new memory.new queue.now answer.new) (code result) }
 {
     if !is_lent(words, answer) {
-        return 6;
+        return Err(Refusal::Torn);
     }
     let y = door::write(counters, words, records, memory, queue, pa, offset, bytes);
     tell(answer, y)
@@ -235,13 +208,13 @@ pub fn serve_write(
     pa: PhysAddr,
     offset: u64,
     bytes: &[u8],
-) -> u32
+) -> Told
     ensures { Serves (Write pa.0 offset bytes.now)
         (loans_of words.now records.old memory.old queue.now answer.old)
-        (loans_of words.now records.new memory.new queue.now answer.new) result }
+        (loans_of words.now records.new memory.new queue.now answer.new) (code result) }
 {
     if !is_lent(words, answer) {
-        return 6;
+        return Err(Refusal::Torn);
     }
     let counters = words::counters_in(words);
     serve_write_with(
@@ -260,22 +233,21 @@ pub fn serve_read_with(
     pa: PhysAddr,
     offset: u64,
     len: u64,
-) -> u32
+) -> Told
     ensures { PlacesWith pa.0 offset len counters
         (loans_of words.now records.now memory.now queue.now answer.old)
-        (loans_of words.now records.now memory.now queue.now answer.new) result }
+        (loans_of words.now records.now memory.now queue.now answer.new) (code result) }
 {
     if !is_lent(words, answer) {
-        return 6;
+        return Err(Refusal::Torn);
     }
-    let place = door::read_place(counters, words, records, memory, queue, pa, offset, len);
+    let at = door::read_place(counters, words, records, memory, queue, pa, offset, len)?;
     tell(
         answer,
-        Answer {
-            number: place.number,
-            address: place.at as u64,
+        Ok(Reply {
+            address: at as u64,
             bytes: len,
-        },
+        }),
     )
 }
 
@@ -288,13 +260,13 @@ pub fn serve_read(
     pa: PhysAddr,
     offset: u64,
     len: u64,
-) -> u32
+) -> Told
     ensures { Places pa.0 offset len
         (loans_of words.now records.now memory.now queue.now answer.old)
-        (loans_of words.now records.now memory.now queue.now answer.new) result }
+        (loans_of words.now records.now memory.now queue.now answer.new) (code result) }
 {
     if !is_lent(words, answer) {
-        return 6;
+        return Err(Refusal::Torn);
     }
     let counters = words::counters_in(words);
     serve_read_with(
@@ -311,30 +283,23 @@ pub fn serve_stats_with(
     queue: &[u64],
     answer: &mut [u64],
     text: &mut [u8],
-) -> u32
+) -> Told
     ensures { ReportsWith counters
         (loans_of words.now records.now memory.now queue.now answer.old)
         text.old counters
         (loans_of words.now records.now memory.now queue.now answer.new)
-        text.new result }
+        text.new (code result) }
 {
-    if text.len() < 368 {
-        return 6;
+    if text.len() < 368 || !is_lent(words, answer) {
+        return Err(Refusal::Torn);
     }
-    if !is_lent(words, answer) {
-        return 6;
-    }
-    let report = door::stats(counters, words, records, memory, queue);
-    let told = report.text;
-    let len = report.len;
-    text::put_text(text, 0, &told[..len]);
+    let len = door::stats(counters, words, records, memory, queue, text, 0)?;
     tell(
         answer,
-        Answer {
-            number: report.number,
+        Ok(Reply {
             address: 0,
             bytes: len as u64,
-        },
+        }),
     )
 }
 
@@ -345,15 +310,15 @@ pub fn serve_stats(
     queue: &[u64],
     answer: &mut [u64],
     text: &mut [u8],
-) -> u32
+) -> Told
     ensures { Reports
         (loans_of words.now records.now memory.now queue.now answer.old)
         text.old
         (loans_of words.now records.now memory.now queue.now answer.new)
-        text.new result }
+        text.new (code result) }
 {
     if !is_lent(words, answer) {
-        return 6;
+        return Err(Refusal::Torn);
     }
     let counters = words::counters_in(words);
     serve_stats_with(counters, words, records, memory, queue, answer, text)
@@ -365,26 +330,22 @@ fn is_roomy(words: &[u64], answer: &[u64]) -> bool
     ensures { result ≡ is_roomy
         (record { words = words.now; records = []; memory = []; queue = []; answer = answer.now }) }
 {
-    if words.len() < words::STATE_WORDS {
-        return false;
-    }
-    answer.len() >= 2
+    words::STATE_WORDS <= words.len() && 2 <= answer.len()
 }
 
 // Refusals 1 to 5 where the words or the answer are too short.
-fn short_boot(map: [MemoryRegion; 8], count: usize, records: usize, memory: usize) -> u32
+fn short_boot(map: [MemoryRegion; 8], count: usize, records: usize, memory: usize) -> Refusal
     ensures { ShortBoots map count records memory result }
 {
-    let number = boot::refusal_of_map(definition::standard(), map, count, records, memory);
-    if number == 0 {
-        return 5;
+    match boot::admit_map(definition::standard(), map, count, records, memory) {
+        Ok(_) => Refusal::ShortLoan,
+        Err(refusal) => refusal,
     }
-    number
 }
 
 // A map of `count` entries, of which `map` has the first eight. A boot reads nothing of the words and of the counters.
 pub fn serve_boot_with(
-    counters: Counters,
+    counters: &mut Counters,
     map: [MemoryRegion; 8],
     count: usize,
     words: &mut [u64],
@@ -392,23 +353,17 @@ pub fn serve_boot_with(
     memory: &[u8],
     queue: &[u64],
     answer: &mut [u64],
-) -> Counted
-    ensures { BootsWith map count counters
-        (loans_of words.old records.old memory.now queue.now answer.old) result.counters
-        (loans_of words.new records.new memory.now queue.now answer.new) result.number }
+) -> Told
+    ensures { BootsWith map count counters.old
+        (loans_of words.old records.old memory.now queue.now answer.old) counters.new
+        (loans_of words.new records.new memory.now queue.now answer.new) (code result) }
 {
     if !is_roomy(words, answer) {
-        let number = short_boot(map, count, records.len(), memory.len());
-        return Counted { counters, number };
+        return Err(short_boot(map, count, records.len(), memory.len()));
     }
     let board = definition::standard();
-    let o = boot::boot(board, counters, words, map, count, records, memory, queue);
-    let fresh = o.counters;
-    let number = tell(answer, o.answer);
-    Counted {
-        counters: fresh,
-        number,
-    }
+    let y = boot::boot(board, counters, words, map, count, records, memory, queue);
+    tell(answer, y)
 }
 
 pub fn serve_boot(
@@ -419,17 +374,16 @@ pub fn serve_boot(
     memory: &[u8],
     queue: &[u64],
     answer: &mut [u64],
-) -> u32
+) -> Told
     ensures { Boots map count
         (loans_of words.old records.old memory.now queue.now answer.old)
-        (loans_of words.new records.new memory.now queue.now answer.new) result }
+        (loans_of words.new records.new memory.now queue.now answer.new) (code result) }
 {
     if words.len() < words::STATE_WORDS {
-        return short_boot(map, count, records.len(), memory.len());
+        return Err(short_boot(map, count, records.len(), memory.len()));
     }
-    let counters = words::counters_in(words);
-    let c = serve_boot_with(counters, map, count, words, records, memory, queue, answer);
-    let left = c.counters;
-    words::put_counters(words, left);
-    c.number
+    let mut counters = words::counters_in(words);
+    let told = serve_boot_with(&mut counters, map, count, words, records, memory, queue, answer);
+    words::put_counters(words, counters);
+    told
 }

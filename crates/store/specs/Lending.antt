@@ -1,7 +1,10 @@
 -- What the two forms over lent structs promise: a boot over a lent list of region entries, and a call by its number over the nine counters as one lent record.
-use Rattle.std.specs.Prelude.{ℕ, zero, suc, ◌+◌, ◌*◌, ◌/◌, ◌%◌, cond, List, [], ◌∷◌, map, ◌≡◌, eqb, length, get_or}
+use Rattle.std.specs.Prelude.{ℕ, zero, suc, ◌+◌, ◌*◌, ◌/◌, ◌%◌, cond, List, [], ◌∷◌, map, Result, Ok, Err, ◌≡◌, eqb, length, get_or}
 use Rattle.definition.specs.declared.Counters.{Counters}
 use Rattle.definition.specs.declared.MemoryRegion.{MemoryRegion}
+use Rattle.definition.specs.declared.Refusal.{Refusal}
+use Rattle.definition.specs.declared.Refusal.TheVariants.{BadLine}
+use Rattle.definition.specs.Refusal.{number_of}
 use Rattle.definition.specs.Calls as Calls
 use Rattle.definition.specs.Script.{kind_of}
 use Rattle.lines.specs.declared.Ask.TheVariants.{
@@ -26,7 +29,7 @@ use Rattle.map.specs.declared.Gathered.{Gathered}
 use Rattle.map.specs.Lending.{entered as entered_region, gathered as gathered_regions}
 use Rattle.service.specs.Serving.{Lent, Counted, ServesWith, PlacesWith, ReportsWith, stays, booted, booted_with}
 use Rattle.store.specs.declared.Asked.{Asked}
-use Rattle.store.specs.declared.Asked.TheVariants.{Known, Write, Read, Stats, Boot, Unknown}
+use Rattle.store.specs.declared.Asked.TheVariants.{Known, Write, Read, Stats, Boot}
 use Rattle.store.specs.declared.Entry.{Entry}
 
 -- ---- the lent map
@@ -55,25 +58,25 @@ BootsBy g l l' r = (es : List Entry) → g ≡ gathered es → Boots es l l' r
 
 -- ---- the lent counters
 
--- what a number asks for: the calls that answer by numbers, in the order of 01's script, and the four others
-unfoldable pub ask_of : ℕ → Asked
+-- what a number asks for: the calls that answer by numbers, in the order of 01's script, and the four others; 17 is any other number's refusal
+unfoldable pub ask_of : ℕ → Result Asked Refusal
 ask_of n =
-    cond (eqb n 0) (Known Alloc)
-    (cond (eqb n 1) (Known Take)
-    (cond (eqb n 2) (Known Split)
-    (cond (eqb n 3) (Known Free)
-    (cond (eqb n 4) (Known Zero)
-    (cond (eqb n 5) (Known Dirty)
-    (cond (eqb n 6) (Known Find)
-    (cond (eqb n 7) (Known Queue)
-    (cond (eqb n 8) (Known Fill)
-    (cond (eqb n 9) (Known Copy)
-    (cond (eqb n 10) (Known Pcopy)
-    (cond (eqb n 11) (Known Round)
-    (cond (eqb n 12) (Known Lend)
-    (cond (eqb n 13) (Known Back)
-    (cond (eqb n 14) (Known Low)
-    (cond (eqb n 15) Write (cond (eqb n 16) Read (cond (eqb n 17) Stats (cond (eqb n 18) Boot Unknown))))))))))))))))))
+    cond (eqb n 0) (Ok (Known Alloc))
+    (cond (eqb n 1) (Ok (Known Take))
+    (cond (eqb n 2) (Ok (Known Split))
+    (cond (eqb n 3) (Ok (Known Free))
+    (cond (eqb n 4) (Ok (Known Zero))
+    (cond (eqb n 5) (Ok (Known Dirty))
+    (cond (eqb n 6) (Ok (Known Find))
+    (cond (eqb n 7) (Ok (Known Queue))
+    (cond (eqb n 8) (Ok (Known Fill))
+    (cond (eqb n 9) (Ok (Known Copy))
+    (cond (eqb n 10) (Ok (Known Pcopy))
+    (cond (eqb n 11) (Ok (Known Round))
+    (cond (eqb n 12) (Ok (Known Lend))
+    (cond (eqb n 13) (Ok (Known Back))
+    (cond (eqb n 14) (Ok (Known Low))
+    (cond (eqb n 15) (Ok Write) (cond (eqb n 16) (Ok Read) (cond (eqb n 17) (Ok Stats) (cond (eqb n 18) (Ok Boot) (Err BadLine)))))))))))))))))))
 
 -- numbers that are not there count as 0
 abbrev pub numbers_of : List ℕ → ℕ → ℕ
@@ -99,13 +102,13 @@ abbrev pub BootsFrom : List ℕ → Counters → Lent → Counters → Lent → 
 BootsFrom ns k l k' l' r = booted_by ns k l ≡ record { counters = k'; served = record { lent = l'; number = r } }
 
 -- what is left in the record, the loans and the bytes, and answered. Only the statistics are written to the bytes, only a write reads them, and 17 is no such call.
-abbrev pub CallsBy : Asked → List ℕ → Counters → Lent → List ℕ → Counters → Lent → List ℕ → ℕ → Type 0
-CallsBy (Known a) ns k l bs k' l' bs' r = ServesWith (call_of a (numbers_of ns)) k l k' l' r × (bs' ≡ bs)
-CallsBy Write ns k l bs k' l' bs' r = ServesWith (Calls.Write (numbers_of ns 0) (numbers_of ns 1) bs) k l k' l' r × (bs' ≡ bs)
-CallsBy Read ns k l bs k' l' bs' r = PlacesWith (numbers_of ns 0) (numbers_of ns 1) (numbers_of ns 2) k l l' r × (k' ≡ k) × (bs' ≡ bs)
-CallsBy Stats ns k l bs k' l' bs' r = ReportsWith k l bs k' l' bs' r
-CallsBy Boot ns k l bs k' l' bs' r = BootsFrom ns k l k' l' r × (bs' ≡ bs)
-CallsBy Unknown ns k l bs k' l' bs' r = (stays k l 17 ≡ record { counters = k'; served = record { lent = l'; number = r } }) × (bs' ≡ bs)
+abbrev pub CallsBy : Result Asked Refusal → List ℕ → Counters → Lent → List ℕ → Counters → Lent → List ℕ → ℕ → Type 0
+CallsBy (Ok (Known a)) ns k l bs k' l' bs' r = ServesWith (call_of a (numbers_of ns)) k l k' l' r × (bs' ≡ bs)
+CallsBy (Ok Write) ns k l bs k' l' bs' r = ServesWith (Calls.Write (numbers_of ns 0) (numbers_of ns 1) bs) k l k' l' r × (bs' ≡ bs)
+CallsBy (Ok Read) ns k l bs k' l' bs' r = PlacesWith (numbers_of ns 0) (numbers_of ns 1) (numbers_of ns 2) k l l' r × (k' ≡ k) × (bs' ≡ bs)
+CallsBy (Ok Stats) ns k l bs k' l' bs' r = ReportsWith k l bs k' l' bs' r
+CallsBy (Ok Boot) ns k l bs k' l' bs' r = BootsFrom ns k l k' l' r × (bs' ≡ bs)
+CallsBy (Err e) ns k l bs k' l' bs' r = (stays k l (number_of e) ≡ record { counters = k'; served = record { lent = l'; number = r } }) × (bs' ≡ bs)
 
 abbrev pub CallsWith : ℕ → List ℕ → Counters → Lent → List ℕ → Counters → Lent → List ℕ → ℕ → Type 0
 CallsWith op = CallsBy (ask_of op)

@@ -25,7 +25,7 @@ ghost use Rattle.definition.specs.Calls.{
   Low,
 };
 ghost use Rattle.lines.specs.Reading.{call_of};
-ghost use Rattle.service.specs.Serving.{loans_of, Serves, ServesWith, Places, PlacesWith, Reports, ReportsWith};
+ghost use Rattle.service.specs.Serving.{code as code_def, loans_of, Serves, ServesWith, Places, PlacesWith, Reports, ReportsWith};
 ghost use Rattle.store.specs.Exported.{Audits};
 ghost use Rattle.store.specs.Lending.{
   region_of,
@@ -42,10 +42,20 @@ ghost use Rattle.store.specs.Lending.{
 };
 
 use address::PhysAddr;
-use definition::{Counters, MemoryRegion};
+use definition::{Counters, MemoryRegion, MemoryRegionKind, Refusal};
 use lines::Ask;
 use map::Gathered;
-use service::Counted;
+use service::Told;
+
+// The number that an exported function returns: 0, or the refusal's on 01's sheet.
+fn code(told: Told) -> u32
+    ensures { result ≡ code_def told }
+{
+    match told {
+        Ok(()) => 0,
+        Err(refusal) => refusal.number(),
+    }
+}
 
 // ---- the audit
 
@@ -59,15 +69,9 @@ pub extern "C" fn jilakkor_audit(
 ) -> u32
     ensures { Audits words.now records.now memory_len queue_len result }
 {
-    if !words::is_kept(words) {
-        return 6;
-    }
-    let counters = words::counters_in(words);
-    if audit::audit(counters, words, records, memory_len, queue_len) {
-        0
-    } else {
-        6
-    }
+    let is_sound = words::is_kept(words)
+        && audit::audit(words::counters_in(words), words, records, memory_len, queue_len);
+    if is_sound { 0 } else { Refusal::Torn.number() }
 }
 
 // ---- the calls that answer by numbers
@@ -88,7 +92,7 @@ pub extern "C" fn jilakkor_alloc(
         (loans_of words.old records.old memory.old queue.old answer.old)
         (loans_of words.new records.new memory.new queue.new answer.new) result }
 {
-    service::serve_alloc(words, records, memory, queue, answer, size, align, flags)
+    code(service::serve_alloc(words, records, memory, queue, answer, size, align, flags))
 }
 
 // try_alloc_split_frames, tracker.rs 98: the same, and a frame above the first level becomes 512 held ones.
@@ -107,7 +111,7 @@ pub extern "C" fn jilakkor_take(
         (loans_of words.old records.old memory.old queue.old answer.old)
         (loans_of words.new records.new memory.new queue.new answer.new) result }
 {
-    service::serve(
+    code(service::serve(
         words,
         records,
         memory,
@@ -115,7 +119,7 @@ pub extern "C" fn jilakkor_take(
         answer,
         Ask::Take,
         [size, align, flags, 0, 0],
-    )
+    ))
 }
 
 // split_frame: a held frame becomes 512 held ones.
@@ -132,7 +136,7 @@ pub extern "C" fn jilakkor_split(
         (loans_of words.old records.old memory.old queue.old answer.old)
         (loans_of words.new records.new memory.new queue.new answer.new) result }
 {
-    service::serve(
+    code(service::serve(
         words,
         records,
         memory,
@@ -140,7 +144,7 @@ pub extern "C" fn jilakkor_split(
         answer,
         Ask::Split,
         [address, 0, 0, 0, 0],
-    )
+    ))
 }
 
 // free_frame, tracker.rs 41.
@@ -157,7 +161,7 @@ pub extern "C" fn jilakkor_free(
         (loans_of words.old records.old memory.old queue.old answer.old)
         (loans_of words.new records.new memory.new queue.new answer.new) result }
 {
-    service::serve_free(words, records, memory, queue, answer, PhysAddr(address))
+    code(service::serve_free(words, records, memory, queue, answer, PhysAddr(address)))
 }
 
 // Frame::zero, frame.rs 430.
@@ -174,7 +178,7 @@ pub extern "C" fn jilakkor_zero(
         (loans_of words.old records.old memory.old queue.old answer.old)
         (loans_of words.new records.new memory.new queue.new answer.new) result }
 {
-    service::serve(
+    code(service::serve(
         words,
         records,
         memory,
@@ -182,7 +186,7 @@ pub extern "C" fn jilakkor_zero(
         answer,
         Ask::Zero,
         [address, 0, 0, 0, 0],
-    )
+    ))
 }
 
 // Frame::set_not_zero, frame.rs 443.
@@ -199,7 +203,7 @@ pub extern "C" fn jilakkor_dirty(
         (loans_of words.old records.old memory.old queue.old answer.old)
         (loans_of words.new records.new memory.new queue.new answer.new) result }
 {
-    service::serve(
+    code(service::serve(
         words,
         records,
         memory,
@@ -207,7 +211,7 @@ pub extern "C" fn jilakkor_dirty(
         answer,
         Ask::Dirty,
         [address, 0, 0, 0, 0],
-    )
+    ))
 }
 
 // get_frame, frame.rs 743: the page of an address, and the bytes of the frame that starts there.
@@ -224,7 +228,7 @@ pub extern "C" fn jilakkor_find(
         (loans_of words.old records.old memory.old queue.old answer.old)
         (loans_of words.new records.new memory.new queue.new answer.new) result }
 {
-    service::serve_find(words, records, memory, queue, answer, PhysAddr(address))
+    code(service::serve_find(words, records, memory, queue, answer, PhysAddr(address)))
 }
 
 // A held frame that the next reclaim rounds may free.
@@ -241,7 +245,7 @@ pub extern "C" fn jilakkor_queue(
         (loans_of words.old records.old memory.old queue.old answer.old)
         (loans_of words.new records.new memory.new queue.new answer.new) result }
 {
-    service::serve(
+    code(service::serve(
         words,
         records,
         memory,
@@ -249,7 +253,7 @@ pub extern "C" fn jilakkor_queue(
         answer,
         Ask::Queue,
         [address, 0, 0, 0, 0],
-    )
+    ))
 }
 
 // `len` bytes of a frame, from `offset` on, become `byte` modulo 256.
@@ -269,7 +273,7 @@ pub extern "C" fn jilakkor_fill(
         (loans_of words.old records.old memory.old queue.old answer.old)
         (loans_of words.new records.new memory.new queue.new answer.new) result }
 {
-    service::serve(
+    code(service::serve(
         words,
         records,
         memory,
@@ -277,7 +281,7 @@ pub extern "C" fn jilakkor_fill(
         answer,
         Ask::Fill,
         [address, offset, len, byte, 0],
-    )
+    ))
 }
 
 // Frame::copy_contents_from, frame.rs 491.
@@ -298,7 +302,7 @@ pub extern "C" fn jilakkor_copy(
         (loans_of words.old records.old memory.old queue.old answer.old)
         (loans_of words.new records.new memory.new queue.new answer.new) result }
 {
-    service::serve(
+    code(service::serve(
         words,
         records,
         memory,
@@ -306,7 +310,7 @@ pub extern "C" fn jilakkor_copy(
         answer,
         Ask::Copy,
         [target, target_offset, source, source_offset, len],
-    )
+    ))
 }
 
 // Frame::copy_contents_from_physaddr, frame.rs 527.
@@ -326,7 +330,7 @@ pub extern "C" fn jilakkor_pcopy(
         (loans_of words.old records.old memory.old queue.old answer.old)
         (loans_of words.new records.new memory.new queue.new answer.new) result }
 {
-    service::serve(
+    code(service::serve(
         words,
         records,
         memory,
@@ -334,7 +338,7 @@ pub extern "C" fn jilakkor_pcopy(
         answer,
         Ask::Pcopy,
         [target, target_offset, source, len, 0],
-    )
+    ))
 }
 
 // reclaim_main, tracker.rs 419 to 457: one turn of its loop.
@@ -350,7 +354,7 @@ pub extern "C" fn jilakkor_round(
         (loans_of words.old records.old memory.old queue.old answer.old)
         (loans_of words.new records.new memory.new queue.new answer.new) result }
 {
-    service::serve(
+    code(service::serve(
         words,
         records,
         memory,
@@ -358,7 +362,7 @@ pub extern "C" fn jilakkor_round(
         answer,
         Ask::Round,
         [0, 0, 0, 0, 0],
-    )
+    ))
 }
 
 // track_frame_pager, tracker.rs 216.
@@ -375,7 +379,7 @@ pub extern "C" fn jilakkor_lend(
         (loans_of words.old records.old memory.old queue.old answer.old)
         (loans_of words.new records.new memory.new queue.new answer.new) result }
 {
-    service::serve(
+    code(service::serve(
         words,
         records,
         memory,
@@ -383,7 +387,7 @@ pub extern "C" fn jilakkor_lend(
         answer,
         Ask::Lend,
         [count, 0, 0, 0, 0],
-    )
+    ))
 }
 
 // untrack_frame_pager, tracker.rs 222.
@@ -400,7 +404,7 @@ pub extern "C" fn jilakkor_back(
         (loans_of words.old records.old memory.old queue.old answer.old)
         (loans_of words.new records.new memory.new queue.new answer.new) result }
 {
-    service::serve(
+    code(service::serve(
         words,
         records,
         memory,
@@ -408,7 +412,7 @@ pub extern "C" fn jilakkor_back(
         answer,
         Ask::Back,
         [count, 0, 0, 0, 0],
-    )
+    ))
 }
 
 // should_reclaim, tracker.rs 180: 1 where memory is low.
@@ -424,7 +428,7 @@ pub extern "C" fn jilakkor_low(
         (loans_of words.old records.old memory.old queue.old answer.old)
         (loans_of words.new records.new memory.new queue.new answer.new) result }
 {
-    service::serve(
+    code(service::serve(
         words,
         records,
         memory,
@@ -432,7 +436,7 @@ pub extern "C" fn jilakkor_low(
         answer,
         Ask::Low,
         [0, 0, 0, 0, 0],
-    )
+    ))
 }
 
 // ---- the calls over bytes
@@ -453,7 +457,7 @@ pub extern "C" fn jilakkor_write(
         (loans_of words.old records.old memory.old queue.old answer.old)
         (loans_of words.new records.new memory.new queue.new answer.new) result }
 {
-    service::serve_write(
+    code(service::serve_write(
         words,
         records,
         memory,
@@ -462,7 +466,7 @@ pub extern "C" fn jilakkor_write(
         PhysAddr(address),
         offset,
         bytes,
-    )
+    ))
 }
 
 // Where `len` bytes of a frame, from `offset` on, stand in the memory: the answer's first number is their place, the second their number.
@@ -481,7 +485,7 @@ pub extern "C" fn jilakkor_read(
         (loans_of words.old records.old memory.old queue.old answer.old)
         (loans_of words.new records.new memory.new queue.new answer.new) result }
 {
-    service::serve_read(
+    code(service::serve_read(
         words,
         records,
         memory,
@@ -490,7 +494,7 @@ pub extern "C" fn jilakkor_read(
         PhysAddr(address),
         offset,
         len,
-    )
+    ))
 }
 
 // print_tracker_stats, tracker.rs 235: the statistics stand in front of `text`, which has at least 368 bytes; the answer's second number is
@@ -510,7 +514,7 @@ pub extern "C" fn jilakkor_stats(
         (loans_of words.new records.new memory.new queue.new answer.new) text.new
         result }
 {
-    service::serve_stats(words, records, memory, queue, answer, text)
+    code(service::serve_stats(words, records, memory, queue, answer, text))
 }
 
 // ---- the lent map
@@ -530,7 +534,7 @@ fn region_of(entry: Entry) -> MemoryRegion
     MemoryRegion {
         start: PhysAddr(entry.start),
         length: entry.length as usize,
-        kind: calls::kind_of(entry.kind),
+        kind: MemoryRegionKind::from(entry.kind),
     }
 }
 
@@ -561,13 +565,12 @@ fn boot_gathered(
     memory: &[u8],
     queue: &[u64],
     answer: &mut [u64],
-) -> u32
+) -> Told
     ensures { BootsBy g
         (loans_of words.old records.old memory.now queue.now answer.old)
-        (loans_of words.new records.new memory.now queue.now answer.new) result }
+        (loans_of words.new records.new memory.now queue.now answer.new) (code_def result) }
 {
-    let map = g.map;
-    service::serve_boot(map, g.count, words, records, memory, queue, answer)
+    service::serve_boot(g.map, g.count, words, records, memory, queue, answer)
 }
 
 // init, frame.rs 707, over a lent list of region entries of any length.
@@ -584,12 +587,12 @@ pub extern "C" fn jilakkor_boot(
         (loans_of words.old records.old memory.now queue.now answer.old)
         (loans_of words.new records.new memory.now queue.now answer.new) result }
 {
-    boot_gathered(gather(map), words, records, memory, queue, answer)
+    code(boot_gathered(gather(map), words, records, memory, queue, answer))
 }
 
 // ---- the lent counters
 
-// What a number asks for: a call that answers by numbers, one of the four others, or none.
+// What a number asks for: a call that answers by numbers, or one of the four others.
 #[derive(Clone, Copy)]
 pub enum Asked {
     Known(Ask),
@@ -597,135 +600,44 @@ pub enum Asked {
     Read,
     Stats,
     Boot,
-    Unknown,
 }
 
-#[tactic(auto, unfolding(crate::specs::Lending::ask_of))]
-fn ask_of(op: u64) -> Asked
-    ensures { result ≡ ask_of op }
-{
-    match op {
-        0 => Asked::Known(Ask::Alloc),
-        1 => Asked::Known(Ask::Take),
-        2 => Asked::Known(Ask::Split),
-        3 => Asked::Known(Ask::Free),
-        4 => Asked::Known(Ask::Zero),
-        5 => Asked::Known(Ask::Dirty),
-        6 => Asked::Known(Ask::Find),
-        7 => Asked::Known(Ask::Queue),
-        8 => Asked::Known(Ask::Fill),
-        9 => Asked::Known(Ask::Copy),
-        10 => Asked::Known(Ask::Pcopy),
-        11 => Asked::Known(Ask::Round),
-        12 => Asked::Known(Ask::Lend),
-        13 => Asked::Known(Ask::Back),
-        14 => Asked::Known(Ask::Low),
-        15 => Asked::Write,
-        16 => Asked::Read,
-        17 => Asked::Stats,
-        18 => Asked::Boot,
-        _ => Asked::Unknown,
+impl TryFrom<u64> for Asked {
+    type Error = Refusal;
+
+    ghost try_from_gives = { λ op asked. asked ≡ ask_of op };
+
+    fn try_from(op: u64) -> Result<Asked, Refusal> {
+        Ok(match op {
+            0 => Asked::Known(Ask::Alloc),
+            1 => Asked::Known(Ask::Take),
+            2 => Asked::Known(Ask::Split),
+            3 => Asked::Known(Ask::Free),
+            4 => Asked::Known(Ask::Zero),
+            5 => Asked::Known(Ask::Dirty),
+            6 => Asked::Known(Ask::Find),
+            7 => Asked::Known(Ask::Queue),
+            8 => Asked::Known(Ask::Fill),
+            9 => Asked::Known(Ask::Copy),
+            10 => Asked::Known(Ask::Pcopy),
+            11 => Asked::Known(Ask::Round),
+            12 => Asked::Known(Ask::Lend),
+            13 => Asked::Known(Ask::Back),
+            14 => Asked::Known(Ask::Low),
+            15 => Asked::Write,
+            16 => Asked::Read,
+            17 => Asked::Stats,
+            18 => Asked::Boot,
+            _ => return Err(Refusal::BadLine),
+        })
     }
 }
 
+// Numbers that are not there count as 0.
 fn number_at(numbers: &[u64], i: usize) -> u64
     ensures { result ≡ numbers_of numbers.now i }
 {
-    if i < numbers.len() { numbers[i] } else { 0 }
-}
-
-fn known_counted(
-    counters: Counters,
-    words: &mut [u64],
-    records: &mut [u8],
-    memory: &mut [u8],
-    queue: &mut [u64],
-    answer: &mut [u64],
-    ask: Ask,
-    n: &[u64],
-) -> Counted
-    ensures { ServesWith (call_of ask (numbers_of n.now)) counters
-        (loans_of words.old records.old memory.old queue.old answer.old) result.counters
-        (loans_of words.new records.new memory.new queue.new answer.new) result.number }
-{
-    let five = [
-        number_at(n, 0),
-        number_at(n, 1),
-        number_at(n, 2),
-        number_at(n, 3),
-        number_at(n, 4),
-    ];
-    service::serve_with(counters, words, records, memory, queue, answer, ask, five)
-}
-
-fn write_counted(
-    counters: Counters,
-    words: &[u64],
-    records: &mut [u8],
-    memory: &mut [u8],
-    queue: &[u64],
-    answer: &mut [u64],
-    n: &[u64],
-    bytes: &[u8],
-) -> Counted
-    ensures { ServesWith (Write (numbers_of n.now 0) (numbers_of n.now 1) bytes.now) counters
-        (loans_of words.now records.old memory.old queue.now answer.old) result.counters
-        (loans_of words.now records.new memory.new queue.now answer.new) result.number }
-{
-    let pa = PhysAddr(number_at(n, 0));
-    let offset = number_at(n, 1);
-    Counted {
-        counters,
-        number: service::serve_write_with(
-            counters, words, records, memory, queue, answer, pa, offset, bytes,
-        ),
-    }
-}
-
-fn read_counted(
-    counters: Counters,
-    words: &[u64],
-    records: &[u8],
-    memory: &[u8],
-    queue: &[u64],
-    answer: &mut [u64],
-    n: &[u64],
-) -> Counted
-    ensures { PlacesWith (numbers_of n.now 0) (numbers_of n.now 1) (numbers_of n.now 2) counters
-        (loans_of words.now records.now memory.now queue.now answer.old)
-        (loans_of words.now records.now memory.now queue.now answer.new) result.number
-        × (result.counters ≡ counters) }
-{
-    let pa = PhysAddr(number_at(n, 0));
-    let offset = number_at(n, 1);
-    let len = number_at(n, 2);
-    Counted {
-        counters,
-        number: service::serve_read_with(
-            counters, words, records, memory, queue, answer, pa, offset, len,
-        ),
-    }
-}
-
-fn stats_counted(
-    counters: Counters,
-    words: &[u64],
-    records: &[u8],
-    memory: &[u8],
-    queue: &[u64],
-    answer: &mut [u64],
-    text: &mut [u8],
-) -> Counted
-    ensures { ReportsWith counters
-        (loans_of words.now records.now memory.now queue.now answer.old)
-        text.old result.counters
-        (loans_of words.now records.now memory.now queue.now answer.new)
-        text.new result.number }
-{
-    Counted {
-        counters,
-        number: service::serve_stats_with(counters, words, records, memory, queue, answer, text),
-    }
+    numbers.get(i).copied().unwrap_or(0)
 }
 
 fn entry_in(numbers: &[u64], i: usize) -> Entry
@@ -754,34 +666,31 @@ fn gather_numbers(numbers: &[u64]) -> Gathered
     g
 }
 
-fn boot_counted(
-    counters: Counters,
+// A boot over a map that is lent as numbers, three for each entry.
+fn boot_numbers(
+    counters: &mut Counters,
     words: &mut [u64],
     records: &mut [u8],
     memory: &[u8],
     queue: &[u64],
     answer: &mut [u64],
     n: &[u64],
-) -> Counted
-    ensures { BootsFrom n.now counters
-        (loans_of words.old records.old memory.now queue.now answer.old) result.counters
-        (loans_of words.new records.new memory.now queue.now answer.new) result.number }
+) -> Told
+    ensures { BootsFrom n.now counters.old
+        (loans_of words.old records.old memory.now queue.now answer.old) counters.new
+        (loans_of words.new records.new memory.now queue.now answer.new) (code_def result) }
 {
     if n.len() % 3 != 0 {
-        return Counted {
-            counters,
-            number: 17,
-        };
+        return Err(Refusal::BadLine);
     }
     let g = gather_numbers(n);
-    let map = g.map;
     service::serve_boot_with(
-        counters, map, g.count, words, records, memory, queue, answer,
+        counters, g.map, g.count, words, records, memory, queue, answer,
     )
 }
 
-fn call_counted(
-    counters: Counters,
+fn call(
+    counters: &mut Counters,
     words: &mut [u64],
     records: &mut [u8],
     memory: &mut [u8],
@@ -790,23 +699,36 @@ fn call_counted(
     op: u64,
     n: &[u64],
     bytes: &mut [u8],
-) -> Counted
-    ensures { CallsWith op n.now counters
+) -> Told
+    ensures { CallsWith op n.now counters.old
         (loans_of words.old records.old memory.old queue.old answer.old)
-        bytes.old result.counters
+        bytes.old
+        counters.new
         (loans_of words.new records.new memory.new queue.new answer.new)
-        bytes.new result.number }
+        bytes.new (code_def result) }
 {
-    match ask_of(op) {
-        Asked::Known(ask) => known_counted(counters, words, records, memory, queue, answer, ask, n),
-        Asked::Write => write_counted(counters, words, records, memory, queue, answer, n, bytes),
-        Asked::Read => read_counted(counters, words, records, memory, queue, answer, n),
-        Asked::Stats => stats_counted(counters, words, records, memory, queue, answer, bytes),
-        Asked::Boot => boot_counted(counters, words, records, memory, queue, answer, n),
-        Asked::Unknown => Counted {
-            counters,
-            number: 17,
-        },
+    let five = [
+        number_at(n, 0),
+        number_at(n, 1),
+        number_at(n, 2),
+        number_at(n, 3),
+        number_at(n, 4),
+    ];
+    let pa = PhysAddr(five[0]);
+    match Asked::try_from(op)? {
+        Asked::Known(ask) => {
+            service::serve_with(counters, words, records, memory, queue, answer, ask, five)
+        }
+        Asked::Write => service::serve_write_with(
+            *counters, words, records, memory, queue, answer, pa, five[1], bytes,
+        ),
+        Asked::Read => service::serve_read_with(
+            *counters, words, records, memory, queue, answer, pa, five[1], five[2],
+        ),
+        Asked::Stats => {
+            service::serve_stats_with(*counters, words, records, memory, queue, answer, bytes)
+        }
+        Asked::Boot => boot_numbers(counters, words, records, memory, queue, answer, n),
     }
 }
 
@@ -831,9 +753,7 @@ pub extern "C" fn jilakkor_call(
         (loans_of words.new records.new memory.new queue.new answer.new)
         bytes.new result }
 {
-    let counted = call_counted(
-        *counters, words, records, memory, queue, answer, op, numbers, bytes,
-    );
-    *counters = counted.counters;
-    counted.number
+    code(call(
+        counters, words, records, memory, queue, answer, op, numbers, bytes,
+    ))
 }
