@@ -3,12 +3,12 @@
 use Prim.Native.Nat.{ℕ, suc, ◌+◌, ◌-◌, ◌<◌}
 use mathlib.Core.Path.{◌≡◌, refl}
 use native.Mathlib.Omega.{arith}
-use borrow.Author.Tests.{eq-eqb, ne_eqb}
+use mathlib.Core.Bool.{true, false}
 use Rattle.definition.specs.Board.{standard}
 use Rattle.definition.specs.Calls.{Call}
 use Rattle.definition.specs.World.{World}
-use Rattle.exam.specs.declared.Answer.{Answer}
-use Rattle.exam.specs.Promise.{Leaves}
+use Rattle.std.specs.Prelude.{is_ok}
+use Rattle.exam.specs.Promise.{Answer, Leaves}
 use Rattle.drivers.specs.Driving.{Driven, Drives, Turn, turn, turns}
 
 pub leaves_turn : {w : World} {c : Call} {v : World} {y : Answer} → Leaves standard w c v y → turn c w ≡ record { world = v; answer = y }
@@ -33,10 +33,10 @@ module _ {t : World → Turn} {times : ℕ} {first w : World} {i : ℕ} (O : Onw
     one_more_lem : times - i ≡ suc (times - (i + 1))
     one_more_lem = omega arith
 
-    pub onward : y.number ≡ 0 → Onward t times first v (i + 1)
+    pub onward : is_ok y ≡ true → Onward t times first v (i + 1)
     unfolding turns
-    onward z = record { same = rw (one_more_lem, e, eq-eqb y.number 0 z) at O.same }
+    onward z = record { same = rw (one_more_lem, e, z) at O.same }
 
-    pub stopped : (y.number ≡ 0 → ⊥) → Drives (turns t times 0 first) v.records v.memory i
+    pub stopped : is_ok y ≡ false → Drives (turns t times 0 first) v.records v.memory i
     unfolding turns
-    stopped z = drives_as v i (rw (one_more_lem, e, ne_eqb y.number 0 z) at O.same)
+    stopped z = drives_as v i (rw (one_more_lem, e, z) at O.same)

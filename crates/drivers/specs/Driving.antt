@@ -1,6 +1,6 @@
 -- What a driver leaves in the loans and answers: the same turn again and again, each on the world as the last left it, until one is refused. A reader takes
 -- from here what the number of a driver counts (`turns`, `Drives`), and from which world it starts (`booted_world`, `held`).
-use Rattle.std.specs.Prelude.{ℕ, zero, suc, ◌+◌, false, cond, List, [], ◌∷◌, ◌≡◌, eqb}
+use Rattle.std.specs.Prelude.{ℕ, zero, suc, ◌+◌, false, cond, List, [], ◌∷◌, Ok, Err, is_ok, ◌≡◌}
 use Rattle.definition.specs.declared.MemoryRegion.{MemoryRegion}
 use Rattle.definition.specs.declared.MemoryRegionKind.TheVariants.{UsableRam}
 use Rattle.definition.specs.Board.{standard}
@@ -8,12 +8,11 @@ use Rattle.definition.specs.Boot.{counters_at_boot}
 use Rattle.definition.specs.Calls.{Alloc, Call, Copy, Free, Layout}
 use Rattle.definition.specs.Torn.{boot_call, call}
 use Rattle.definition.specs.World.{World}
-use Rattle.exam.specs.declared.Answer.{Answer}
-use Rattle.exam.specs.Promise.{state_with, told, world_of}
+use Rattle.exam.specs.Promise.{Answer, state_with, told, world_of}
 
 -- ---- a turn
 
--- the world that it leaves, and its answer as three numbers
+-- the world that it leaves, and its answer
 pub record Turn : Type 0 where
   pub world : World
   pub answer : Answer
@@ -21,13 +20,18 @@ pub record Turn : Type 0 where
 unfoldable pub turn : Call → World → Turn
 turn c w = record { world = (call standard w c).world; answer = told (call standard w c).answer }
 
+-- the address of an answer, 0 of a refusal
+abbrev pub address_in : Answer → ℕ
+address_in (Ok y) = y.address
+address_in (Err r) = 0
+
 -- a frame of so many bytes, with no flags
 abbrev pub plain : ℕ → Layout
 plain size = record { size = size; align = size; flags = record { zeroed = false; kernel = false; wait_ok = false } }
 
 -- the frame that a turn gave is freed; where it was refused, nothing is
 abbrev pub freed_after : Turn → Turn
-freed_after t = cond (eqb t.answer.number 0) (turn (Free t.answer.address) t.world) t
+freed_after t = cond (is_ok t.answer) (turn (Free (address_in t.answer)) t.world) t
 
 abbrev pub grant_and_free : World → Turn
 grant_and_free w = freed_after (turn (Alloc (plain 4096)) w)
@@ -42,7 +46,7 @@ pub record Driven : Type 0 where
 unfoldable pub turns : (World → Turn) → (more accepted : ℕ) → World → Driven
 turns t zero n w = record { world = w; accepted = n }
 turns t (suc k) n w =
-    cond (eqb (t w).answer.number 0) (turns t k (n + 1) (t w).world) (record { world = (t w).world; accepted = n })
+    cond (is_ok (t w).answer) (turns t k (n + 1) (t w).world) (record { world = (t w).world; accepted = n })
 
 -- the loans that a driver leaves, and its answer
 pub record Drives (d : Driven) (rs ms : List ℕ) (r : ℕ) : Type 0 where
@@ -67,8 +71,8 @@ held words records memory queue start length size = turn (Alloc (plain size)) (b
 
 -- calls on the frame that a turn gave
 abbrev pub on_frame : (ℕ → Call) → (times : ℕ) → Turn → Driven
-on_frame c times t = turns (turn (c t.answer.address)) times 0 t.world
+on_frame c times t = turns (turn (c (address_in t.answer))) times 0 t.world
 
 -- the same to a second frame, from the frame that a turn gave
 abbrev pub to_second : (size times : ℕ) → Turn → Driven
-to_second size times t = on_frame (λ a. Copy a 0 t.answer.address 0 size) times (turn (Alloc (plain size)) t.world)
+to_second size times t = on_frame (λ a. Copy a 0 (address_in t.answer) 0 size) times (turn (Alloc (plain size)) t.world)

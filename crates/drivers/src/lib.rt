@@ -8,11 +8,11 @@ ghost use Rattle.definition.specs.Calls.{Alloc, Find, Zero, Fill, Copy};
 ghost use Rattle.words.specs.Words.{board_in, Long, state_words};
 ghost use Rattle.exam.specs.Promise.{state_with, world_of, Leaves};
 ghost use Rattle.exam.specs.Making.{world};
-ghost use Rattle.drivers.specs.Driving.{Drives, booted_world, grant_and_free, held, on_frame, plain, to_second, turn, turns};
+ghost use Rattle.drivers.specs.Driving.{Drives, address_in, booted_world, grant_and_free, held, on_frame, plain, to_second, turn, turns};
 
 use address::PhysAddr;
 use definition::{Counters, FrameAllocFlags, MemoryRegion, MemoryRegionKind};
-use exam::{Answer, Outcome};
+use exam::Answer;
 
 // The store of a map with one usable entry. Where the map is refused it has no region, and refuses all that follows.
 fn booted(
@@ -39,34 +39,26 @@ fn booted(
         kind: MemoryRegionKind::UsableRam,
     };
     let board = definition::standard();
-    let outcome = boot::boot(
-        board,
-        boot::started(0),
-        words,
-        map,
-        1,
-        records,
-        memory,
-        queue,
-    );
-    outcome.counters
+    let mut counters = boot::started(0);
+    let _ = boot::boot(board, &mut counters, words, map, 1, records, memory, queue);
+    counters
 }
 
 // A frame of `size` bytes, with no flags.
 fn granted(
-    counters: Counters,
+    counters: &mut Counters,
     words: &mut [u64],
     records: &mut [u8],
     memory: &mut [u8],
     queue: &[u64],
     size: u64,
-) -> Outcome
+) -> Answer
     requires { Long words.old }
     ensures { turn (Alloc (plain size))
-        (world counters words.old records.old memory.old queue.now)
+        (world counters.old words.old records.old memory.old queue.now)
         ≡ (record {
-          world = world result.counters words.new records.new memory.new queue.now;
-          answer = result.answer;
+          world = world counters.new words.new records.new memory.new queue.now;
+          answer = result;
         }) }
 {
     let flags = FrameAllocFlags {
@@ -77,55 +69,34 @@ fn granted(
     door::alloc(counters, words, records, memory, queue, size, size, flags)
 }
 
-// The store of one usable entry, and a grant of a frame of `size` bytes.
-fn holding(
-    words: &mut [u64],
-    records: &mut [u8],
-    memory: &mut [u8],
-    queue: &[u64],
-    start: u64,
-    bytes: usize,
-    size: u64,
-) -> Outcome
-    requires { Long words.old }
-    ensures { held words.old records.old memory.old queue.now start bytes size
-        ≡ (record {
-          world = world result.counters words.new records.new memory.new queue.now;
-          answer = result.answer;
-        }) }
-{
-    let counters = booted(words, records, memory, queue, start, bytes);
-    granted(counters, words, records, memory, queue, size)
-}
-
 // A grant of 4 KiB, and the free of its frame; the answer is that of the first that is refused, else the free's.
 fn granted_and_freed(
-    counters: Counters,
+    counters: &mut Counters,
     words: &mut [u64],
     records: &mut [u8],
     memory: &mut [u8],
     queue: &[u64],
-) -> Outcome
+) -> Answer
     requires { Long words.old }
-    ensures { grant_and_free (world counters words.old records.old memory.old queue.now)
+    ensures { grant_and_free (world counters.old words.old records.old memory.old queue.now)
         ≡ (record {
-          world = world result.counters words.new records.new memory.new queue.now;
-          answer = result.answer;
+          world = world counters.new words.new records.new memory.new queue.now;
+          answer = result;
         }) }
 {
-    let grant = granted(counters, words, records, memory, queue, 4096);
-    let frame = grant.answer;
-    if frame.number != 0 {
-        return grant;
+    let frame = granted(counters, words, records, memory, queue, 4096)?;
+    let pa = PhysAddr::new(frame.address);
+    door::free(counters, words, records, memory, queue, pa)
+}
+
+// The address of an answer, 0 of a refusal.
+fn address_in(answer: Answer) -> u64
+    ensures { result ≡ address_in answer }
+{
+    match answer {
+        Ok(reply) => reply.address,
+        Err(_) => 0,
     }
-    door::free(
-        grant.counters,
-        words,
-        records,
-        memory,
-        queue,
-        PhysAddr::new(frame.address),
-    )
 }
 
 // Grants a frame of 4 KiB and frees it again, up to `times` times.
@@ -145,17 +116,12 @@ pub extern "C" fn drivers_grants(
 {
     let mut words = [0u64; words::STATE_WORDS];
     let mut counters = booted(&mut words, records, memory, queue, start, bytes);
-    let mut i: usize = 0;
-    while i < times {
-        let both = granted_and_freed(counters, &mut words, records, memory, queue);
-        let answer = both.answer;
-        if answer.number != 0 {
+    for i in 0..times {
+        if granted_and_freed(&mut counters, &mut words, records, memory, queue).is_err() {
             return i;
         }
-        counters = both.counters;
-        i += 1;
     }
-    i
+    times
 }
 
 // Finds the page of an address, up to `times` times.
@@ -176,22 +142,13 @@ pub extern "C" fn drivers_finds(
 {
     let mut words = [0u64; words::STATE_WORDS];
     let counters = booted(&mut words, records, memory, queue, start, bytes);
-    let mut i: usize = 0;
-    while i < times {
-        let found = door::find(
-            counters,
-            &words,
-            records,
-            memory,
-            queue,
-            PhysAddr::new(address),
-        );
-        if found.number != 0 {
+    let pa = PhysAddr::new(address);
+    for i in 0..times {
+        if door::find(counters, &words, records, memory, queue, pa).is_err() {
             return i;
         }
-        i += 1;
     }
-    i
+    times
 }
 
 // ---- calls on contents, each with the torn test before it, as the library makes them
@@ -210,9 +167,7 @@ fn zero(
         (Zero pa.0)
         (world counters words.now records.new memory.new queue.now) result }
 {
-    if !exam::is_sound(counters, words, records, memory, queue) {
-        return exam::refused(6);
-    }
+    exam::torn_test(counters, words, records, memory, queue)?;
     ranges::zero(words, records, memory, pa)
 }
 
@@ -233,9 +188,7 @@ fn fill(
         (Fill pa.0 offset len byte)
         (world counters words.now records.new memory.new queue.now) result }
 {
-    if !exam::is_sound(counters, words, records, memory, queue) {
-        return exam::refused(6);
-    }
+    exam::torn_test(counters, words, records, memory, queue)?;
     ranges::fill(words, records, memory, pa, offset, len, byte)
 }
 
@@ -257,9 +210,7 @@ fn copy(
         (Copy target.0 target_offset source.0 source_offset len)
         (world counters words.now records.new memory.new queue.now) result }
 {
-    if !exam::is_sound(counters, words, records, memory, queue) {
-        return exam::refused(6);
-    }
+    exam::torn_test(counters, words, records, memory, queue)?;
     copies::copy(
         words,
         records,
@@ -291,18 +242,15 @@ pub extern "C" fn drivers_zero(
         records.new memory.new result }
 {
     let mut words = [0u64; words::STATE_WORDS];
-    let grant = holding(&mut words, records, memory, queue, start, bytes, size);
-    let frame = grant.answer;
-    let pa = PhysAddr::new(frame.address);
-    let mut i: usize = 0;
-    while i < times {
-        let answer = zero(grant.counters, &words, records, memory, queue, pa);
-        if answer.number != 0 {
+    let mut counters = booted(&mut words, records, memory, queue, start, bytes);
+    let frame = granted(&mut counters, &mut words, records, memory, queue, size);
+    let pa = PhysAddr::new(address_in(frame));
+    for i in 0..times {
+        if zero(counters, &words, records, memory, queue, pa).is_err() {
             return i;
         }
-        i += 1;
     }
-    i
+    times
 }
 
 // Fills all of a held frame of `size` bytes, up to `times` times.
@@ -322,28 +270,15 @@ pub extern "C" fn drivers_fill(
         records.new memory.new result }
 {
     let mut words = [0u64; words::STATE_WORDS];
-    let grant = holding(&mut words, records, memory, queue, start, bytes, size);
-    let frame = grant.answer;
-    let pa = PhysAddr::new(frame.address);
-    let mut i: usize = 0;
-    while i < times {
-        let answer = fill(
-            grant.counters,
-            &words,
-            records,
-            memory,
-            queue,
-            pa,
-            0,
-            size,
-            85,
-        );
-        if answer.number != 0 {
+    let mut counters = booted(&mut words, records, memory, queue, start, bytes);
+    let frame = granted(&mut counters, &mut words, records, memory, queue, size);
+    let pa = PhysAddr::new(address_in(frame));
+    for i in 0..times {
+        if fill(counters, &words, records, memory, queue, pa, 0, size, 85).is_err() {
             return i;
         }
-        i += 1;
     }
-    i
+    times
 }
 
 fn copy_all(
@@ -365,17 +300,12 @@ fn copy_all(
 {
     let to = PhysAddr::new(target);
     let from = PhysAddr::new(source);
-    let mut i: usize = 0;
-    while i < times {
-        let answer = copy(
-            counters, words, records, memory, queue, to, 0, from, 0, size,
-        );
-        if answer.number != 0 {
+    for i in 0..times {
+        if copy(counters, words, records, memory, queue, to, 0, from, 0, size).is_err() {
             return i;
         }
-        i += 1;
     }
-    i
+    times
 }
 
 // Copies all of one held frame of `size` bytes to another, up to `times` times.
@@ -395,18 +325,17 @@ pub extern "C" fn drivers_copy(
         records.new memory.new result }
 {
     let mut words = [0u64; words::STATE_WORDS];
-    let first = holding(&mut words, records, memory, queue, start, bytes, size);
-    let from = first.answer;
-    let second = granted(first.counters, &mut words, records, memory, queue, size);
-    let to = second.answer;
+    let mut counters = booted(&mut words, records, memory, queue, start, bytes);
+    let from = granted(&mut counters, &mut words, records, memory, queue, size);
+    let to = granted(&mut counters, &mut words, records, memory, queue, size);
     copy_all(
-        second.counters,
+        counters,
         &words,
         records,
         memory,
         queue,
-        to.address,
-        from.address,
+        address_in(to),
+        address_in(from),
         size,
         times,
     )
