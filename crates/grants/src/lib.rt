@@ -212,17 +212,11 @@ fn given<const SPLIT: bool>(
     let level = wanted(words, records, size, align, flags)?;
     let board = words::board_in(words);
     if SPLIT {
-        return Ok(handed(
-            board,
-            grant_split(counters, words, records, memory, level, flags),
-            level,
-        ));
+        let split = grant_split(counters, words, records, memory, level, flags);
+        return Ok(handed(board, split, level));
     }
-    Ok(handed(
-        board,
-        grant(counters, words, records, memory, level, flags),
-        level,
-    ))
+    let whole = grant(counters, words, records, memory, level, flags);
+    Ok(handed(board, whole, level))
 }
 
 // ---- the calls

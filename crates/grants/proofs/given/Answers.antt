@@ -12,7 +12,7 @@ returns-in_err-level-clause-grants g c q s H =
 
 pub returns-then-this-ne0-clause-grants : goal.returns-then-this-ne0-clause-grants
 returns-then-this-ne0-clause-grants g c q s H =
-    let y = c.grant_split in
+    let y = c.grant_split-split in
     let bs = y.new.records in
     rw (ne_eqb g.row.SPLIT 0 c.if-this-ne0.true, c.handed.ensures, c.board_in-board.ensures.0)
     (take_made H bs y.new.memory y.auto.records (bytes_small bs c.type_inv.records) y.ensures.finds c.in_ok-level.ensures
@@ -20,7 +20,7 @@ returns-then-this-ne0-clause-grants g c q s H =
 
 pub returns-clause-grants : goal.returns-clause-grants
 returns-clause-grants g c q s H =
-    let y = c.grant in
+    let y = c.grant-whole in
     let bs = y.new.records in
     rw (eq-eqb g.row.SPLIT 0 c.if-this-ne0.false, c.handed-2.ensures, c.board_in-board.ensures.0)
     (alloc_made H bs y.new.memory y.auto.records (bytes_small bs c.type_inv.records) y.ensures.finds c.in_ok-level.ensures
