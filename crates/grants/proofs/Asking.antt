@@ -43,23 +43,24 @@ module _ {board : Board} {f : ℕ → Record} {n : ℕ} {rows : List Row} {y : L
       record { refusal = λ s T. layout_refused board s y ∙ found_refused board y x _ found; found = λ l e. absurd (no_level_in e) }
 
   module _ (l : Level) (found : found_level board y ≡ At l) {k : ℕ} (e : k ≡ rank l) where
-    pub wants_found : ListedAll board f n rows k true → Wants board f n rows y (Ok k)
+    pub wants_found : {b : Bool} → ListedAll board f n rows k b → b ≡ true → Wants board f n rows y (Ok k)
     unfolding mine
-    wants_found listed =
+    wants_found listed t =
         let F = finds board y l found in
         let d : k ≡ find_level board y = e ∙ F.number in
         record {
-          refusal = λ s T. layout_refused board s y ∙ rw (F.fine, F.within, ← d, ← listed s.allocator T) refl;
+          refusal = λ s T. layout_refused board s y ∙ rw (F.fine, F.within, ← d, ← listed s.allocator T, t) refl;
           found = λ j z. let same : k ≡ j = cc in rw (← same) (d, omega (arith, e, rank_below l));
         }
 
     pub wants_none
-        : ListedAll board f n rows k false → {x : Refusal} → x ≡ cond y.flags.wait_ok MustWait NoFrame → Wants board f n rows y (Err x)
+        : {b : Bool} → ListedAll board f n rows k b → b ≡ false → {x : Refusal} → x ≡ cond y.flags.wait_ok MustWait NoFrame
+        → Wants board f n rows y (Err x)
     unfolding mine
-    wants_none listed {x} q =
+    wants_none listed t {x} q =
         let F = finds board y l found in
         let d : k ≡ find_level board y = e ∙ F.number in
         record {
-          refusal = λ s T. layout_refused board s y ∙ rw (F.fine, F.within, ← d, ← listed s.allocator T, q) refl;
+          refusal = λ s T. layout_refused board s y ∙ rw (F.fine, F.within, ← d, ← listed s.allocator T, t, q) refl;
           found = λ j z. absurd (no_level_in z);
         }

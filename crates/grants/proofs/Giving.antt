@@ -1,5 +1,6 @@
--- What a grant makes of a table and of the memory's bytes, from what its parts promise: the search, the zeros, the marks and the count (`gives_none`, `gives_some`),
--- and the split behind them (`gives_split`). Where a frame was found it is held, so that a later part may change it.
+-- What a grant makes of a table and of the memory's bytes, from what its parts promise: the search, the zeros, the marks and the count
+-- (`gives_none`, `gives_some`), and the split behind them (`gives_split`). Where a frame was found it is held, so that a later part may
+-- change it.
 use Rattle.definition.proofs.Bytes.{pages_order}
 use Rattle.definition.specs.Basics.{everywhere}
 use Prim.Native.Nat.{ℕ, ◌+◌, ◌*◌, ◌/◌, ◌%◌, ◌≤◌, ◌<◌}
@@ -48,7 +49,13 @@ use Rattle.grants.proofs.Marking.{none_left, split_none, split_some, try_none, t
 -- ---- the frame at a spot
 
 abbrev frame_in : Record → Frame
-frame_in r = record { level = r.level; allocated = eqb (r.marks / 2 % 2) 1; zeroed = eqb (r.marks / 4 % 2) 1; kernel = eqb (r.marks / 8 % 2) 1 }
+frame_in r =
+    record {
+      level = r.level;
+      allocated = eqb (r.marks / 2 % 2) 1;
+      zeroed = eqb (r.marks / 4 % 2) 1;
+      kernel = eqb (r.marks / 8 % 2) 1;
+    }
 
 held_record : (r : Record) → is_allocated (frame_of r) ≡ true → frame_of r ≡ some (frame_in r)
 unfolding frame_of
@@ -95,22 +102,30 @@ module _ {board : Board} where
         held_runs = frame_runs I S (frame_in (f s.page)) held_frame_lem
 
         -- the frame's bytes lie among the managed ones
-        pub held_room : {long : ℕ} → board.page * managed_pages board (regions_of board rows) ≤ long → board.page * s.page + board.page * size (f s.page).level ≤ long
+        pub held_room
+            : {long : ℕ} → board.page * managed_pages board (regions_of board rows) ≤ long
+            → board.page * s.page + board.page * size (f s.page).level ≤ long
         held_room h = omega (arith, pages_order board.page (runs_end board held_runs))
 
 -- ---- its zeros
 
 module _ {board : Board} where
-  module _ {rs : List AllocationRegion} (m : Memory) (bs : List ℕ) (fits : managed_bytes board rs ≤ length bs) (apart : overlap board rs ≡ false) (same : Fronts board rs m bs) where
-    zeros_written
-        : (zeroed : Bool) (r : Record) (o : Option Frame) (p q : ℕ) → o ≡ some (frame_in r) → Lies board rs (board.page * p) (board.page * q) (board.page * size r.level)
-        → Rewritten board rs bs (cond (zeroed && not (is_zeroed o)) (filled (board.page * p) (board.page * size_of o) 0 m) m) (zeroed_bytes board zeroed r q bs)
-    zeros_written zeroed r o p q e L = rw e (go (zeroed && not (eqb (r.marks / 4 % 2) 1)))
-      where
-        go : (b : Bool)
-            → Rewritten board rs bs (cond b (filled (board.page * p) (board.page * size r.level) 0 m) m) (cond b (with_bytes bs (board.page * q) (replicate (board.page * size r.level) 0)) bs)
-        go true = memory_filled board L m bs fits apart same 0
-        go false = record { memory = same; as_long = refl; beyond = refl }
+  module _
+      {rs : List AllocationRegion} (m : Memory) (bs : List ℕ) (fits : managed_bytes board rs ≤ length bs)
+      (apart : overlap board rs ≡ false) (same : Fronts board rs m bs)
+    where
+      zeros_written
+          : (zeroed : Bool) (r : Record) (o : Option Frame) (p q : ℕ) → o ≡ some (frame_in r)
+          → Lies board rs (board.page * p) (board.page * q) (board.page * size r.level)
+          → Rewritten board rs bs (cond (zeroed && not (is_zeroed o)) (filled (board.page * p) (board.page * size_of o) 0 m) m)
+          (zeroed_bytes board zeroed r q bs)
+      zeros_written zeroed r o p q e L = rw e (go (zeroed && not (eqb (r.marks / 4 % 2) 1)))
+        where
+          go : (b : Bool)
+              → Rewritten board rs bs (cond b (filled (board.page * p) (board.page * size r.level) 0 m) m)
+              (cond b (with_bytes bs (board.page * q) (replicate (board.page * size r.level) 0)) bs)
+          go true = memory_filled board L m bs fits apart same 0
+          go false = record { memory = same; as_long = refl; beyond = refl }
 
 -- ---- its search
 
@@ -124,7 +139,8 @@ module _ {board : Board} {op : PhysicalFrameAllocator → Allocated} {f g : ℕ 
     picked_sane = picked_turned.table.sane
 
     pub picked_room
-        : {long : ℕ} → board.page * managed_pages board (regions_of board rows) ≤ long → board.page * managed_pages board (regions_of board r.rows) ≤ long
+        : {long : ℕ} → board.page * managed_pages board (regions_of board rows) ≤ long
+        → board.page * managed_pages board (regions_of board r.rows) ≤ long
     picked_room h = rw picked_turned.spans h
 
     pub picked_spot : r.found ≡ true → InRows board r.rows r.spot
@@ -155,13 +171,11 @@ module _ {board : Board} where
       abbrev nothing : Granted
       nothing = record { state = state_with counters vs; frame = None }
 
-      pub finds_none : RowsBeside ws vs → Finds board st nothing
-      finds_none B = record { queued = B.queued; pass = B.pass; address = λ t z. absurd (no_frame z) }
-
       pub holds_none : Sane board f n (rows_in ws) → Holds board g n nothing
       holds_none S = record { sane = picked_sane P S; spot = λ t z. absurd (no_frame z); held = λ t z. absurd (no_frame z) }
 
-      pub gives_none : (bytes : List ℕ) → found ≡ false → GivesBy board (try_alloc_frame board everywhere l flags) f st bytes g n bytes nothing
+      pub gives_none
+          : (bytes : List ℕ) → found ≡ false → GivesBy board (try_alloc_frame board everywhere l flags) f st bytes g n bytes nothing
       gives_none bytes e s L =
           let p = P s.allocator L.table in
           let d = p.none_found e in
@@ -179,7 +193,8 @@ module _ {board : Board} where
       module _ (e : found ≡ true) where
         module _
             {h : ℕ → Record} {after : Counters} (c : after ≡ count_alloc (size l) flags.kernel counters)
-            (T : TurnsBy board (mark_at false flags.kernel (number_at board (rows_in vs) spot)) g (rows_in vs) h n (rows_in vs)) (address : ℕ)
+            (T : TurnsBy board (mark_at false flags.kernel (number_at board (rows_in vs) spot)) g (rows_in vs) h n (rows_in vs))
+            (address : ℕ)
           where
             abbrev frame : Granted
             frame = record { state = state_with after vs; frame = Some (record { spot = spot; address = address }) }
@@ -201,7 +216,8 @@ module _ {board : Board} where
                   held = λ t z.
                       rw (← same_frame z)
                       (table_held N spot I
-                      (rw (upd_same a.frames p (marked false flags.kernel (a.frames p))) (held_still false flags.kernel (a.frames p) held)));
+                      (rw (upd_same a.frames p (marked false flags.kernel (a.frames p)))
+                      (held_still false flags.kernel (a.frames p) held)));
                 }
 
             pub gives_some
@@ -216,7 +232,9 @@ module _ {board : Board} where
                 let H = p.held e in
                 let N = p.turned.table.sane in
                 let R = runs_bare L.table.stands (rw p.turned.spans at (held_runs I N H)) in
-                let lies = runs_lies board R 0 (board.page * size (g q).level) (omega arith) {a = board.page * number_at board (rows_in vs) spot} {b = board.page * q} (omega arith) (omega arith) in
+                let long = board.page * size (g q).level in
+                let from = board.page * number_at board (rows_in vs) spot in
+                let lies = runs_lies board R 0 long (omega arith) {a = from} {b = board.page * q} (omega arith) (omega arith) in
                 let W
                 = zeros_written s.memory bytes L.fits L.apart L.memory flags.zeroed (g q) (a.frames (number_at board (rows_in vs) spot))
                 (number_at board (rows_in vs) spot) q (table_frame I p.turned.table ∙ held_frame_lem I N H) lies

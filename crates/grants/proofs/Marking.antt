@@ -1,5 +1,5 @@
--- What a grant does to a store, in one piece: the marks that it sets and clears one after the other are one change of the frame, and a grant that finds nothing
--- leaves the store as it was.
+-- What a grant does to a store, in one piece: the marks that it sets and clears one after the other are one change of the frame, and a
+-- grant that finds nothing leaves the store as it was.
 use Prim.Native.Nat.{ℕ, ◌*◌}
 use mathlib.Core.Bool.{Bool, true, false, not, cond, ◌&&◌}
 use mathlib.Core.List.{List, [], ◌∷◌}
@@ -24,7 +24,16 @@ use Rattle.definition.specs.Allocator.{
   pass,
 }
 use Rattle.definition.specs.Store.{Memory, Store, mark, with_allocator, with_counters}
-use Rattle.definition.specs.Tracker.{Granted, count_alloc, granted, hand_over, split_frame, then_split_frame, try_alloc_frame, try_alloc_split_frames}
+use Rattle.definition.specs.Tracker.{
+  Granted,
+  count_alloc,
+  granted,
+  hand_over,
+  split_frame,
+  then_split_frame,
+  try_alloc_frame,
+  try_alloc_split_frames,
+}
 use Rattle.definition.proofs.Basics.{upd_same, upd_upd}
 use Rattle.region.specs.Rep.{marked}
 use Rattle.allocator.specs.Spots.{mark_at, split_at}
@@ -43,7 +52,9 @@ changed_twice (some f) = refl
 change_twice : (g h : Frame → Frame) (fs : Frames) (p : ℕ) → change g (change h fs p) p ≡ upd fs p (changed g (changed h (fs p)))
 change_twice g h fs p = rw (upd_same fs p (changed h (fs p))) (upd_upd fs p (changed h (fs p)) (changed g (changed h (fs p))))
 
-marks_once : (kernel : Bool) (fs : Frames) (p : ℕ) → change (with_kernel kernel) (change (with_zeroed false) fs p) p ≡ upd fs p (marked false kernel (fs p))
+marks_once
+    : (kernel : Bool) (fs : Frames) (p : ℕ)
+    → change (with_kernel kernel) (change (with_zeroed false) fs p) p ≡ upd fs p (marked false kernel (fs p))
 marks_once kernel fs p = change_twice (with_kernel kernel) (with_zeroed false) fs p ∙ ap (upd fs p) (cleared kernel (fs p))
 
 -- a ZEROED mark that was set is cleared again
@@ -89,10 +100,12 @@ module _ (board : Board) where
           }
 
       go : (b : Bool)
-          → with_counters (mark (with_kernel kernel) (set_not_zero (cond b (zero_frame board s p) s) p) p) (count_alloc pages kernel s.counters)
+          → with_counters (mark (with_kernel kernel) (set_not_zero (cond b (zero_frame board s p) s) p) p)
+          (count_alloc pages kernel s.counters)
           ≡ with (upd fs p (marked false kernel (fs p))) (cond b zeroed s.memory)
       go true =
-          ap (λ (x : Frames). with x zeroed) (ap (λ (x : Frames). change (with_kernel kernel) x p) (marks_twice fs p) ∙ marks_once kernel fs p)
+          ap (λ (x : Frames). with x zeroed)
+          (ap (λ (x : Frames). change (with_kernel kernel) x p) (marks_twice fs p) ∙ marks_once kernel fs p)
       go false = ap (λ (x : Frames). with x s.memory) (marks_once kernel fs p)
 
 -- ---- a search that finds nothing
@@ -106,15 +119,18 @@ next_none : (r : AllocationRegion) (rs : List AllocationRegion) (a : Found) (nex
 next_none r rs a next e = rw e refl
 
 pass_nothing
-    : (l : ℕ) (t o : Bool) (fs : Frames) (rs : List AllocationRegion) → (pass everywhere l t o fs rs).page ≡ none → (pass everywhere l t o fs rs).allocator ≡ record { frames = fs; regions = rs }
+    : (l : ℕ) (t o : Bool) (fs : Frames) (rs : List AllocationRegion) → (pass everywhere l t o fs rs).page ≡ none
+    → (pass everywhere l t o fs rs).allocator ≡ record { frames = fs; regions = rs }
 unfolding pass
 pass_nothing l t o fs [] e = refl
-pass_nothing l t o fs (r ∷ rs) e = go (allocate everywhere l (levels_of fs r) t o) (allocate everywhere l (levels_of fs r) t o).page refl e (pass_nothing l t o fs rs)
+pass_nothing l t o fs (r ∷ rs) e =
+    let a = allocate everywhere l (levels_of fs r) t o in go a a.page refl e (pass_nothing l t o fs rs)
   where
     next : Allocated
     next = pass everywhere l t o fs rs
 
-    go : (a : Found) (x : Option ℕ) → a.page ≡ x → (or_next_region r rs a next).page ≡ none → (next.page ≡ none → next.allocator ≡ record { frames = fs; regions = rs })
+    go : (a : Found) (x : Option ℕ) → a.page ≡ x → (or_next_region r rs a next).page ≡ none
+        → (next.page ≡ none → next.allocator ≡ record { frames = fs; regions = rs })
         → (or_next_region r rs a next).allocator ≡ record { frames = fs; regions = r ∷ rs }
     go a none d e ih =
         let c = next_none r rs a next d in
@@ -128,7 +144,9 @@ second_is a b e = rw e refl
 first_is : (a b : Allocated) (p : ℕ) → a.page ≡ some p → or_second_pass a b ≡ a
 first_is a b p e = rw e refl
 
-pub none_left : (l : ℕ) (z : Bool) (a : PhysicalFrameAllocator) → (do_alloc everywhere l z a).page ≡ none → (do_alloc everywhere l z a).allocator ≡ a
+pub none_left
+    : (l : ℕ) (z : Bool) (a : PhysicalFrameAllocator) → (do_alloc everywhere l z a).page ≡ none
+    → (do_alloc everywhere l z a).allocator ≡ a
 unfolding do_alloc
 none_left l z a e = go (pass everywhere l false z a.frames a.regions) (pass everywhere l false z a.frames a.regions).page refl e
   where
@@ -162,7 +180,8 @@ module _ (board : Board) where
     try_none e = granted_none (size l) found e
 
     pub try_some : (p : ℕ) → found.page ≡ some p
-        → try_alloc_frame board everywhere l flags s ≡ record { store = handed_store board (size l) flags (with_allocator s found.allocator) p; page = some p }
+        → try_alloc_frame board everywhere l flags s
+        ≡ record { store = handed_store board (size l) flags (with_allocator s found.allocator) p; page = some p }
     unfolding try_alloc_frame
     try_some p e =
         granted_some (size l) found p e
@@ -189,6 +208,8 @@ module _ (board : Board) where
     unfolding try_alloc_split_frames
     split_none e = then_none whole e
 
-    pub split_some : (p : ℕ) → whole.page ≡ some p → try_alloc_split_frames board everywhere l flags s ≡ record { store = split_store whole.store p; page = some p }
+    pub split_some
+        : (p : ℕ) → whole.page ≡ some p
+        → try_alloc_split_frames board everywhere l flags s ≡ record { store = split_store whole.store p; page = some p }
     unfolding try_alloc_split_frames
     split_some p e = then_some whole p e

@@ -1,5 +1,5 @@
--- The promise of a grant. A world that holds a store is what a grant asks for (`lends`), and what it gives is what definition's `step` makes
--- of that store (`alloc_made`, `take_made`); where a refusal was met, the world stays (`asked_refused`).
+-- The promise of a grant. A world that holds a store is what a grant asks for (`lends`), and what it gives is what definition's `step`
+-- makes of that store (`alloc_made`, `take_made`); where a refusal was met, the world stays (`asked_refused`).
 use Prim.Native.Nat.{ℕ, ◌*◌, ◌<◌}
 use mathlib.Core.Bool.{Bool, true, false}
 use mathlib.Core.List.{List}
@@ -40,16 +40,19 @@ module _ (board : Board) where
     try_keeps : Kept s (try_alloc_frame board everywhere l flags s).store
     try_keeps = go (do_alloc everywhere l flags.zeroed s.allocator).page refl
       where
-        go : (o : Option ℕ) → (do_alloc everywhere l flags.zeroed s.allocator).page ≡ o → Kept s (try_alloc_frame board everywhere l flags s).store
+        go : (o : Option ℕ) → (do_alloc everywhere l flags.zeroed s.allocator).page ≡ o
+            → Kept s (try_alloc_frame board everywhere l flags s).store
         go none e = rw (try_none board l flags s e) (record { queue = refl; kept = refl; pass = refl })
         go (some p) e = rw (try_some board l flags s p e) (record { queue = refl; kept = refl; pass = refl })
 
     split_keeps : Kept s (try_alloc_split_frames board everywhere l flags s).store
     split_keeps = go (try_alloc_frame board everywhere l flags s).page refl
       where
-        go : (o : Option ℕ) → (try_alloc_frame board everywhere l flags s).page ≡ o → Kept s (try_alloc_split_frames board everywhere l flags s).store
+        go : (o : Option ℕ) → (try_alloc_frame board everywhere l flags s).page ≡ o
+            → Kept s (try_alloc_split_frames board everywhere l flags s).store
         go none e = rw (split_none board l flags s e) try_keeps
-        go (some p) e = rw (split_some board l flags s p e) (record { queue = try_keeps.queue; kept = try_keeps.kept; pass = try_keeps.pass })
+        go (some p) e =
+            let K = try_keeps in rw (split_some board l flags s p e) (record { queue = K.queue; kept = K.kept; pass = K.pass })
 
 -- ---- what it hands out
 

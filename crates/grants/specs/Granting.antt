@@ -86,7 +86,8 @@ module _ (board : Board) where
         : memory_bytes board x.store.memory s.allocator.regions ≡ take (board.page * managed_pages board s.allocator.regions) bytes2
     pub as_long : length bytes2 ≡ length bytes
     pub beyond
-        : drop (board.page * managed_pages board s.allocator.regions) bytes2 ≡ drop (board.page * managed_pages board s.allocator.regions) bytes
+        : drop (board.page * managed_pages board s.allocator.regions) bytes2
+        ≡ drop (board.page * managed_pages board s.allocator.regions) bytes
     pub counters : x.store.counters ≡ r.state.counters
     pub page : x.page ≡ page_of r.state.rows r.frame
 

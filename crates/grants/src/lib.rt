@@ -192,7 +192,7 @@ fn handed(board: Board, granted: Option<Granted>, level: usize) -> Reply
 }
 
 // A grant to the layout, its frame split where that is asked.
-fn given(
+fn given<const SPLIT: bool>(
     counters: &mut Counters,
     words: &mut [u64],
     records: &mut [u8],
@@ -200,30 +200,23 @@ fn given(
     size: u64,
     align: u64,
     flags: FrameAllocFlags,
-    split: bool,
 ) -> Answer
     requires table_in { TableIn words.old records.old }
     requires room_in { RoomIn words.old memory.old }
     requires few { Few counters.old }
-    ensures grants { Grants (asking split (record { size = size; align = align; flags = flags }))
+    ensures grants { Grants (asking SPLIT (record { size = size; align = align; flags = flags }))
         counters.old words.old records.old memory.old
         counters.new words.new records.new memory.new result }
     ensures beside { Beside words.old words.new }
 {
     let level = wanted(words, records, size, align, flags)?;
     let board = words::board_in(words);
-    if split {
-        return Ok(handed(
-            board,
-            grant_split(counters, words, records, memory, level, flags),
-            level,
-        ));
+    if SPLIT {
+        let split = grant_split(counters, words, records, memory, level, flags);
+        return Ok(handed(board, split, level));
     }
-    Ok(handed(
-        board,
-        grant(counters, words, records, memory, level, flags),
-        level,
-    ))
+    let whole = grant(counters, words, records, memory, level, flags);
+    Ok(handed(board, whole, level))
 }
 
 // ---- the calls
@@ -246,7 +239,7 @@ pub fn alloc(
         counters.new words.new records.new memory.new result }
     ensures beside { Beside words.old words.new }
 {
-    given(counters, words, records, memory, size, align, flags, false)
+    given::<false>(counters, words, records, memory, size, align, flags)
 }
 
 // try_alloc_split_frames, tracker.rs 98.
@@ -267,5 +260,5 @@ pub fn take(
         counters.new words.new records.new memory.new result }
     ensures beside { Beside words.old words.new }
 {
-    given(counters, words, records, memory, size, align, flags, true)
+    given::<true>(counters, words, records, memory, size, align, flags)
 }

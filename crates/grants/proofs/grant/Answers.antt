@@ -3,7 +3,6 @@ use native.Mathlib.Omega.{arith}
 use borrow.Author.Tests.{not-true, not-false}
 use Rattle.words.proofs.Words.{board_beside}
 use Rattle.grants.proofs.Giving.{
-  finds_none,
   finds_some,
   gives_none,
   gives_some,
@@ -17,26 +16,29 @@ use Rattle.grants.proofs.Giving.{
 }
 use Rattle.grants.proofs.grant.Goals as goal
 
-pub returns-then-not-picked : goal.returns-then-not-picked
-returns-then-not-picked c =
+pub returns-then-not-picked-clause-holds : goal.returns-then-not-picked-clause-holds
+returns-then-not-picked-clause-holds c =
     let a = c.args in
     let y = c.do_alloc-picked in
     let P = rw y.auto.records at y.ensures.picks_in in
-    let B = y.ensures.rows_beside in
-    rw y.auto.records record {
-      finds = finds_none a.counters.now a.words.now y.new.words a.level a.flags P B;
-      holds = holds_none a.counters.now a.words.now y.new.words a.level a.flags P c.requires.table_in.1;
-      gives_by = gives_none a.counters.now a.words.now y.new.words a.level a.flags P a.memory.now (not-true y.result.found c.if-not-picked.true);
-      beside = B.beside;
-    }
+    rw y.auto.records (holds_none a.counters.now a.words.now y.new.words a.level a.flags P c.requires.table_in.1)
+
+pub returns-then-not-picked-clause-gives_by : goal.returns-then-not-picked-clause-gives_by
+returns-then-not-picked-clause-gives_by c =
+    let a = c.args in
+    let y = c.do_alloc-picked in
+    let P = rw y.auto.records at y.ensures.picks_in in
+    rw y.auto.records
+    (gives_none a.counters.now a.words.now y.new.words a.level a.flags P a.memory.now (not-true y.result.found c.if-not-picked.true))
 
 pub address_of-address-requires : goal.address_of-address-requires
 address_of-address-requires c =
     let y = c.do_alloc-picked in
     let P = rw y.auto.records at y.ensures.picks_in in
     let S = c.requires.table_in.1 in
+    let found = not-false y.result.found c.if-not-picked.false in
     rw (board_beside y.ensures.rows_beside.beside)
-    (omega (arith, y.auto.words, c.requires.table_in.0), near (picked_spot P S (not-false y.result.found c.if-not-picked.false)) (picked_sane P S))
+    (omega (arith, y.auto.words, c.requires.table_in.0), near (picked_spot P S found) (picked_sane P S))
 
 pub hand_over-requires : goal.hand_over-requires
 hand_over-requires c =

@@ -20,14 +20,14 @@ found c = rw (← c.board_in-board.ensures.0) (sym (c.in-At.ensures c.args.flags
 
 pub returns-then-is_listed : goal.returns-then-is_listed
 returns-then-is_listed c =
-    wants_found c.in-At.level (found (goal.at.returns-then-is_listed c).In-At) c.index-level.ensures c.if-is_listed.ensures
+    wants_found c.in-At.level (found (goal.at.returns-then-is_listed c).In-At) c.index-level.ensures c.is_listed.ensures c.if-is_listed.true
 
 pub returns-then-flags : goal.returns-then-flags
 returns-then-flags c =
-    wants_none c.in-At.level (found (goal.at.returns-then-flags c).In-At) c.index-level.ensures c.if-is_listed.ensures
+    wants_none c.in-At.level (found (goal.at.returns-then-flags c).In-At) c.index-level.ensures c.is_listed.ensures c.if-is_listed.false
     (rw c.if-flags.true refl)
 
 pub returns-else-flags : goal.returns-else-flags
 returns-else-flags c =
-    wants_none c.in-At.level (found (goal.at.returns-else-flags c).In-At) c.index-level.ensures c.if-is_listed.ensures
+    wants_none c.in-At.level (found (goal.at.returns-else-flags c).In-At) c.index-level.ensures c.is_listed.ensures c.if-is_listed.false
     (rw c.if-flags.false refl)
