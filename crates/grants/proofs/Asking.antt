@@ -29,7 +29,8 @@ not_none x e = let n = none_met (some x) e in let z : ◌≡◌ {A = ℕ} 0 1 = 
 
 module _ (board : Board) where
   found_refused
-      : (y : Layout) (x : Refusal) (rest : ℕ) → found_level board y ≡ Err x → cond (bad_layout y) 7 (cond (no_level board y) 8 rest) ≡ number_of x
+      : (y : Layout) (x : Refusal) (rest : ℕ) → found_level board y ≡ Err x
+      → cond (bad_layout y) 7 (cond (no_level board y) 8 rest) ≡ number_of x
   found_refused y x rest e = go (bad_layout y) (no_level board y) e
     where
       go : (t u : Bool) → cond t (Err BadLayout) (cond u (Err NoLevel) (Ok (level_at (find_level board y)))) ≡ Err x

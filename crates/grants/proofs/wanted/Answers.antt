@@ -14,7 +14,8 @@ listed
     → WantsIn c.args.words.now c.args.records.now (record { size = c.args.size; align = c.args.align; flags = c.args.flags })
     (record { number = n; level = c.index-index.result })
 listed c n e =
-    wants_found c.in-Ok.level (rw (← c.board_in-board.ensures.0) (sym (c.find_level.ensures c.args.flags) ∙ c.in-Ok.is)) c.index-index.ensures
+    wants_found c.in-Ok.level
+    (rw (← c.board_in-board.ensures.0) (sym (c.find_level.ensures c.args.flags) ∙ c.in-Ok.is)) c.index-index.ensures
     c.is_listed.ensures e
 
 pub returns-then-is_listed : goal.returns-then-is_listed
@@ -28,4 +29,5 @@ returns-else-flags c = listed (goal.at.returns-else-flags c).After-is_listed 9 (
 
 pub returns-in-Err : goal.returns-in-Err
 returns-in-Err c =
-    wants_refused c.in-Err.refusal (rw (← c.board_in-board.ensures.0) (sym (c.find_level.ensures c.args.flags) ∙ c.in-Err.is)) c.number_of.ensures
+    wants_refused c.in-Err.refusal
+    (rw (← c.board_in-board.ensures.0) (sym (c.find_level.ensures c.args.flags) ∙ c.in-Err.is)) c.number_of.ensures
