@@ -47,7 +47,9 @@ empty_map g [] = sym (ap not (eq-eqb 0 0 refl))
 empty_map g (x ∷ xs) = sym (ap not (ne_eqb (length (x ∷ xs)) 0 (λ e. omega arith)))
 
 -- the same of the lists from one on
-pub lists_from : (lists : List Links) (k left : ℕ) → k + left ≡ length lists → list_any (λ (l : Links). not (nat_eq l.count 0)) (drop k lists) ≡ any (counted_at lists) (range k left)
+pub lists_from
+    : (lists : List Links) (k left : ℕ) → k + left ≡ length lists
+    → list_any (λ (l : Links). not (nat_eq l.count 0)) (drop k lists) ≡ any (counted_at lists) (range k left)
 unfolding any range
 lists_from lists k zero e = rw (drop_of_length-le lists {i = k} (omega arith)) refl
 lists_from lists k (suc left) e = rw (drop_at lists k no_links (omega arith), lists_from lists (k + 1) left (omega arith)) refl

@@ -176,7 +176,8 @@ module _ {board : Board} where
       gone_eight h = omega (arith, G.used, G.sane.eight, used_most rows)
 
       pub gone_all
-          : i ≡ length (used_rows rows) → {rows2 : List Row} → rows2 ≡ rows → PicksBy board (pass_by l t o) f rows g m (record { rows = rows2; spot = None })
+          : i ≡ length (used_rows rows) → {rows2 : List Row} → rows2 ≡ rows
+          → PicksBy board (pass_by l t o) f rows g m (record { rows = rows2; spot = None })
       gone_all e d = rw (G.same, G.size) (picks_none G.sane l G.few t o (λ j u. G.before j (omega arith)) d)
 
       module _ (h : i < length (used_rows rows)) where
@@ -210,5 +211,6 @@ module _ {board : Board} where
 
           pub gone_found
               : WholeRow board g2 base r.row → {p : ℕ} → r.page ≡ Some p
-              → PicksBy board (pass_by l t o) f rows g2 m2 (record { rows = set rows i r.row; spot = Some (record { index = i; base = base; page = p }) })
+              → PicksBy board (pass_by l t o) f rows g2 m2
+              (record { rows = set rows i r.row; spot = Some (record { index = i; base = base; page = p }) })
           gone_found W e = rw (k, G.size, G.based) (picks_found G.sane l G.few t o i h G.before answered (rw G.based at W) e)

@@ -112,7 +112,9 @@ module _ {board : Board} where
     nothing_left h a T = onward_end K.onward T h
 
     module _ (H : Here board n rows base i) where
-      pub not_here : none ≡ lookup board (row_at rows i) base p → Looking board f n rows p (base + managed board (row_at rows i).pages) (i + 1)
+      pub not_here
+          : none ≡ lookup board (row_at rows i) base p
+          → Looking board f n rows p (base + managed board (row_at rows i).pages) (i + 1)
       not_here e =
           record {
             onward =

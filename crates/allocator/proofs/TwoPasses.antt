@@ -71,7 +71,8 @@ module _ {board : Board} where
     second_asks S = (P (standing board f rows) (sane_table S)).turned.table.sane
 
     pub picks_second
-        : {h : ℕ → Record} {r2 : Picked} → r.spot ≡ None → PicksBy board (pass_by l true false) g r.rows h n r2 → PicksBy board (do_alloc everywhere l z) f rows h n r2
+        : {h : ℕ → Record} {r2 : Picked} → r.spot ≡ None → PicksBy board (pass_by l true false) g r.rows h n r2
+        → PicksBy board (do_alloc everywhere l z) f rows h n r2
     unfolding do_alloc
     picks_second e Q a T =
         let k = rw e at (P a T).picked in

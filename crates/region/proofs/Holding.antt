@@ -51,7 +51,9 @@ unfoldable pub many_from : {A : Type 0} → ℕ → (ℕ → A) → ℕ → ℕ 
 many_from zero f p step v = f
 many_from (suc i) f p step v = upd (many i f p step v) p v
 
-pub many_next : {A : Type 0} (i : ℕ) (f : ℕ → A) (p step : ℕ) (v : A) → upd (many_from i f p step v) (p + i * step) v ≡ many_from (suc i) f p step v
+pub many_next
+    : {A : Type 0} (i : ℕ) (f : ℕ → A) (p step : ℕ) (v : A)
+    → upd (many_from i f p step v) (p + i * step) v ≡ many_from (suc i) f p step v
 unfolding many many_from
 many_next zero f p step v = let e : p + 0 * step ≡ p = omega arith in rw e refl
 many_next (suc i) f p step v = upd_either (many i f p step v) p (p + suc i * step) v

@@ -167,7 +167,8 @@ module _ {board : Board} where
 
   module _ {f : ℕ → Record} {n first : ℕ} {row : Row} {s : Levels} {k : ℕ} (R : Rep board f n first row s) (h : k < 6) where
     pub pop_nothing
-        : pages_of f (get_or row.lists k no_links) ≡ [] → Answers board f first row f n (record { row = row; page = None }) (pop_from everywhere s k)
+        : pages_of f (get_or row.lists k no_links) ≡ []
+        → Answers board f first row f n (record { row = row; page = None }) (pop_from everywhere s k)
     pop_nothing e = rw (pop_from_none s k (sym (linked_pages (R.lists k h)) ∙ e)) (record { became = stays R; found = refl })
 
     module _ {g : ℕ → Record} {p : ℕ} {r : Links} (T : Taken f (get_or row.lists k no_links) p g n r) where
@@ -266,7 +267,8 @@ module _ {board : Board} where
       after_none e = subst (λ (a : Found). Becomes board f first row g n r.row a.levels) (none_here e) A.became
 
       pub level_zeroed
-          : {h : ℕ → Record} {m : ℕ} {r2 : Search} → r.page ≡ None → Answers board g first r.row h m r2 (pop_from everywhere (state_of g r.row) (l * 2 + 1))
+          : {h : ℕ → Record} {m : ℕ} {r2 : Search} → r.page ≡ None
+          → Answers board g first r.row h m r2 (pop_from everywhere (state_of g r.row) (l * 2 + 1))
           → Answers board f first row h m r2 (level_allocate everywhere s l true false)
       unfolding level_allocate
       level_zeroed {h} {m} {r2} e B =

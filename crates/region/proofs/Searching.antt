@@ -98,7 +98,9 @@ module _ (board : Board) where
     pub beside : RowBeside ws i vs
 
   -- the same after a search, with what it found
-  pub record Sought (f : ℕ → Record) (first : ℕ) (ws : List ℕ) (i : ℕ) (g : ℕ → Record) (n : ℕ) (vs : List ℕ) (r : code.Option ℕ) (a : Found) : Type 0 where
+  pub record Sought
+      (f : ℕ → Record) (first : ℕ) (ws : List ℕ) (i : ℕ) (g : ℕ → Record) (n : ℕ) (vs : List ℕ) (r : code.Option ℕ) (a : Found)
+      : Type 0 where
     pub reached : Reached f first ws i g n vs a.levels
     pub found : page_in (searched vs i r) ≡ a.page
 
@@ -148,6 +150,8 @@ module _ {board : Board} where
         none_told e = sym A.found ∙ none_in (searched vs i r) e
 
       -- a level that has none leaves all as it was
-      pub none_here : (w : Wanted) (s : Levels) {r : code.Option ℕ} → Sought board f first ws i g m vs r (here w s) → r ≡ None → Reached board f first ws i g m vs s
+      pub none_here
+          : (w : Wanted) (s : Levels) {r : code.Option ℕ} → Sought board f first ws i g m vs r (here w s) → r ≡ None
+          → Reached board f first ws i g m vs s
       none_here w s A e =
           subst (λ (a : Found). Reached board f first ws i g m vs a.levels) (level_nothing s w.level w.try_zero w.only_zero (none_told A e)) A.reached

@@ -76,7 +76,7 @@ fn slot(level: usize, zeroed: bool) -> usize
     requires { level < 3 }
     ensures { (result ≡ slot_def level zeroed) × (result < 6) }
 {
-    if zeroed { level * 2 + 1 } else { level * 2 }
+    level * 2 + usize::from(zeroed)
 }
 
 // AllocationRegionLevel::allocate, frame.rs 106.
@@ -95,11 +95,11 @@ fn level_allocate(
         (λ s. level_allocate everywhere s level try_zero only_zero) }
 {
     if only_zero {
-        return pop(records, first, words, index, level * 2 + 1);
+        return pop(records, first, words, index, slot(level, true));
     }
-    let dirty = pop(records, first, words, index, level * 2);
+    let dirty = pop(records, first, words, index, slot(level, false));
     if dirty.is_none() && try_zero {
-        return pop(records, first, words, index, level * 2 + 1);
+        return pop(records, first, words, index, slot(level, true));
     }
     dirty
 }
@@ -366,7 +366,6 @@ pub fn new(board: Board, records: &mut [u8], first: usize, start: PhysAddr, page
         (pages_in records.new) result (new_state board (record_at records.old) first start pages) }
     ensures whole_row { WholeRow board (record_at records.new) first result }
 {
-    let page = board.page;
     let tables = table_pages(board, pages);
     let count = pages - tables;
     record::clear(records, first, count);
@@ -376,7 +375,7 @@ pub fn new(board: Board, records: &mut [u8], first: usize, start: PhysAddr, page
         records,
         first,
         row,
-        start.page_number(page) + tables,
+        start.page_number(board.page) + tables,
         count,
     )
 }
@@ -387,10 +386,8 @@ pub fn get_frame(board: Board, row: Row, first: usize, pa: PhysAddr) -> Option<u
     requires pages_bound { (row.pages ≤ 2 ^ 32) × (first + managed board row.pages < 2 ^ 64) }
     ensures { page_of result ≡ lookup board row first (pa.0 / board.page) }
 {
-    let size = board.page;
-    let number = pa.page_number(size);
-    let begin = row.start;
-    let start = begin.page_number(size);
+    let number = pa.page_number(board.page);
+    let start = row.start.page_number(board.page);
     let from = start + table_pages(board, row.pages);
     if !(from..start + row.pages).contains(&number) {
         return None;
@@ -405,10 +402,7 @@ pub fn start_address(board: Board, row: Row, first: usize, page: usize) -> PhysA
     requires pages_bound { board.page * (row.start.0 / board.page + row.pages) ≤ 2 ^ 40 }
     ensures { result.0 ≡ board.page * (from_of board row + (page - first)) }
 {
-    let size = board.page;
-    let begin = row.start;
-    let start = begin.page_number(size);
-    let pages = row.pages;
-    let from = start + table_pages(board, pages);
-    PhysAddr::from_page_number(from + (page - first), size)
+    let start = row.start.page_number(board.page);
+    let from = start + table_pages(board, row.pages);
+    PhysAddr::from_page_number(from + (page - first), board.page)
 }

@@ -105,7 +105,8 @@ loop-i-preserved c =
       rest = rows_beside_then I.rest B.rest;
       wide = omega (arith, I.wide, c.allocate-got.auto.words);
       long = omega (arith, I.long, m);
-      gone = rw (c.table_pages.ensures, pages_are (goal.at.loop-i-preserved c).After-pages_at-pages, board_is e) (gone_on I.gone (used e) A.0 (omega (arith, m)) refl);
+      gone = rw (c.table_pages.ensures, pages_are (goal.at.loop-i-preserved c).After-pages_at-pages, board_is e)
+          (gone_on I.gone (used e) A.0 (omega (arith, m)) refl);
     }
 
 pub returns : goal.returns

@@ -79,7 +79,9 @@ module _ (t : ℕ) where
 
   parted
       : (c : After-split t) → let s = (goal.at.After-split t c).Start in
-      (n : Sized s) → Stands s n c.split.new.records c.split.new.words (split (above (wanted s) (levels s)).levels c.in_ok-page.page s.args.level)
+      (n : Sized s)
+      → Stands s n c.split.new.records c.split.new.words
+      (split (above (wanted s) (levels s)).levels c.in_ok-page.page s.args.level)
   parted c n =
       let s = (goal.at.After-split t c).Start in
       let e = at_next (goal.at.After-split t c).After-do_allocate n in
@@ -111,7 +113,14 @@ returns-in_err-page t c =
     λ board S W. let n : Sized t s = (board, S, W) in
     let l = at_level t (goal.at.returns-in_err-page t c).After-level_allocate-here n in
     let e = at_next t (goal.at.returns-in_err-page t c).After-do_allocate n in
-    rw (c.from_residual.ensures, ← c.in_err-page.was, none_above (wanted t s) (levels t s) c.if-level-ge3.false (none_told l (none_of _ (sym c.if-is_some.ensures))) (none_told e c.in_err-page.was)) (told e)
+    let dry = none_told l (none_of _ (sym c.if-is_some.ensures)) in
+    rw (
+      c.from_residual.ensures,
+      ← c.in_err-page.was,
+      none_above (wanted t s) (levels t s) c.if-level-ge3.false dry
+          (none_told e c.in_err-page.was),
+    )
+    (told e)
 
 pub split-requires : goal.split-requires
 split-requires t c =
@@ -136,5 +145,6 @@ returns t c =
     let l = at_level t (goal.at.returns t c).After-level_allocate-here n in
     let u = at_next t (goal.at.returns t c).After-do_allocate n in
     let e = parted t (goal.at.returns t c).After-split n in
-    rw (found_above (wanted t s) (levels t s) c.if-level-ge3.false (none_told l (none_of _ (sym c.if-is_some.ensures))) (some_told u c.in_ok-page.was))
+    let dry = none_told l (none_of _ (sym c.if-is_some.ensures)) in
+    rw (found_above (wanted t s) (levels t s) c.if-level-ge3.false dry (some_told u c.in_ok-page.was))
     (told (sought e d.auto.words (here (wanted t s)) (d.ensures n.0 (asks e))))

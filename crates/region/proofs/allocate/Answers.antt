@@ -24,10 +24,12 @@ whole s = whole_allocate s.args.level s.args.try_zero s.args.only_zero (rep_kept
 
 granted
     : (c : In_ok-page) → let e = c.do_allocate.new in
-    Grants c.args.board (record_at c.args.records.now) c.args.first (row (goal.at.In_ok-page c).Start) (record_at e.records) (pages_in e.records)
+    Grants c.args.board (record_at c.args.records.now) c.args.first (row (goal.at.In_ok-page c).Start)
+    (record_at e.records) (pages_in e.records)
     (searched e.words c.args.index c.do_allocate.result) c.in_ok-page.page (answer (goal.at.In_ok-page c).Start)
 granted c =
-    grants c.args.try_zero c.args.only_zero c.requires.sound_at.1 c.requires.whole_at.0 c.requires.whole_at.1 (c.do_allocate.ensures c.args.board c.requires.sound_at c.requires.whole_at.0).0 c.in_ok-page.was
+    grants c.args.try_zero c.args.only_zero c.requires.sound_at.1 c.requires.whole_at.0 c.requires.whole_at.1
+    (c.do_allocate.ensures c.args.board c.requires.sound_at c.requires.whole_at.0).0 c.in_ok-page.was
 
 pub do_allocate-requires : goal.do_allocate-requires
 do_allocate-requires c = (c.args.board, c.requires.sound_at, c.requires.whole_at.0)
@@ -35,7 +37,9 @@ do_allocate-requires c = (c.args.board, c.requires.sound_at, c.requires.whole_at
 pub returns-in_err-page : goal.returns-in_err-page
 returns-in_err-page c =
     let e = c.do_allocate.ensures c.args.board c.requires.sound_at c.requires.whole_at.0 in
-    let g = not_granted c.args.try_zero c.args.only_zero c.requires.sound_at.1 c.requires.whole_at.0 c.requires.whole_at.1 e.0 c.in_err-page.was in
+    let g =
+    not_granted c.args.try_zero c.args.only_zero c.requires.sound_at.1 c.requires.whole_at.0 c.requires.whole_at.1 e.0 c.in_err-page.was
+    in
     rw (c.from_residual.ensures, ← c.in_err-page.was) record {
       finds_at = (g, e.1);
       whole_at_2 = row_whole g.became (whole (goal.at.returns-in_err-page c).Start);

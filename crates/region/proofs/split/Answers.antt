@@ -1,4 +1,5 @@
--- The loop has pushed the children before i on their list, which is out of the row; the push after it is child 0's, and then the list is written back.
+-- The loop has pushed the children before i on their list, which is out of the row; the push after it is child 0's, and then the list is
+-- written back.
 use Prim.Native.Nat.{ℕ, suc, ◌+◌, ◌-◌, ◌*◌, ◌<◌, ◌^◌}
 use mathlib.Core.Bool.{true, false}
 use mathlib.Core.Path.{◌≡◌, refl, sym, subst, ◌∙◌}
@@ -51,13 +52,19 @@ pub overflow_add-page : goal.overflow_add-page
 overflow_add-page c = omega (arith, child_fits (goal.at.overflow_add-page c).In-loop-i)
 
 -- the child is out of the list that it is pushed on
-out : (c : In-loop-i) → (k : ℕ) → Out (c.args.page + c.loop-i.i * size c.args.level) ((children (c.loop-i.i - 1) (state_of (record_at c.args.records.now) (row_of (rows_in c.args.words.now) c.args.index)) c.args.page c.args.level c.is_zeroed-zeroed.result).free k)
+out
+    : (c : In-loop-i) → let u = state_of (record_at c.args.records.now) (row_of (rows_in c.args.words.now) c.args.index) in
+    let pushed = children (c.loop-i.i - 1) u c.args.page c.args.level c.is_zeroed-zeroed.result in
+    (k : ℕ) → Out (c.args.page + c.loop-i.i * size c.args.level) (pushed.free k)
 out c = rw (sym (turn c)) at (child_out c.requires.2 c.is_zeroed-zeroed.result (c.loop-i.i - 1) (omega arith))
 
 pub admit-l-requires : goal.admit-l-requires
 admit-l-requires c =
     let i = c.loop-i.i in
-    let z = out_asks c.args.level c.is_zeroed-zeroed.result false (c.loop-i.invariant.became c.requires.0 c.requires.1.1 c.requires.2) (a_list (goal.at.admit-l-requires c).At-loop-i) (child_inside c.requires.2 c.is_zeroed-zeroed.result i (omega arith))
+    let z =
+    out_asks c.args.level c.is_zeroed-zeroed.result false (c.loop-i.invariant.became c.requires.0 c.requires.1.1 c.requires.2)
+    (a_list (goal.at.admit-l-requires c).At-loop-i)
+    (child_inside c.requires.2 c.is_zeroed-zeroed.result i (omega arith))
     (out (goal.at.admit-l-requires c).In-loop-i)
     (omega (arith, c.requires.2.small)) in
     rw c.pages_at-step.ensures record { sound = z.0; level_bound = z.1.0; out = z.1.1.0; page_bound = z.1.1.1 }
@@ -73,7 +80,9 @@ loop-i-preserved c =
       same = omega (arith, d.auto.records);
       became = λ board R S.
           rw (more, sym t, d.auto.records)
-          (out_next c.args.level c.is_zeroed-zeroed.result false (c.loop-i.invariant.became board R S) (a_list (goal.at.loop-i-preserved c).At-loop-i) (child_inside S c.is_zeroed-zeroed.result i (omega arith))
+          (out_next c.args.level c.is_zeroed-zeroed.result false (c.loop-i.invariant.became board R S)
+          (a_list (goal.at.loop-i-preserved c).At-loop-i)
+          (child_inside S c.is_zeroed-zeroed.result i (omega arith))
           (rw (sym t) at (child_out S c.is_zeroed-zeroed.result (i - 1) (omega arith)))
           (rw (c.pages_at-step.ensures, d.auto.records) at d.ensures));
     }

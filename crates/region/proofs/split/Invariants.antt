@@ -1,5 +1,5 @@
--- The loop has pushed the children before i on their list, which is out of the row. It reads no board, so what became is said of every board on
--- which the region is sound and the frame is one to split.
+-- The loop has pushed the children before i on their list, which is out of the row. It reads no board, so what became is said of every
+-- board on which the region is sound and the frame is one to split.
 use Rattle.std.proofs.Common.{◌≡◌, ◌-◌, length}
 use Rattle.definition.specs.Board.{Board}
 use Rattle.definition.specs.Frame.{children, slot}

@@ -39,7 +39,9 @@ child_level c = (record_at c.args.records.now c.args.page).level - 1
 above : (c : Else-old-eq0) → (record_at c.args.records.now c.args.page).level ≡ child_level c + 1
 above c = omega (arith, level_is c, c.if-old-eq0.false)
 
-parts : (c : Else-old-eq0) → Splits c.args.board (state_of (record_at c.args.records.now) c.args.row) c.args.first c.args.row.pages c.args.page (child_level c)
+parts
+    : (c : Else-old-eq0)
+    → Splits c.args.board (state_of (record_at c.args.records.now) c.args.row) c.args.first c.args.row.pages c.args.page (child_level c)
 parts c =
     let F = held_frame_lem c.requires.held in
     keep_splits c.requires.sound_row c.requires.whole_row c.requires.held F.0 F.1 F.2 (child_level c) (above c)
@@ -94,7 +96,9 @@ returns c =
     let k = c.loop-i in
     let all : k.i ≡ 512 = omega arith in
     let b = keep_last c.requires.sound_row c.requires.whole_row c.requires.held F.0 F.1 F.2 (child_level e) (above e) in
-    rw (k.invariant.same, k.invariant.stored, all, c.level_word-word.ensures, c.pages_at-step.ensures, level_is e, c.load-r.ensures) record {
+    rw (k.invariant.same, k.invariant.stored, all, c.level_word-word.ensures, c.pages_at-step.ensures, level_is e, c.load-r.ensures)
+    record {
       becomes = b;
-      whole_row_2 = row_whole b (keep_whole c.requires.sound_row c.requires.whole_row c.requires.held F.0 F.1 F.2 (child_level e) (above e));
+      whole_row_2 =
+          row_whole b (keep_whole c.requires.sound_row c.requires.whole_row c.requires.held F.0 F.1 F.2 (child_level e) (above e));
     }
