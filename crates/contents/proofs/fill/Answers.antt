@@ -1,24 +1,15 @@
--- `contents::fill` meets its contract. The loop's invariant: the bytes passed are `byte`, and all others are as they were.
-use mathlib.Core.Path.{◌≡◌, refl}
+-- `contents::fill` meets its contract: std's `fill` leaves a part of equal bytes, as a byte has no clone but itself.
 use native.Mathlib.Omega.{arith}
-use lib.ListN.{length-set}
-use Rattle.record.proofs.Bytes.{with_none, with_more}
-use borrow.Author.Rules.{rules}
+use mathlib.Core.Path.{◌≡◌}
+use Prim.Native.Nat.{◌+◌, ◌-◌}
+use lib.ListN.{replicate, length-replicate}
+use Rattle.contents.proofs.Moves.{part_length, part_written}
 use Rattle.contents.proofs.fill.Goals as goal
-
-pub loop-i-init : goal.loop-i-init
-loop-i-init c = (search rules, refl, with_none _ _)
-
-pub loop-i-preserved : goal.loop-i-preserved
-loop-i-preserved c =
-    let k = c.loop-i in (
-      search rules,
-      simp length-set k.invariant.1,
-      rw k.invariant.2 (with_more c.args.memory.now _ k.i _ (omega arith)),
-    )
 
 pub returns : goal.returns
 returns c =
-    let k = c.loop-i in
-    let e : c.args.len ≡ k.i = omega arith in
-    rw e k.invariant.2
+    let a = c.args in
+    let q : a.at + a.len - a.at ≡ a.len = omega arith in
+    let e : c.fill.new.self ≡ replicate a.len a.byte =
+    (rw (q, part_length a.memory.now a.at a.len c.requires) at (c.fill.ensures.after (λ y same. same))) in
+    rw e (part_written a.memory.now a.at a.len (replicate a.len a.byte) (length-replicate a.len a.byte))
