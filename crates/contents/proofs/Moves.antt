@@ -1,25 +1,16 @@
--- `with_bytes` as what std's methods of a slice leave: of a part that was written, of a slice cut in two of which one side was, and of `copy_within`.
+-- `with_bytes` as what is left of a slice that was cut in two, with one side written in the other, and of one that had `copy_within`.
 use Prim.Native.Nat.{ℕ, ◌+◌, ◌-◌, ◌≤◌}
 use mathlib.Core.List.{List, ◌++◌, append_assoc}
 use mathlib.Core.Path.{◌≡◌, refl, sym, ap, ◌∙◌}
 use native.Mathlib.Omega.{arith}
 use native.Mathlib.Nat.{zero-add}
 use lib.ListN.{length, take, drop, length-take, length-drop}
-use lib.Seq.{paste, take-length, length-take-le, take-take, drop-append-le, drop-drop}
-use borrow.Rule.Slice.PartMut.{put_mid}
+use lib.Seq.{paste, length-take-le, take-take, drop-append-le, drop-drop}
 use Rattle.std.proofs.lemmas.List.{take-append-drop, drop-take}
-use Rattle.std.proofs.lemmas.Slice.{put_mid-paste}
 use Rattle.record.specs.Records.{with_bytes}
 
-pub part_length : (m : List ℕ) (from n : ℕ) → from + n ≤ length m → length (take n (drop from m)) ≡ n
+part_length : (m : List ℕ) (from n : ℕ) → from + n ≤ length m → length (take n (drop from m)) ≡ n
 part_length m from n h = simp (length-take, length-drop) (omega arith)
-
--- the part from `at` to `at + n`
-pub part_written : (m : List ℕ) (at n : ℕ) (xs : List ℕ) → length xs ≡ n → put_mid at (at + n - at) m xs ≡ with_bytes m at xs
-unfolding with_bytes
-part_written m at n xs e =
-    let k : at + n - at ≡ length xs = omega arith in
-    rw k (put_mid-paste at (length xs) m xs xs (length xs) refl refl refl ∙ rw (take-length xs) refl)
 
 module _ (m : List ℕ) (to from n : ℕ) where
   -- n bytes of the upper side, written in the lower one
