@@ -1,110 +1,45 @@
--- Laws of `with_bytes` where the bytes written are a part of a list. They say what one byte more comes to, that a part moved through another list
--- arrives, and that a part of the same list may be moved block by block: to a lower place from its front, to a higher place from its end.
-use Prim.Native.Nat.{ℕ, zero, suc, ◌+◌, ◌-◌, ◌≤◌, ◌<◌}
-use mathlib.Core.List.{List, [], ◌∷◌, ◌++◌, append_assoc}
+-- `with_bytes` as what is left of a slice that was cut in two, with one side written in the other, and of one that had `copy_within`.
+use Prim.Native.Nat.{ℕ, ◌+◌, ◌-◌, ◌≤◌}
+use mathlib.Core.List.{List, ◌++◌, append_assoc}
 use mathlib.Core.Path.{◌≡◌, refl, sym, ap, ◌∙◌}
 use native.Mathlib.Omega.{arith}
-use native.Mathlib.Numerals.{add-one}
-use native.Mathlib.Nat.{zero-add, suc-add}
-use lib.ListN.{length, get_or, take, drop, set, length-append, length-take, length-drop}
-use lib.Seq.{take-suc, take-nil, take_at, drop_at, drop-drop, take-take, take-add, take-append-le, length-take-le, get_or-drop}
+use native.Mathlib.Nat.{zero-add}
+use lib.ListN.{length, take, drop, length-take, length-drop}
+use lib.Seq.{paste, length-take-le, take-take, drop-append-le, drop-drop}
+use Rattle.std.proofs.lemmas.List.{take-append-drop, drop-take}
 use Rattle.record.specs.Records.{with_bytes}
-use Rattle.record.proofs.Bytes.{with_length, with_one, with_then}
 
-pub part_length : (bs : List ℕ) (from n : ℕ) → from + n ≤ length bs → length (take n (drop from bs)) ≡ n
-part_length bs from n h = simp (length-take, length-drop) (omega arith)
+part_length : (m : List ℕ) (from n : ℕ) → from + n ≤ length m → length (take n (drop from m)) ≡ n
+part_length m from n h = simp (length-take, length-drop) (omega arith)
 
--- one byte more of a part
-pub with_next : (bs : List ℕ) (at : ℕ) (s : List ℕ) (from i : ℕ) → at + i < length bs → from + i < length s
-    → set (with_bytes bs at (take i (drop from s))) (at + i) (get_or s (from + i) 0) ≡ with_bytes bs at (take (i + 1) (drop from s))
-with_next bs at s from i h k =
-    let xs = take i (drop from s) in
-    let n : length xs ≡ i = part_length s from i (omega arith) in
-    let l : length (with_bytes bs at xs) ≡ length bs = with_length bs at xs (omega arith) in
-    with_one (with_bytes bs at xs) (at + i) (get_or s (from + i) 0) (omega arith)
-    ∙ (rw n at (with_then bs at xs (omega arith) (get_or s (from + i) 0 ∷ [])))
-    ∙ ap (λ (l : List ℕ). with_bytes bs at l)
-    (rw (add-one, ← get_or-drop from s i 0) (sym (take-suc (drop from s) i 0 (simp length-drop (omega arith)))))
-
--- what was written at the front of a list stands there
-pub with_read : (bs xs : List ℕ) (n : ℕ) → length xs ≡ n → take n (with_bytes bs 0 xs) ≡ xs
-unfolding with_bytes
-with_read bs xs n e = take_at xs (drop (0 + length xs) bs) n e
-
--- ---- what lies before the written bytes, and what lies behind them
-
-module _ (bs : List ℕ) (at : ℕ) (xs : List ℕ) (fits : at + length xs ≤ length bs) where
-  with_front : (n : ℕ) → n ≤ at → take n (with_bytes bs at xs) ≡ take n bs
+module _ (m : List ℕ) (to from n : ℕ) where
+  -- n bytes of the upper side, written in the lower one
+  pub lower_written : to + n ≤ from → from + n ≤ length m
+      → with_bytes (take from m) to (take n (drop from m)) ++ drop from m ≡ with_bytes m to (take n (drop from m))
   unfolding with_bytes
-  with_front n h =
-      let e : length (take at bs) ≡ at = length-take-le at bs (omega arith) in
-      rw (
-        append_assoc (take at bs) xs (drop (at + length xs) bs),
-        take-append-le n (take at bs) (xs ++ drop (at + length xs) bs) (omega arith),
-      )
-      (take-take n at bs h)
+  lower_written h k =
+      let xs = take n (drop from m) in
+      let e : length xs ≡ n = part_length m from n k in
+      let f : length (take from m) ≡ from = length-take-le from m (omega arith) in
+      let d : drop (to + n) (take from m) ++ drop from m ≡ drop (to + n) m =
+      sym (drop-append-le (to + n) (take from m) (drop from m) (omega arith)) ∙ rw (take-append-drop from m) refl in
+      rw (e, take-take to from m (omega arith), append_assoc (take to m ++ xs) (drop (to + n) (take from m)) (drop from m), d) refl
 
-  with_rest : (n : ℕ) → at + length xs ≤ n → drop n (with_bytes bs at xs) ≡ drop n bs
+  -- n bytes of the lower side, written at the front of the upper one
+  pub upper_written : from + n ≤ to → to + n ≤ length m
+      → take to m ++ with_bytes (drop to m) 0 (take (from + n - from) (drop from (take to m))) ≡ with_bytes m to (take n (drop from m))
   unfolding with_bytes
-  with_rest n h =
-      let e : length (take at bs ++ xs) ≡ at + length xs = simp (length-append, length-take) (omega arith) in
-      let d : n ≡ at + length xs + (n - (at + length xs)) = omega arith in
-      rw (
-        d,
-        ← drop-drop (n - (at + length xs)) (at + length xs) (take at bs ++ xs ++ drop (at + length xs) bs),
-        drop_at (take at bs ++ xs) (drop (at + length xs) bs) (at + length xs) e,
-        drop-drop (n - (at + length xs)) (at + length xs) bs,
-      )
+  upper_written h k =
+      let xs = take n (drop from m) in
+      let e : length xs ≡ n = part_length m from n (omega arith) in
+      let q : from + n - from ≡ n = omega arith in
+      let r : from + (to - from) ≡ to = omega arith in
+      let x : take n (drop from (take to m)) ≡ xs =
+      (rw r at (ap (take n) (drop-take from (to - from) m))) ∙ take-take n (to - from) (drop from m) (omega arith) in
+      rw (q, x, e, zero-add n, drop-drop n to m, append_assoc (take to m) xs (drop (to + n) m)) refl
 
-  behind : drop at (with_bytes bs at xs) ≡ xs ++ drop (at + length xs) bs
+  pub within_written : from + n ≤ length m → paste m to (drop from m) (from + n - from) ≡ with_bytes m to (take n (drop from m))
   unfolding with_bytes
-  behind =
-      rw (append_assoc (take at bs) xs (drop (at + length xs) bs))
-      (drop_at (take at bs) (xs ++ drop (at + length xs) bs) at (length-take-le at bs (omega arith)))
-
-glue : (m bs : List ℕ) (at : ℕ) (xs ys : List ℕ) → take at m ≡ take at bs → drop (at + length xs) m ≡ ys ++ drop (at + length xs + length ys) bs
-    → with_bytes m at xs ≡ with_bytes bs at (xs ++ ys)
-unfolding with_bytes
-glue m bs at xs ys e d =
-    let q : at + (length xs + length ys) ≡ at + length xs + length ys = omega arith in
-    rw (e, d, length-append xs ys, q) (simp append_assoc)
-
--- bytes right in front of others
-with_before : (bs : List ℕ) (at : ℕ) (xs ys : List ℕ) → at + length xs + length ys ≤ length bs
-    → with_bytes (with_bytes bs (at + length xs) ys) at xs ≡ with_bytes bs at (xs ++ ys)
-with_before bs at xs ys h =
-    glue (with_bytes bs (at + length xs) ys) bs at xs ys (with_front bs (at + length xs) ys h at (omega arith)) (behind bs (at + length xs) ys h)
-
-cut : (f k : ℕ) (m : List ℕ) → drop f (take (f + k) m) ≡ take k (drop f m)
-cut zero k m = rw (zero-add k) refl
-cut (suc f) k [] = rw (suc-add f k, take-nil k) refl
-cut (suc f) k (x ∷ m) = rw (suc-add f k) (cut f k m)
-
--- a part depends on what lies up to its end
-part_same : (m m' : List ℕ) (n f k : ℕ) → take n m ≡ take n m' → f + k ≤ n → take k (drop f m) ≡ take k (drop f m')
-part_same m m' n f k e h =
-    let t : take (f + k) m ≡ take (f + k) m' = sym (take-take (f + k) n m h) ∙ ap (take (f + k)) e ∙ take-take (f + k) n m' h in
-    sym (cut f k m) ∙ ap (drop f) t ∙ cut f k m'
-
--- ---- a part of the list itself, moved block by block
-
--- to a lower place, the first i bytes first: what lies from `from + i` on is as it was
-pub move_lower : (m : List ℕ) (to from i k : ℕ) → to ≤ from → from + (i + k) ≤ length m
-    → let w = with_bytes m to (take i (drop from m)) in with_bytes w (to + i) (take k (drop (from + i) w)) ≡ with_bytes m to (take (i + k) (drop from m))
-move_lower m to from i k le h =
-    let a = take i (drop from m) in
-    let e : length a ≡ i = part_length m from i (omega arith) in
-    let d : drop (from + i) (with_bytes m to a) ≡ drop (from + i) m = with_rest m to a (omega arith) (from + i) (omega arith) in
-    rw (d, take-add i k (drop from m), drop-drop i from m) (rw e at (with_then m to a (omega arith) (take k (drop (from + i) m))))
-
--- to a higher place, the last i bytes first: what lies up to `from + k` is as it was
-pub move_higher : (m : List ℕ) (to from i k : ℕ) → from ≤ to → to + (k + i) ≤ length m
-    → let w = with_bytes m (to + k) (take i (drop (from + k) m)) in with_bytes w to (take k (drop from w)) ≡ with_bytes m to (take (k + i) (drop from m))
-move_higher m to from i k le h =
-    let b = take i (drop (from + k) m) in
-    let a = take k (drop from m) in
-    let eb : length b ≡ i = part_length m (from + k) i (omega arith) in
-    let ea : length a ≡ k = part_length m from k (omega arith) in
-    let t : take (to + k) (with_bytes m (to + k) b) ≡ take (to + k) m = with_front m (to + k) b (omega arith) (to + k) (omega arith) in
-    let d : take k (drop from (with_bytes m (to + k) b)) ≡ a = part_same (with_bytes m (to + k) b) m (to + k) from k t (omega arith) in
-    rw (d, take-add k i (drop from m), drop-drop k from m) (rw ea at (with_before m to a b (omega arith)))
+  within_written h =
+      let q : from + n - from ≡ n = omega arith in
+      rw (q, part_length m from n h) refl

@@ -1,17 +1,19 @@
 -- A test of every byte of a run of records is one of every record: a record is four zeros where its sixteen bytes are.
-use Prim.Native.Nat.{ℕ, ◌+◌, ◌*◌, ◌≤◌, ◌<◌}
-use mathlib.Core.Bool.{Bool, true, false, ◌&&◌}
-use mathlib.Core.List.{List}
+use Prim.Native.Nat.{ℕ, zero, suc, max, ◌+◌, ◌-◌, ◌*◌, ◌/◌, ◌≤◌, ◌<◌}
+use mathlib.Core.Bool.{true}
+use mathlib.Core.List.{List, [], ◌∷◌}
 use mathlib.Core.Path.{◌≡◌, refl, ◌∙◌}
 use native.Mathlib.Omega.{arith}
-use borrow.Author.Tests.{eq-eqb, ne_eqb, eqb-true, eqb-false}
+use borrow.Author.Tests.{eq-eqb, eqb-true}
 use lib.Dec.{eqb}
-use lib.ListN.{get_or}
+use lib.ListN.{length, get_or, take, drop, length-take, length-drop}
+use lib.Seq.{get_or-take, get_or-drop}
+use Rattle.std.specs.List.{fold}
 use Rattle.definition.specs.declared.Record.{Record}
 use Rattle.definition.specs.Basics.{all, range}
 use Rattle.definition.specs.Torn.{is_blank}
 use Rattle.definition.specs.World.{word_at, record_at}
-use Rattle.definition.proofs.Tests.{same_test, and_left, and_right, range_in, in_range, range_last}
+use Rattle.definition.proofs.Tests.{same_test, and_left, and_right, range_in, in_range}
 use Rattle.record.proofs.Records.{quarters}
 
 blank_numbers : (r : Record) → is_blank r ≡ true → (r.marks ≡ 0) × (r.level ≡ 0) × (r.earlier ≡ 0) × (r.later ≡ 0)
@@ -24,47 +26,24 @@ blank_numbers r t =
       eqb-true r.later 0 (and_right (eqb r.earlier 0) _ v),
     )
 
-abbrev zero_byte : List ℕ → ℕ → Bool
-zero_byte bs i = eqb (get_or bs i 0) 0
+-- ---- the largest of some bytes
 
--- the bytes from `at` on, so many, are zeros
-unfoldable pub zeros : List ℕ → ℕ → ℕ → Bool
-zeros bs at n = all (zero_byte bs) (range at n)
+-- no byte is larger
+larger : (xs : List ℕ) (m : ℕ) → m ≤ fold max m xs
+larger [] m = omega arith
+larger (x ∷ xs) m = omega (arith, larger xs (max m x))
+
+no_larger : (xs : List ℕ) (m i : ℕ) → i < length xs → get_or xs i 0 ≤ fold max m xs
+no_larger [] m i h = absurd (omega (arith, h))
+no_larger (x ∷ xs) m zero h = omega (arith, larger xs (max m x))
+no_larger (x ∷ xs) m (suc i) h = no_larger xs (max m x) i (omega (arith, h))
+
+-- it is 0 where all are
+largest_zero : (xs : List ℕ) → ((i : ℕ) → i < length xs → get_or xs i 0 ≡ 0) → fold max 0 xs ≡ 0
+largest_zero [] h = refl
+largest_zero (x ∷ xs) h = let e : x ≡ 0 = h 0 (omega arith) in rw e (largest_zero xs (λ i k. h (suc i) (omega (arith, k))))
 
 module _ (bs : List ℕ) where
-  pub zeros_none : (at : ℕ) → true ≡ zeros bs at 0
-  unfolding zeros all range
-  zeros_none at = refl
-
-  pub zeros_left : (at i : ℕ) (t : Bool) → t ≡ zeros bs at i → get_or bs (at + i) 0 ≡ 0 → t ≡ zeros bs at (i + 1)
-  unfolding zeros
-  zeros_left at i t e h = rw (range_last (zero_byte bs) at i, eq-eqb (get_or bs (at + i) 0) 0 h, ← e) (go t)
-    where
-      go : (t : Bool) → t ≡ t && true
-      go true = refl
-      go false = refl
-
-  pub zeros_taken : (at i : ℕ) → (get_or bs (at + i) 0 ≡ 0 → ⊥) → false ≡ zeros bs at (i + 1)
-  unfolding zeros
-  zeros_taken at i h = rw (range_last (zero_byte bs) at i, ne_eqb (get_or bs (at + i) 0) 0 h) (go (all (zero_byte bs) (range at i)))
-    where
-      go : (t : Bool) → false ≡ t && false
-      go true = refl
-      go false = refl
-
-  -- the largest of the bytes passed is 0 where all of them are
-  pub zeros_larger : (at i m : ℕ) → m < get_or bs (at + i) 0 → eqb (get_or bs (at + i) 0) 0 ≡ zeros bs at (i + 1)
-  zeros_larger at i m h = ne_eqb (get_or bs (at + i) 0) 0 (λ e. omega (arith, e, h)) ∙ zeros_taken at i (λ e. omega (arith, e, h))
-
-  pub zeros_largest : (at i m : ℕ) → eqb m 0 ≡ zeros bs at i → (m < get_or bs (at + i) 0 → ⊥) → eqb m 0 ≡ zeros bs at (i + 1)
-  zeros_largest at i m e h = go (eqb (get_or bs (at + i) 0) 0) refl
-    where
-      go : (t : Bool) → eqb (get_or bs (at + i) 0) 0 ≡ t → eqb m 0 ≡ zeros bs at (i + 1)
-      go true z = zeros_left at i (eqb m 0) e (eqb-true (get_or bs (at + i) 0) 0 z)
-      go false z =
-          let nonzero = eqb-false (get_or bs (at + i) 0) 0 z in
-          ne_eqb m 0 (λ o. h (omega (arith, o, nonzero))) ∙ zeros_taken at i nonzero
-
   word : (q w : ℕ) → ((i : ℕ) → q * 16 ≤ i → i < q * 16 + 16 → get_or bs i 0 ≡ 0) → q * 4 ≤ w → w < q * 4 + 4 → eqb (word_at bs w) 0 ≡ true
   unfolding word_at
   word q w h a b =
@@ -106,11 +85,23 @@ module _ (bs : List ℕ) where
       λ a b. let t = words w (omega arith) (omega arith) in omega arith,
     ))
 
-  pub zeros_blank : (first count : ℕ) → zeros bs (first * 16) (count * 16) ≡ all (λ q. is_blank (record_at bs q)) (range first count)
-  unfolding zeros
-  zeros_blank first count =
+  pub largest_blank : (first count : ℕ) → first + count ≤ length bs / 16
+      → let at = first * 16 in let e = (first + count) * 16 in
+      eqb (fold max 0 (take (e - at) (drop at bs))) 0 ≡ all (λ q. is_blank (record_at bs q)) (range first count)
+  largest_blank first count h =
+      let at = first * 16 in
+      let n = (first + count) * 16 - at in
+      let xs = take n (drop at bs) in
+      let long : length xs ≡ count * 16 = simp (length-take, length-drop) (omega arith) in
+      let here : (i : ℕ) → i < count * 16 → get_or xs i 0 ≡ get_or bs (at + i) 0 =
+      λ i k. get_or-take n (drop at bs) i 0 (omega (arith, k)) ∙ get_or-drop at bs i 0 in
       same_test
       (λ e. in_range (λ q. is_blank (record_at bs q)) first count (λ q a b. blank q (λ i c d.
-      eqb-true (get_or bs i 0) 0 (range_in (zero_byte bs) (first * 16) (count * 16) e i (omega arith) (omega arith)))))
-      (λ e. in_range (zero_byte bs) (first * 16) (count * 16) (λ i a b.
-      eq-eqb (get_or bs i 0) 0 (bytes first count (range_in (λ q. is_blank (record_at bs q)) first count e) i (omega arith) (omega arith))))
+      let j = i - at in
+      let p : at + j ≡ i = omega (arith, a, b, c, d) in
+      let k : j < count * 16 = omega (arith, a, b, c, d) in
+      let z = eqb-true (fold max 0 xs) 0 e in
+      omega (arith, no_larger xs 0 j (omega (arith, k, long)), z, (rw p at (here j k))))))
+      (λ e. eq-eqb (fold max 0 xs) 0 (largest_zero xs (λ i k.
+      here i (omega (arith, k, long))
+      ∙ bytes first count (range_in (λ q. is_blank (record_at bs q)) first count e) (at + i) (omega arith) (omega (arith, k, long)))))

@@ -1,12 +1,13 @@
--- Laws of `with_bytes`: what stands at each place, and that stores one after another are one.
-use Prim.Native.Nat.{ℕ, suc, ◌+◌, ◌-◌, ◌≤◌, ◌<◌}
-use mathlib.Core.List.{List, [], ◌∷◌, ◌++◌, append_assoc}
-use mathlib.Core.Path.{◌≡◌, sym, ap, ◌∙◌}
+-- Laws of `with_bytes`: what stands at each place, that stores one after another are one, and that it is what a write to a part leaves.
+use Prim.Native.Nat.{ℕ, ◌+◌, ◌-◌, ◌≤◌, ◌<◌}
+use mathlib.Core.List.{List, [], ◌++◌, append_assoc}
+use mathlib.Core.Path.{◌≡◌, refl, ap, ◌∙◌}
 use native.Mathlib.Omega.{arith}
-use native.Mathlib.Numerals.{add-one}
 use native.Mathlib.Decide.{dec_lt}
-use lib.ListN.{length, get_or, take, drop, set, length-append, length-take, length-drop, get_or-append, replicate, length-replicate, replicate-append-replicate}
-use lib.Seq.{paste-zero, sets-eq, set_split, append_snoc, length-take-le, get_or-append-add, get_or-take, get_or-drop, take_at, drop_at, drop-drop}
+use lib.ListN.{length, get_or, take, drop, length-append, length-take, length-drop, get_or-append, replicate, length-replicate}
+use lib.Seq.{paste-zero, take-length, length-take-le, get_or-append-add, get_or-take, get_or-drop, take_at, drop_at, drop-drop}
+use borrow.Rule.Slice.PartMut.{put_mid}
+use Rattle.std.proofs.lemmas.Slice.{put_mid-paste}
 use Rattle.record.specs.Records.{with_bytes}
 
 module _ (bs : List ℕ) (at : ℕ) (xs : List ℕ) (fits : at + length xs ≤ length bs) where
@@ -62,28 +63,21 @@ module _ (bs : List ℕ) (at : ℕ) (xs : List ℕ) (fits : at + length xs ≤ l
       (let q : at + (length xs + length ys) ≡ at + length xs + length ys = omega arith in
       rw q (ap (λ (l : List ℕ). l ++ drop (at + length xs + length ys) bs) (append_assoc (take at bs) xs ys)))
 
-pub with_one : (bs : List ℕ) (i v : ℕ) → i < length bs → set bs i v ≡ with_bytes bs i (v ∷ [])
-unfolding with_bytes
-with_one bs i v h = set_split bs i v h ∙ rw add-one (sym (append_snoc (take i bs) v (drop (suc i) bs)))
-
 pub with_none : (bs : List ℕ) (at : ℕ) → bs ≡ with_bytes bs at []
 unfolding with_bytes
 with_none bs at = paste-zero bs at []
 
--- one byte more of a run
-pub with_more : (bs : List ℕ) (at i v : ℕ) → at + i < length bs
-    → set (with_bytes bs at (replicate i v)) (at + i) v ≡ with_bytes bs at (replicate (i + 1) v)
-with_more bs at i v h =
-    let n : length (replicate i v) ≡ i = length-replicate i v in
-    let l : length (with_bytes bs at (replicate i v)) ≡ length bs = with_length bs at (replicate i v) (omega arith) in
-    with_one (with_bytes bs at (replicate i v)) (at + i) v (omega arith)
-    ∙ (rw n at (with_then bs at (replicate i v) (omega arith) (v ∷ [])))
-    ∙ ap (λ (xs : List ℕ). with_bytes bs at xs) (replicate-append-replicate i 1 v)
+-- ---- what std's methods leave of a list of which they wrote the part from a up to e
 
-pub with_four : (bs : List ℕ) (i a b c d : ℕ) → i + 4 ≤ length bs
-    → set (set (set (set bs i a) (i + 1) b) (i + 2) c) (i + 3) d ≡ with_bytes bs i (a ∷ b ∷ c ∷ d ∷ [])
-unfolding with_bytes
-with_four bs i a b c d h =
-    let e : i + 2 ≡ suc (suc i) = omega arith in
-    let g : i + 3 ≡ suc (suc (suc i)) = omega arith in
-    rw (add-one, e, g) (sets-eq (a ∷ b ∷ c ∷ d ∷ []) bs i h)
+module _ (bs : List ℕ) (a n e : ℕ) (ends : a + n ≡ e) where
+  pub part_written : (xs : List ℕ) → length xs ≡ n → put_mid a (e - a) bs xs ≡ with_bytes bs a xs
+  unfolding with_bytes
+  part_written xs h =
+      let k : e - a ≡ length xs = omega arith in
+      rw k (put_mid-paste a (length xs) bs xs xs (length xs) refl refl refl ∙ rw (take-length xs) refl)
+
+  pub part_filled : (v : ℕ) (ys : List ℕ) → e ≤ length bs → ys ≡ replicate (length (take (e - a) (drop a bs))) v
+      → put_mid a (e - a) bs ys ≡ with_bytes bs a (replicate n v)
+  part_filled v ys h f =
+      let k : length (take (e - a) (drop a bs)) ≡ n = simp (length-take, length-drop) (omega arith) in
+      rw (f, k) (part_written (replicate n v) (length-replicate n v))

@@ -1,34 +1,34 @@
 -- The marks that are put together, taken apart again; and the marks and the number of the level as one number: that it tells an unheld frame from all other
 -- records that have no mark bits but those named.
-use Prim.Native.Nat.{ℕ, ◌+◌, ◌%◌, ◌<◌}
+use Prim.Native.Nat.{ℕ, zero, suc, ◌+◌, ◌*◌, ◌/◌, ◌%◌, ◌^◌, ◌<◌}
 use mathlib.Core.Bool.{Bool, true, false, not, ◌||◌}
 use mathlib.Core.Logic.{◌⊎◌, inl, inr}
 use mathlib.Core.Path.{◌≡◌, refl}
 use native.Mathlib.Omega.{arith}
 use native.Mathlib.Decide.{ℕ_discrete, dec_lt}
-use borrow.Author.Tests.{eq-eqb, ne_eqb, eqb-true, eqb-false, ltb-true, lt-ltb, not-true}
+use borrow.Author.Tests.{eq-eqb, ne_eqb, eqb-true, eqb-false, ltb-true, not-true}
+use native.Mathlib.Nat.{zero-mul, one-mul}
+use lib.Bits.{bit_and}
 use lib.Dec.{eqb, ltb}
+use Rattle.std.proofs.lemmas.Nat.{pow_pos}
+use Rattle.std.proofs.lemmas.Nat.Bits.{and_pow, bit_at-lt}
 use Rattle.definition.specs.declared.Record.{Record}
 use Rattle.definition.specs.Basics.{bit}
-use Rattle.definition.specs.World.{
-  admitted_bit,
-  allocated_bit,
-  zeroed_bit,
-  admitted_in,
-  allocated_in,
-  zeroed_in,
-  kernel_in,
-  named_marks,
-  marks_with,
-  allocated_marks,
-  level_in,
-  is_admitted,
-}
+use Rattle.definition.specs.World.{admitted_bit, allocated_bit, zeroed_bit, admitted_in, allocated_in, zeroed_in, kernel_in, named_marks, marks_with, level_in, is_admitted}
 use Rattle.definition.specs.Torn.{is_held_record}
 use Rattle.definition.proofs.Tests.{and_left, and_right}
 use Rattle.record.specs.Records.{kind_of, free_kind, of_kind, free_page}
 
 -- ---- the marks
+
+-- a mark is set where the number has any bit of the mark
+pub mark_test : (n k : ℕ) → not (eqb (bit_and n (2 ^ k)) 0) ≡ eqb (n / 2 ^ k % 2) 1
+mark_test n k = rw (and_pow n k) (go (n / 2 ^ k % 2) (bit_at-lt n k))
+  where
+    go : (b : ℕ) → b < 2 → not (eqb (b * 2 ^ k) 0) ≡ eqb b 1
+    go zero h = rw (zero-mul (2 ^ k)) refl
+    go (suc zero) h = rw (one-mul (2 ^ k), ne_eqb (2 ^ k) 0 (λ e. omega (arith, e, pow_pos k))) refl
+    go (suc (suc b)) h = absurd (omega (arith, h))
 
 -- put together and taken apart
 pub marks_with_lem : (a z k : Bool)
@@ -42,9 +42,6 @@ marks_with_lem false true false = (refl, refl, refl, refl)
 marks_with_lem false false true = (refl, refl, refl, refl)
 marks_with_lem false false false = (refl, refl, refl, refl)
 
-pub held_with_lem : (z k : Bool) → allocated_marks (marks_with false z k) ≡ marks_with true z k
-held_with_lem z k = omega arith
-
 -- ---- an unheld frame of one page
 
 module _ (r : Record) where
@@ -57,15 +54,6 @@ module _ (r : Record) where
         omega arith,
         ltb-true r.marks named_marks (and_left _ _ b),
         eqb-true (level_in r.level) 0 (and_right (ltb r.marks named_marks) _ b),
-      )
-
-  pub free_test : (n : ℕ) → n ≡ kind_of r → n % 4 ≡ 1 → n < named_marks → free_page r ≡ true
-  free_test n e a l =
-      rw (
-        eq-eqb (admitted_bit r.marks) 1 (omega arith),
-        ne_eqb (allocated_bit r.marks) 1 (omega arith),
-        lt-ltb r.marks named_marks (omega arith),
-        eq-eqb (level_in r.level) 0 (omega arith),
       )
 
 -- ---- the unheld frames of a level

@@ -1,20 +1,20 @@
 -- From bytes to 32-bit numbers, and from these to records: four bytes written in a number's place are that number, and a number that is another changes
 -- one field of one record.
-use Prim.Native.Nat.{ℕ, ◌+◌, ◌*◌, ◌/◌, ◌%◌, ◌≤◌, ◌<◌, ◌^◌}
+use Prim.Native.Nat.{ℕ, zero, suc, ◌+◌, ◌*◌, ◌/◌, ◌%◌, ◌≤◌, ◌<◌, ◌^◌}
 use mathlib.Core.Bool.{cond}
 use mathlib.Core.List.{List}
 use mathlib.Core.Logic.{◌≢◌}
 use mathlib.Core.Path.{◌≡◌, refl, sym, ap, ◌∙◌, fun_ext}
 use native.Mathlib.Omega.{arith}
+use native.Mathlib.Nat.{add-zero}
 use native.Mathlib.Decide.{ℕ_discrete}
 use borrow.Author.Tests.{eq-eqb, ne_eqb}
 use lib.Dec.{eqb}
 use lib.ListN.{length, get_or}
-use Rattle.definition.specs.declared.Record.{Record}
 use Rattle.definition.specs.Basics.{upd}
 use Rattle.definition.specs.World.{word_at, record_at, word_bytes}
 use Rattle.definition.proofs.Basics.{upd_same, upd_other}
-use Rattle.record.specs.Records.{with_bytes}
+use Rattle.record.specs.Records.{with_bytes, number_at, changed}
 use Rattle.record.proofs.Bytes.{with_in, with_out}
 
 module _ (bs cs : List ℕ) where
@@ -73,15 +73,14 @@ module _ (bs : List ℕ) (w v : ℕ) (h : w < length bs / 4) (fits : v < 2 ^ 32)
 
 -- ---- a record
 
--- the record with another i-th number
-abbrev pub changed : ℕ → ℕ → Record → Record
-changed i v r =
-    record {
-      marks = cond (eqb i 0) v r.marks;
-      level = cond (eqb i 1) v r.level;
-      earlier = cond (eqb i 2) v r.earlier;
-      later = cond (eqb i 3) v r.later;
-    }
+-- a number of the record by its place among all numbers
+pub number_word : (bs : List ℕ) (p i : ℕ) → i < 4 → number_at i (record_at bs p) ≡ word_at bs (p * 4 + i)
+unfolding record_at
+number_word bs p zero h = rw (add-zero (p * 4)) refl
+number_word bs p (suc zero) h = refl
+number_word bs p (suc (suc zero)) h = refl
+number_word bs p (suc (suc (suc zero))) h = refl
+number_word bs p (suc (suc (suc (suc i)))) h = absurd (omega (arith, h))
 
 module _ (bs cs : List ℕ) (p i v w : ℕ) (h : i < 4) (place : w ≡ p * 4 + i) (e : word_at cs ≡ upd (word_at bs) w v) where
   away : (m : ℕ) → m ≢ w → word_at cs m ≡ word_at bs m

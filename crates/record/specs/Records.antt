@@ -33,6 +33,23 @@ with_later f p v = upd f p (record { marks = (f p).marks; level = (f p).level; e
 abbrev pub with_links : (ℕ → Record) → ℕ → ℕ → ℕ → ℕ → Record
 with_links f p e l = upd f p (record { marks = (f p).marks; level = (f p).level; earlier = e; later = l })
 
+-- the number at a place of a record, and the record with another number there
+abbrev pub number_at : ℕ → Record → ℕ
+number_at i r = cond (eqb i 0) r.marks (cond (eqb i 1) r.level (cond (eqb i 2) r.earlier r.later))
+
+abbrev pub changed : ℕ → ℕ → Record → Record
+changed i v r =
+    record {
+      marks = cond (eqb i 0) v r.marks;
+      level = cond (eqb i 1) v r.level;
+      earlier = cond (eqb i 2) v r.earlier;
+      later = cond (eqb i 3) v r.later;
+    }
+
+-- one number of the record of a page is another
+abbrev pub with_number : (ℕ → Record) → ℕ → ℕ → ℕ → ℕ → Record
+with_number f p i v = upd f p (changed i v (f p))
+
 -- the records of so many pages, from the first on, are four zeros
 unfoldable pub cleared : (ℕ → Record) → ℕ → ℕ → ℕ → Record
 cleared f first count q = cond (within first count q) no_record (f q)

@@ -4,7 +4,7 @@
 // whole record too.
 #![tactic(auto)]
 
-ghost use Rattle.std.specs.Prelude.{true, false, ◌≡◌, ◌++◌, ◌+◌, ◌*◌, ◌/◌, ◌^◌, ◌<◌, ◌≤◌, ltb, length, replicate};
+ghost use Rattle.std.specs.Prelude.{true, false, ◌≡◌, ◌++◌, ◌+◌, ◌*◌, ◌/◌, ◌^◌, ◌<◌, ◌≤◌, ltb, length, replicate, max, fold};
 ghost use Rattle.definition.specs.Basics.{upd, all, range};
 ghost use Rattle.definition.specs.Frame.{levels};
 ghost use Rattle.definition.specs.Torn.{is_blank};
@@ -30,6 +30,8 @@ ghost use Rattle.record.specs.Records.{
   with_earlier,
   with_later,
   with_links,
+  number_at,
+  with_number,
   cleared,
   kind_of,
   free_kind,
@@ -39,31 +41,37 @@ ghost use Rattle.record.specs.Records.{
 
 use definition::Record;
 
-fn wide(x: u8) -> u32
-    ensures { (result ≡ x) × (result < 256) }
+// The places of the four numbers in a record.
+const MARKS: usize = 0;
+
+const LEVEL: usize = 1;
+
+const EARLIER: usize = 2;
+
+const LATER: usize = 3;
+
+// One of the four numbers of a page's record. It compiles to one load.
+fn number(records: &[u8], page: usize, place: usize) -> u32
+    requires { (page < pages_in records.now) × (place < 4) }
+    ensures { result ≡ number_at place (record_at records.now page) }
 {
-    x as u32
+    let at = page * 16 + place * 4;
+    u32::from_le_bytes([
+        records[at],
+        records[at + 1],
+        records[at + 2],
+        records[at + 3],
+    ])
 }
 
-// By sums and quotients, not by shifts and bits: the facts are then linear, and the compiled code is one load or store all the same.
-fn get(s: &[u8], w: usize) -> u32
-    requires { w < length s.now / 4 }
-    ensures { result ≡ word_at s.now w }
+// Makes it `v`, by one store.
+fn set_number(records: &mut [u8], page: usize, place: usize, v: u32)
+    requires { (page < pages_in records.old) × (place < 4) }
+    ensures bytes { records.new ≡ with_bytes records.old (page * 16 + place * 4) (word_bytes v) }
+    ensures records { record_at records.new ≡ with_number (record_at records.old) page place v }
 {
-    let at = w * 4;
-    wide(s[at]) + wide(s[at + 1]) * 256 + wide(s[at + 2]) * 65536 + wide(s[at + 3]) * 16777216
-}
-
-fn put(s: &mut [u8], w: usize, v: u32)
-    requires { w < length s.old / 4 }
-    ensures bytes { s.new ≡ with_bytes s.old (w * 4) (word_bytes v) }
-    ensures words { word_at s.new ≡ upd (word_at s.old) w v }
-{
-    let at = w * 4;
-    s[at] = (v % 256) as u8;
-    s[at + 1] = (v / 256 % 256) as u8;
-    s[at + 2] = (v / 65536 % 256) as u8;
-    s[at + 3] = (v / 16777216 % 256) as u8;
+    let at = page * 16 + place * 4;
+    records[at..at + 4].copy_from_slice(&v.to_le_bytes());
 }
 
 // The record of a page.
@@ -71,12 +79,11 @@ pub fn load(records: &[u8], page: usize) -> Record
     requires { page < pages_in records.now }
     ensures { result ≡ record_at records.now page }
 {
-    let w = page * 4;
     Record {
-        marks: get(records, w),
-        level: get(records, w + 1),
-        earlier: get(records, w + 2),
-        later: get(records, w + 3),
+        marks: number(records, page, MARKS),
+        level: number(records, page, LEVEL),
+        earlier: number(records, page, EARLIER),
+        later: number(records, page, LATER),
     }
 }
 
@@ -86,11 +93,10 @@ pub fn store(records: &mut [u8], page: usize, r: Record)
     ensures bytes { records.new ≡ with_bytes records.old (page * 16) (record_bytes r) }
     ensures records { record_at records.new ≡ upd (record_at records.old) page r }
 {
-    let w = page * 4;
-    put(records, w, r.marks);
-    put(records, w + 1, r.level);
-    put(records, w + 2, r.earlier);
-    put(records, w + 3, r.later);
+    set_number(records, page, MARKS, r.marks);
+    set_number(records, page, LEVEL, r.level);
+    set_number(records, page, EARLIER, r.earlier);
+    set_number(records, page, LATER, r.later);
 }
 
 // The marks of a page.
@@ -98,7 +104,7 @@ pub fn marks(records: &[u8], page: usize) -> u32
     requires { page < pages_in records.now }
     ensures { result ≡ (record_at records.now page).marks }
 {
-    get(records, page * 4)
+    number(records, page, MARKS)
 }
 
 // The number of a page that has its level, for `level_of`.
@@ -106,7 +112,7 @@ pub fn level(records: &[u8], page: usize) -> u32
     requires { page < pages_in records.now }
     ensures { result ≡ (record_at records.now page).level }
 {
-    get(records, page * 4 + 1)
+    number(records, page, LEVEL)
 }
 
 // The neighbour before a page in its list.
@@ -114,7 +120,7 @@ pub fn earlier(records: &[u8], page: usize) -> u32
     requires { page < pages_in records.now }
     ensures { result ≡ (record_at records.now page).earlier }
 {
-    get(records, page * 4 + 2)
+    number(records, page, EARLIER)
 }
 
 // The neighbour after a page in its list.
@@ -122,7 +128,7 @@ pub fn later(records: &[u8], page: usize) -> u32
     requires { page < pages_in records.now }
     ensures { result ≡ (record_at records.now page).later }
 {
-    get(records, page * 4 + 3)
+    number(records, page, LATER)
 }
 
 // Changes the marks of a page.
@@ -131,7 +137,7 @@ pub fn set_marks(records: &mut [u8], page: usize, v: u32)
     ensures bytes { records.new ≡ with_bytes records.old (page * 16) (word_bytes v) }
     ensures records { record_at records.new ≡ with_marks (record_at records.old) page v }
 {
-    put(records, page * 4, v);
+    set_number(records, page, MARKS, v);
 }
 
 // Changes the neighbour before a page.
@@ -140,7 +146,7 @@ pub fn set_earlier(records: &mut [u8], page: usize, v: u32)
     ensures bytes { records.new ≡ with_bytes records.old (page * 16 + 8) (word_bytes v) }
     ensures records { record_at records.new ≡ with_earlier (record_at records.old) page v }
 {
-    put(records, page * 4 + 2, v);
+    set_number(records, page, EARLIER, v);
 }
 
 // Changes the neighbour after a page.
@@ -149,7 +155,7 @@ pub fn set_later(records: &mut [u8], page: usize, v: u32)
     ensures bytes { records.new ≡ with_bytes records.old (page * 16 + 12) (word_bytes v) }
     ensures records { record_at records.new ≡ with_later (record_at records.old) page v }
 {
-    put(records, page * 4 + 3, v);
+    set_number(records, page, LATER, v);
 }
 
 // Changes both neighbours of a page.
@@ -158,8 +164,8 @@ pub fn set_links(records: &mut [u8], page: usize, earlier: u32, later: u32)
     ensures bytes { records.new ≡ with_bytes records.old (page * 16 + 8) (word_bytes earlier ++ word_bytes later) }
     ensures records { record_at records.new ≡ with_links (record_at records.old) page earlier later }
 {
-    put(records, page * 4 + 2, earlier);
-    put(records, page * 4 + 3, later);
+    set_number(records, page, EARLIER, earlier);
+    set_number(records, page, LATER, later);
 }
 
 // Makes the records of `count` pages, from `first` on, four zeros each.
@@ -168,59 +174,57 @@ pub fn clear(records: &mut [u8], first: usize, count: usize)
     ensures bytes { records.new ≡ with_bytes records.old (first * 16) (replicate (count * 16) 0) }
     ensures records { record_at records.new ≡ cleared (record_at records.old) first count }
 {
-    let at = first * 16;
-    let len = count * 16;
-    let mut i: usize = 0;
-    while i < len {
-        records[at + i] = 0;
-        i += 1;
-    }
+    records[first * 16..(first + count) * 16].fill(0);
 }
 
-// Whether the records of `count` pages, from `first` on, are four zeros each: whether the largest of their bytes is 0. No early exit, and
-// the largest rather than a flag: LLVM then makes it one vector instruction for each 16 bytes.
+// The largest of the bytes, or 0 where there are none. Not `max()`, which carries an `Option` along and takes up to twice as long.
+fn largest(bytes: &[u8]) -> u8
+    ensures { result ≡ fold max 0 bytes.now }
+{
+    bytes.iter().fold(0, |most, byte| most.max(*byte))
+}
+
+// Whether the records of `count` pages, from `first` on, are four zeros each: whether the largest of their bytes is 0. Not `all`: it may
+// stop early, so that LLVM makes no vector instructions of it, and it takes 20 to 40 times as long.
 pub fn is_clear(records: &[u8], first: usize, count: usize) -> bool
     requires { first + count ≤ pages_in records.now }
     ensures { result ≡ all (λ q. is_blank (record_at records.now q)) (range first count) }
 {
-    let start = first * 16;
-    let bytes = count * 16;
-    let mut largest: u8 = 0;
-    let mut i: usize = 0;
-    while i < bytes {
-        let byte = records[start + i];
-        if largest < byte {
-            largest = byte;
-        }
-        i += 1;
-    }
-    largest == 0
+    largest(&records[first * 16..(first + count) * 16]) == 0
 }
 
-// ---- The marks and the number of the level, taken apart and put together in this one place: 1 ADMITTED, 2 ALLOCATED, 4 ZEROED, 8 KERNEL.
+// ---- The marks and the number of the level, taken apart and put together in this one place.
+
+const ADMITTED: u32 = 1;
+
+const ALLOCATED: u32 = 2;
+
+const ZEROED: u32 = 4;
+
+const KERNEL: u32 = 8;
 
 pub fn is_admitted(marks: u32) -> bool
     ensures { result ≡ admitted_in marks }
 {
-    marks % 2 == 1
+    marks & ADMITTED != 0
 }
 
 pub fn is_allocated(marks: u32) -> bool
     ensures { result ≡ allocated_in marks }
 {
-    marks / 2 % 2 == 1
+    marks & ALLOCATED != 0
 }
 
 pub fn is_zeroed(marks: u32) -> bool
     ensures { result ≡ zeroed_in marks }
 {
-    marks / 4 % 2 == 1
+    marks & ZEROED != 0
 }
 
 pub fn is_kernel(marks: u32) -> bool
     ensures { result ≡ kernel_in marks }
 {
-    marks / 8 % 2 == 1
+    marks & KERNEL != 0
 }
 
 // No mark bits but those named.
@@ -234,11 +238,7 @@ pub fn is_named(marks: u32) -> bool
 pub fn free_marks(zeroed: bool, kernel: bool) -> u32
     ensures { result ≡ marks_with false zeroed kernel }
 {
-    if zeroed {
-        if kernel { 13 } else { 5 }
-    } else {
-        if kernel { 9 } else { 1 }
-    }
+    ADMITTED + ZEROED * u32::from(zeroed) + KERNEL * u32::from(kernel)
 }
 
 // The marks of a frame that is held.
@@ -253,7 +253,7 @@ pub fn set_allocated(marks: u32) -> u32
     requires { allocated_in marks ≡ false }
     ensures { result ≡ allocated_marks marks }
 {
-    marks + 2
+    marks + ALLOCATED
 }
 
 pub fn level_of(word: u32) -> usize
@@ -272,12 +272,17 @@ pub fn level_word(level: usize) -> u32
 
 // ---- The marks and the number of the level as one number, so that one load and one comparison tell an unheld frame.
 
+fn kind(marks: u32, level: u32) -> u64
+    ensures { result ≡ marks + 4294967296 * level }
+{
+    u64::from(marks) + 4294967296 * u64::from(level)
+}
+
 fn kind_at(records: &[u8], page: usize) -> u64
     requires { page < pages_in records.now }
     ensures { result ≡ kind_of (record_at records.now page) }
 {
-    let w = page * 4;
-    (get(records, w) as u64) + 4294967296 * (get(records, w + 1) as u64)
+    kind(number(records, page, MARKS), number(records, page, LEVEL))
 }
 
 // Whether a page is an unheld frame of one page, with ZEROED and KERNEL or without.
@@ -285,17 +290,7 @@ pub fn is_free_page(records: &[u8], page: usize) -> bool
     requires { page < pages_in records.now }
     ensures { result ≡ free_page (record_at records.now page) }
 {
-    let kind = kind_at(records, page);
-    if kind == 1 {
-        return true;
-    }
-    if kind == 5 {
-        return true;
-    }
-    if kind == 9 {
-        return true;
-    }
-    kind == 13
+    matches!(kind_at(records, page), 1 | 5 | 9 | 13)
 }
 
 // That of the unheld frames of a level, with ZEROED or without, but for KERNEL.
@@ -303,7 +298,7 @@ pub fn free_kind(level: usize, zeroed: bool) -> u64
     requires { level < levels }
     ensures { (result ≡ free_kind level zeroed) × (result < 2 ^ 63) }
 {
-    (free_marks(zeroed, false) as u64) + 4294967296 * (level_word(level) as u64)
+    kind(free_marks(zeroed, false), level_word(level))
 }
 
 // Whether a page has that number, with KERNEL or without.
@@ -312,8 +307,5 @@ pub fn is_kind(records: &[u8], page: usize, kind: u64) -> bool
     ensures { result ≡ of_kind kind (record_at records.now page) }
 {
     let found = kind_at(records, page);
-    if found == kind {
-        return true;
-    }
-    found == kind + 8
+    found == kind || found == kind + u64::from(KERNEL)
 }

@@ -1,10 +1,13 @@
 -- A row by its number: where its words and those of its lists stand, which rows are in use, what a row is of which two lists were written, and rows whose words
 -- stand there.
-use Prim.Native.Nat.{ℕ, zero, suc, ◌+◌, ◌-◌, ◌*◌, ◌≤◌, ◌<◌}
+use Prim.Native.Nat.{ℕ, zero, suc, ◌+◌, ◌-◌, ◌*◌, ◌/◌, ◌%◌, ◌≤◌, ◌<◌}
 use mathlib.Core.List.{List, [], ◌∷◌}
 use mathlib.Core.Path.{◌≡◌, refl, sym, ap, ◌∙◌}
 use native.Mathlib.Nat.{zero-add}
-use native.Mathlib.Decide.{dec_lt}
+use borrow.Author.Tests.{eq-eqb, ne_eqb}
+use lib.Dec.{eqb}
+use mathlib.Core.Bool.{cond}
+use native.Mathlib.Decide.{ℕ_discrete, dec_lt}
 use native.Mathlib.Omega.{arith}
 use lib.ListN.{length, get_or, drop, replicate, get_or-replicate}
 use lib.Seq.{ext_get_or, get_or-drop}
@@ -83,6 +86,19 @@ list_place ws i level u l = rw (row_place ws i u.1 u.2) (go level l)
     go (suc zero) h = rw (row_parts ws i) (refl, refl)
     go (suc (suc zero)) h = rw (row_parts ws i) (refl, refl)
     go (suc (suc (suc j))) h = absurd (omega arith)
+
+-- an even number is that of a first list, an odd one of a second
+pub list_numbered : (ws : List ℕ) (i k : ℕ) → InUse ws i → k < 6
+    → cond (eqb (k % 2) 1) (second_in ws (place i (k / 2))) (first_in ws (place i (k / 2))) ≡ list_in (row_of (rows_in ws) i) k
+list_numbered ws i k u l = go (ℕ_discrete (k % 2) 1)
+  where
+    go : Dec (k % 2 ≡ 1) → cond (eqb (k % 2) 1) (second_in ws (place i (k / 2))) (first_in ws (place i (k / 2))) ≡ list_in (row_of (rows_in ws) i) k
+    go (yes e) =
+        let m : 2 * (k / 2) + 1 ≡ k = omega arith in
+        rw (eq-eqb (k % 2) 1 e) (sym (rw m at (list_place ws i (k / 2) u (omega arith)).1))
+    go (no d) =
+        let m : 2 * (k / 2) ≡ k = omega arith in
+        rw (ne_eqb (k % 2) 1 d) (sym (rw m at (list_place ws i (k / 2) u (omega arith)).0))
 
 -- a row of which nothing but these two has changed
 module _ (ws vs : List ℕ) (i : ℕ) (a b : Links) where

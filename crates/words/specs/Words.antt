@@ -21,6 +21,9 @@ use Rattle.record.specs.Records.{with_bytes}
 abbrev pub word_in : List ℕ → ℕ → ℕ
 word_in ws i = get_or ws i 0
 
+abbrev pub is_zero : ℕ → Bool
+is_zero w = eqb w 0
+
 -- ---- the layout
 
 abbrev pub version : ℕ

@@ -13,6 +13,6 @@ returns-then-i-used_in c =
     let e : 1 + 11 * i + 1 ≡ 2 + 11 * i = omega arith in
     rw (row_place c.args.words.now i c.requires.1 (omega (arith, c.if-i-used_in.true, c.used_in.ensures.0)), e) refl
 
-pub returns : goal.returns
-returns c =
+pub returns-else-i-used_in : goal.returns-else-i-used_in
+returns-else-i-used_in c =
     rw (row_none c.args.words.now c.args.i c.requires.1 (omega (arith, c.if-i-used_in.false, c.used_in.ensures.0))) refl

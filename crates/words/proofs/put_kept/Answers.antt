@@ -1,5 +1,4 @@
--- `put_kept` meets its contract. The loop's invariant: behind the first word stand the words of the rows passed, and there are as many words as before.
-use mathlib.Core.Path.{refl, ◌∙◌}
+-- `put_kept` meets its contract. The loop's invariant: behind the first word stand the words of the rows passed.
 use native.Mathlib.Omega.{arith}
 use lib.ListN.{length-set}
 use lib.Seq.{take_all}
@@ -11,27 +10,17 @@ use Rattle.words.proofs.put_kept.Goals as goal
 
 pub loop-i-init : goal.loop-i-init
 unfolding rows_words
-loop-i-init c = (omega arith, simp length-set (omega arith), refl, with_none _ 1)
+loop-i-init c = with_none _ 1
 
-pub bounds-words-89 : goal.bounds-words-89
-bounds-words-89 c = omega arith
-
-pub bounds-words-90 : goal.bounds-words-90
-bounds-words-90 c = simp length-set (omega arith)
+pub loop-i-preserved : goal.loop-i-preserved
+loop-i-preserved c =
+    let k = c.loop-i in
+    let eight = rows_eight c.args.rows _ c.well_formed.1.1.0 in
+    rw (c.put_row_from.ensures, k.invariant) (row_more _ c.args.rows k.i _ (omega arith) (simp length-set (omega arith)))
 
 pub returns : goal.returns
 returns c =
     let k = c.loop-i in
     let eight = rows_eight c.args.rows _ c.well_formed.1.1.0 in
-    rw (k.invariant.3, take_all k.i c.args.rows (omega arith), c.joined.ensures)
+    rw (k.invariant, take_all k.i c.args.rows (omega arith), c.joined.ensures)
     (kept_stores c.args.words.now c.args.used c.args.rows c.args.queued c.args.pass eight c.requires)
-
-pub loop-i-preserved : goal.loop-i-preserved
-loop-i-preserved c =
-    let p = c.put_row_from in
-    let eight = rows_eight c.args.rows _ c.well_formed.1.1.0 in (
-      omega arith,
-      omega arith,
-      p.auto.words ∙ c.loop-i.invariant.2,
-      rw (p.ensures, c.loop-i.invariant.3) (row_more _ c.args.rows c.loop-i.i _ (omega arith) (omega arith)),
-    )

@@ -1,11 +1,6 @@
 -- `put_pair` meets its contract: its three stores are one `with_bytes`.
-use native.Mathlib.Omega.{arith}
-use lib.ListN.{length-set}
 use Rattle.words.proofs.Stores.{three_stores}
 use Rattle.words.proofs.put_pair.Goals as goal
-
-pub bounds-words-at-2 : goal.bounds-words-at-2
-bounds-words-at-2 c = simp length-set (omega arith)
 
 pub returns : goal.returns
 returns c =

@@ -1,19 +1,8 @@
 -- `put_row_from` meets its contract: its two stores and its three pairs are one `with_bytes`.
 use mathlib.Core.Path.{refl}
-use native.Mathlib.Omega.{arith}
-use lib.ListN.{length-set}
 use Rattle.words.specs.Words.{row_words}
 use Rattle.words.proofs.Stores.{row_stores}
 use Rattle.words.proofs.put_row_from.Goals as goal
-
-pub bounds-words-at-2 : goal.bounds-words-at-2
-bounds-words-at-2 c = simp length-set (omega arith)
-
-pub put_pair-requires : goal.put_pair-requires
-put_pair-requires c = simp length-set (omega arith)
-
-pub put_pair-requires-2 : goal.put_pair-requires-2
-put_pair-requires-2 c = omega (arith, simp length-set at c.put_pair.auto.words)
 
 pub returns : goal.returns
 unfolding row_words

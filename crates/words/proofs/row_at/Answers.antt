@@ -9,7 +9,7 @@ returns-then-i-used_in c =
     c.row_from.ensures
     ∙ sym (row_place c.args.words.now c.args.i c.requires.1 (omega (arith, c.if-i-used_in.true, c.used_in.ensures.0)))
 
-pub returns : goal.returns
-returns c =
+pub returns-else-i-used_in : goal.returns-else-i-used_in
+returns-else-i-used_in c =
     c.no_row.ensures
     ∙ sym (row_none c.args.words.now c.args.i c.requires.1 (omega (arith, c.if-i-used_in.false, c.used_in.ensures.0)))

@@ -1,4 +1,4 @@
--- `row_from` meets its contract: its six lists are read by `first_at` and `second_at`.
+-- `row_from` meets its contract: its six lists are read by `list_from`.
 use Rattle.words.specs.Words.{row_in}
 use Rattle.words.proofs.row_from.Goals as goal
 

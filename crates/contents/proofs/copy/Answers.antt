@@ -1,0 +1,21 @@
+-- `contents::copy` meets its contract, where the bytes lie above their place, below it, or overlap it.
+use native.Mathlib.Omega.{arith}
+use Rattle.contents.proofs.Moves.{lower_written, upper_written, within_written}
+use Rattle.contents.proofs.copy.Goals as goal
+
+pub returns-then-to-len : goal.returns-then-to-len
+returns-then-to-len c =
+    let a = c.args in
+    let s = c.split_at_mut-low.ensures in
+    rw (c.write.ensures, s.front, s.back) (lower_written a.memory.now a.to a.from a.len (omega arith) (omega arith))
+
+pub returns-then-from-len : goal.returns-then-from-len
+returns-then-from-len c =
+    let a = c.args in
+    let s = c.split_at_mut-low-then-from-len.ensures in
+    rw (c.write-then-from-len.ensures, s.front, s.back) (upper_written a.memory.now a.to a.from a.len (omega arith) (omega arith))
+
+pub returns-else-from-len : goal.returns-else-from-len
+returns-else-from-len c =
+    let a = c.args in
+    rw c.copy_within.ensures.after (within_written a.memory.now a.to a.from a.len (omega arith))

@@ -1,5 +1,0 @@
--- `first_at` meets its contract: the halves of two words.
-use Rattle.words.proofs.first_at.Goals as goal
-
-pub returns : goal.returns
-returns c = cc
