@@ -177,11 +177,13 @@ impl<'a> Region<'a> {
     // "each list walks front to back in its count, both ways, over unheld frames of its region, level and mark". From both ends at once:
     // where the nodes are scattered, each step waits for memory, and the two chains of steps wait side by side. It comes after the scan: as
     // no page then has a mark bit but those named, marks and level are compared as one number.
+    #[inline(never)]
     fn walk(&self, k: usize, links: Links) -> bool
         requires list { k < 6 }
         requires marked { Marked (record_at self.now.records.now) self.now.base self.now.past }
         ensures { result ≡ walks_at (record_at self.now.records.now) self.now.base self.now.past k links.count 0 links.front links.back }
     {
+        let records = self.records;
         let kind = list_kind(k);
         let mut prev: u32 = 0;
         let mut at = links.front;
@@ -195,26 +197,26 @@ impl<'a> Region<'a> {
             let Some(back) = self.page_on(kind, last) else {
                 return false;
             };
-            if record::earlier(self.records, front) != prev
-                || record::later(self.records, back) != next
+            if record::earlier(records, front) != prev
+                || record::later(records, back) != next
             {
                 return false;
             }
             prev = at;
-            at = record::later(self.records, front);
+            at = record::later(records, front);
             next = last;
-            last = record::earlier(self.records, back);
+            last = record::earlier(records, back);
             left -= 2;
         }
         if left == 1 {
             let Some(front) = self.page_on(kind, at) else {
                 return false;
             };
-            if record::earlier(self.records, front) != prev {
+            if record::earlier(records, front) != prev {
                 return false;
             }
             prev = at;
-            at = record::later(self.records, front);
+            at = record::later(records, front);
         }
         at == next && prev == last
     }
