@@ -211,7 +211,7 @@ fn visit(records: &[u8], words: &[u64], seen: Surveyed) -> Surveyed
     if records.len() / 16 < past {
         return torn_rows();
     }
-    let whole = scan::region_whole(
+    let Some(held) = scan::region_whole(
         records,
         start.page_number(board.page) + tables,
         seen.managed,
@@ -219,17 +219,16 @@ fn visit(records: &[u8], words: &[u64], seen: Surveyed) -> Surveyed
         row,
         words,
         seen.used,
-    );
-    if !whole.ok {
+    ) else {
         return torn_rows();
-    }
+    };
     Surveyed {
         ok: true,
         used: seen.used + 1,
         total: seen.total + row.pages,
         managed: past,
-        page: seen.page + whole.page,
-        kernel: seen.kernel + whole.kernel,
+        page: seen.page + held.page,
+        kernel: seen.kernel + held.kernel,
     }
 }
 

@@ -1,14 +1,15 @@
 -- The walk of a list from both ends. What lies between the ends is tested alike whether the next node is taken off the front or off the back, on any
 -- records: rings and numbers of no page too.
-use Rattle.std.proofs.Common.{◌≡◌, ℕ, zero, suc, ◌-◌, ◌<◌, Bool, true, false, ◌&&◌, eqb, List, get_or, sym, refl, ap, ◌∙◌, arith, eq-eqb, ne_eqb, eqb-true}
+use Rattle.std.proofs.Common.{◌≡◌, ℕ, zero, suc, ◌-◌, ◌<◌, Bool, true, false, ◌&&◌, eqb, List, get_or, Some, None, sym, refl, ap, ◌∙◌, arith, eq-eqb, ne_eqb, eqb-true}
 use mathlib.Core.Bool.{and-false, and_comm}
 use native.Mathlib.Decide.{ℕ_discrete}
 use Rattle.definition.specs.declared.Links.{Links}
 use Rattle.definition.specs.World.{no_links}
 use Rattle.definition.specs.Torn.{Records, is_no_links}
 use Rattle.definition.proofs.Tests.{same_test, and_left, and_right, and-true}
-use Rattle.scan.specs.Sheet.{on_at, node_at, back_node_at, walks_at, list_at}
+use Rattle.scan.specs.Sheet.{Marked, kind_on, page_on, on_at, node_at, back_node_at, walks_at, list_at}
 use Rattle.scan.proofs.Members.{and_pairs}
+use Rattle.scan.proofs.Marks.{some_page, no_node, node_page, no_back_node, back_page}
 use Rattle.scan.proofs.Nodes.{node_on}
 
 and_swap : (a b c : Bool) → (a && (b && c)) ≡ (b && (a && c))
@@ -52,25 +53,55 @@ module _ (f : Records) (base past k : ℕ) where
       ap (λ (t : Bool). node_at f base past k prev at && t) (off_back n at (f (at - 1)).later next last)
       ∙ and_swap (node_at f base past k prev at) (back_node_at f base past k last next) _
 
-  -- by how many nodes are left: none, one, or one for each end
+  -- by how many nodes are left: none, or some, or one for each end
   pub between_none : (n prev at next last : ℕ) → n ≡ 0 → between n prev at next last ≡ (eqb at next && eqb prev last)
   unfolding between
   between_none n prev at next last e = rw e
 
-  pub between_one : (n prev at next last : ℕ) → n ≡ 1
-      → between n prev at next last ≡ (node_at f base past k prev at && (eqb (f (at - 1)).later next && eqb at last))
+  front_off : (n prev at next last : ℕ) → 0 < n
+      → between n prev at next last ≡ (node_at f base past k prev at && between (n - 1) at (f (at - 1)).later next last)
   unfolding between
-  between_one n prev at next last e = rw e
+  front_off zero prev at next last l = absurd (omega arith)
+  front_off (suc n) prev at next last l = let e : suc n - 1 ≡ n = omega arith in rw e
 
-  pub between_two : (n prev at next last : ℕ) → 1 < n
-      → between n prev at next last
-      ≡ (node_at f base past k prev at && (back_node_at f base past k last next && between (n - 2) at (f (at - 1)).later last (f (last - 1)).earlier))
-  unfolding between
-  between_two zero prev at next last l = absurd (omega arith)
-  between_two (suc zero) prev at next last l = absurd (omega arith)
-  between_two (suc (suc n)) prev at next last l =
-      let e : suc (suc n) - 2 ≡ n = omega arith in
-      rw e (ap (λ (t : Bool). node_at f base past k prev at && t) (off_back n at (f (at - 1)).later next last))
+  back_off : (n prev at next last : ℕ) → 0 < n
+      → between n prev at next last ≡ (back_node_at f base past k last next && between (n - 1) prev at last (f (last - 1)).earlier)
+  back_off zero prev at next last l = absurd (omega arith)
+  back_off (suc n) prev at next last l = let e : suc n - 1 ≡ n = omega arith in rw e (off_back n prev at next last)
+
+  -- by the page that the number at an end names, where no page of the region has a mark bit but those named
+  module _ (marked : Marked f base past) (kind : ℕ) (e : kind ≡ kind_on k) where
+    pub no_front : (n prev at next last : ℕ) → 0 < n → None ≡ page_on f base past kind at → between n prev at next last ≡ false
+    no_front n prev at next last l h = front_off n prev at next last l ∙ rw (no_node f base past k marked kind e prev at h)
+
+    pub no_back : (n prev at next last : ℕ) → 0 < n → None ≡ page_on f base past kind last → between n prev at next last ≡ false
+    no_back n prev at next last l h = back_off n prev at next last l ∙ rw (no_back_node f base past k marked kind e last next h)
+
+    front_step : (n prev at next last p : ℕ) → 0 < n → Some p ≡ page_on f base past kind at
+        → between n prev at next last ≡ (eqb (f p).earlier prev && between (n - 1) at (f p).later next last)
+    front_step n prev at next last p l h =
+        let q = (some_page f base past kind at p h).1 in
+        front_off n prev at next last l ∙ rw (node_page f base past k marked kind e prev at p h, ← q)
+
+    back_step : (n prev at next last p : ℕ) → 0 < n → Some p ≡ page_on f base past kind last
+        → between n prev at next last ≡ (eqb (f p).later next && between (n - 1) prev at last (f p).earlier)
+    back_step n prev at next last p l h =
+        let q = (some_page f base past kind last p h).1 in
+        back_off n prev at next last l ∙ rw (back_page f base past k marked kind e last next p h, ← q)
+
+    -- the one node that is left
+    pub one_step : (n prev at next last p : ℕ) → n ≡ 1 → Some p ≡ page_on f base past kind at
+        → between n prev at next last ≡ (eqb (f p).earlier prev && (eqb (f p).later next && eqb at last))
+    one_step n prev at next last p l h =
+        front_step n prev at next last p (omega arith) h ∙ rw (between_none (n - 1) at (f p).later next last (omega arith))
+
+    -- a node off each end
+    pub both_step : (n prev at next last p q : ℕ) → 1 < n → Some p ≡ page_on f base past kind at → Some q ≡ page_on f base past kind last
+        → between n prev at next last ≡ (eqb (f p).earlier prev && (eqb (f q).later next && between (n - 2) at (f p).later last (f q).earlier))
+    both_step n prev at next last p q l g h =
+        let two : n - 1 - 1 ≡ n - 2 = omega arith in
+        front_step n prev at next last p (omega arith) g
+        ∙ ap (λ (t : Bool). eqb (f p).earlier prev && t) (back_step (n - 1) at (f p).later next last q (omega arith) h ∙ rw two)
 
 -- the list k of a row's, read out by itself
 module _ (f : Records) (base past : ℕ) (lists : List Links) (k : ℕ) (l : Links) (e : l ≡ get_or lists k no_links) where

@@ -1,13 +1,13 @@
 -- The heads of a region: what the test of one says, how stepping from one leads to the next, and that each page of a tiled region is a head or inside of
 -- one.
-use Rattle.std.proofs.Common.{◌≡◌, ℕ, zero, suc, ◌+◌, ◌-◌, ◌%◌, ◌<◌, ◌≤◌, Bool, true, false, cond, eqb, ltb, leb, ◌⊎◌, List, [], ◌∷◌, sym, refl, ap, ◌∙◌, subst, inl, inr, ⊎_elim, arith, ltb-true, lt-ltb, eq-eqb, eqb-true, le-leb, leb-true}
+use Rattle.std.proofs.Common.{◌≡◌, ℕ, zero, suc, ◌+◌, ◌-◌, ◌%◌, ◌<◌, ◌≤◌, Bool, true, false, cond, ◌&&◌, eqb, ltb, leb, ◌⊎◌, List, [], ◌∷◌, Some, None, sym, refl, ap, ◌∙◌, subst, inl, inr, ⊎_elim, arith, ltb-true, lt-ltb, eq-eqb, eqb-true, le-leb, leb-true}
 use native.Mathlib.Nat.{mod-one}
 use native.Mathlib.Decide.{ℕ_discrete, dec_le, dec_lt}
 use borrow.Author.Tests.{lt-leb}
 use Rattle.definition.specs.declared.Record.{Record}
 use Rattle.definition.specs.Basics.{all, range}
 use Rattle.definition.specs.Frame.{size, levels}
-use Rattle.definition.specs.World.{admitted_bit, named_marks, level_in, is_admitted}
+use Rattle.definition.specs.World.{admitted_bit, admitted_in, named_marks, level_in, is_admitted}
 use Rattle.definition.specs.Torn.{Records, is_blank, pages_of_record, heads_from}
 use Rattle.definition.proofs.Tests.{and_left, and_right, range_in}
 use Rattle.level.proofs.Sizes.{size_positive}
@@ -65,28 +65,41 @@ module _ (f : Records) (from base past h : ℕ) where
 
   -- ---- its pages
 
-  pub pages_none : false ≡ head_at f from base past h → 0 ≡ head_pages f from base past h
+  pub pages_none : false ≡ head_at f from base past h → None ≡ head_pages f from base past h
   unfolding head_pages
   pages_none e = rw (← e)
 
-  pub pages_some : head_at f from base past h ≡ true → size (level_in (f h).level) ≡ head_pages f from base past h
+  pub pages_some : head_at f from base past h ≡ true → Some (size (level_in (f h).level)) ≡ head_pages f from base past h
   unfolding head_pages
   pages_some e = rw e
 
-  pub none_pages : head_pages f from base past h ≡ 0 → head_at f from base past h ≡ false
-  unfolding head_pages
-  none_pages e = go (head_at f from base past h) refl
-    where
-      go : (t : Bool) → head_at f from base past h ≡ t → head_at f from base past h ≡ false
-      go true d = absurd (omega (arith, size_positive (level_in (f h).level), pages_some d))
-      go false d = d
+  -- by what was read: the marks m and the level l of p pages
+  pub head_read : (m l p : ℕ) → m ≡ (f h).marks → l ≡ level_in (f h).level → p ≡ size l
+      → head_pages f from base past h
+      ≡ cond
+      (admitted_in m
+      && (ltb m named_marks
+      && (ltb l levels
+      && (eqb ((from + (h - base)) % p) 0 && (leb (h + p) past && all (λ q. is_blank (f q)) (range (h + 1) (p - 1)))))))
+      (Some p) None
+  unfolding head_pages head_at
+  head_read m l p em el ep = rw (ep, em, el)
 
-  pub some_pages : (head_pages f from base past h ≡ 0 → ⊥) → head_at f from base past h ≡ true
-  some_pages n = go (head_at f from base past h) refl
+  pub none_pages : None ≡ head_pages f from base past h → head_at f from base past h ≡ false
+  unfolding head_pages
+  none_pages e = go (head_at f from base past h) e
     where
-      go : (t : Bool) → head_at f from base past h ≡ t → head_at f from base past h ≡ true
-      go true d = d
-      go false d = absurd (n (sym (pages_none (sym d))))
+      go : (t : Bool) → None ≡ cond t (Some (size (level_in (f h).level))) None → t ≡ false
+      go true d = cc
+      go false d = refl
+
+  pub some_pages : (p : ℕ) → Some p ≡ head_pages f from base past h → (head_at f from base past h ≡ true) × (p ≡ size (level_in (f h).level))
+  unfolding head_pages
+  some_pages p e = go (head_at f from base past h) e
+    where
+      go : (t : Bool) → Some p ≡ cond t (Some (size (level_in (f h).level))) None → (t ≡ true) × (p ≡ size (level_in (f h).level))
+      go true d = (refl, cc)
+      go false d = absurd (cc)
 
 pub pages_small : (r : Record) → level_in r.level < levels → pages_of_record r ≡ size (level_in r.level)
 pages_small r l = rw (lt-ltb (level_in r.level) levels l)

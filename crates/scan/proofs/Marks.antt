@@ -1,6 +1,6 @@
 -- Runs of unheld frames of one page; and that the marks and the level of a record as one number tell the frames on a list from all others where no page of the
 -- region has a mark bit but those named.
-use Rattle.std.proofs.Common.{◌≡◌, ℕ, ◌+◌, ◌-◌, ◌/◌, ◌%◌, ◌<◌, ◌≤◌, true, ◌&&◌, eqb, ltb, sym, ◌∙◌, arith, ltb-true, lt-ltb, eq-eqb, ne_eqb, le-leb, leb-true}
+use Rattle.std.proofs.Common.{◌≡◌, ℕ, ◌+◌, ◌-◌, ◌/◌, ◌%◌, ◌<◌, ◌≤◌, Bool, true, false, cond, eqb, ltb, Some, None, refl, sym, ◌∙◌, arith, ltb-true, lt-ltb, eq-eqb, ne_eqb, le-leb, leb-true}
 use native.Mathlib.Decide.{ℕ_discrete, dec_lt}
 use Rattle.definition.specs.Basics.{bit}
 use Rattle.definition.specs.World.{level_in}
@@ -8,7 +8,7 @@ use Rattle.definition.specs.Torn.{Records}
 use Rattle.definition.proofs.Tests.{same_test, and_left, and_right}
 use Rattle.record.specs.Records.{of_kind, free_page}
 use Rattle.record.proofs.Decoding.{by_kind, to_kind}
-use Rattle.scan.specs.Sheet.{Free, Marked, kind_on, on_kind, on_at, node_at, back_node_at}
+use Rattle.scan.specs.Sheet.{Free, Marked, kind_on, on_kind, page_on, on_at, node_at, back_node_at}
 use Rattle.scan.proofs.Nodes.{on_facts, on_test, node_on}
 
 -- ---- unheld frames of one page
@@ -47,6 +47,33 @@ module _ (f : Records) (base past : ℕ) where
   unfolding on_kind
   kind_in n at l h = rw (lt-ltb base at l, le-leb at past h)
 
+  -- the page that a number names, and where it names none
+  pub page_some : (n at : ℕ) → on_kind f base past n at ≡ true → Some (at - 1) ≡ page_on f base past n at
+  page_some n at e = rw e
+
+  pub page_none : (n at : ℕ) → on_kind f base past n at ≡ false → None ≡ page_on f base past n at
+  page_none n at e = rw e
+
+  none_page : (n at : ℕ) → None ≡ page_on f base past n at → on_kind f base past n at ≡ false
+  none_page n at e = go (on_kind f base past n at) e
+    where
+      go : (t : Bool) → None ≡ cond t (Some (at - 1)) None → t ≡ false
+      go true d = cc
+      go false d = refl
+
+  pub some_page : (n at p : ℕ) → Some p ≡ page_on f base past n at → (on_kind f base past n at ≡ true) × (p ≡ at - 1)
+  some_page n at p e = go (on_kind f base past n at) e
+    where
+      go : (t : Bool) → Some p ≡ cond t (Some (at - 1)) None → (t ≡ true) × (p ≡ at - 1)
+      go true d = (refl, cc)
+      go false d = absurd (cc)
+
+  pub page_within : (n at p : ℕ) → Some p ≡ page_on f base past n at → (base ≤ p) × (p < past)
+  page_within n at p e =
+      let s = some_page n at p e in
+      let d = kind_place n at s.0 in
+      (omega arith, omega arith)
+
   module _ (k : ℕ) (marked : Marked f base past) where
     kind_on_lem : (at : ℕ) → on_kind f base past (kind_on k) at ≡ on_at f base past k at
     kind_on_lem at =
@@ -63,8 +90,20 @@ module _ (f : Records) (base past : ℕ) where
         kind_in (kind_on k) at d.low d.high
         ∙ to_kind (f (at - 1)) s (k / 2) (eqb (k % 2) 1) d.admitted d.unheld l (omega (arith, d.class, odd_bit k)))
 
-    pub kind_node : (n prev at : ℕ) → n ≡ kind_on k → (on_kind f base past n at && eqb (f (at - 1)).earlier prev) ≡ node_at f base past k prev at
-    kind_node n prev at e = rw (e, kind_on_lem at) (sym (node_on f base past k prev at))
+    module _ (n : ℕ) (e : n ≡ kind_on k) where
+      on_same : (at : ℕ) → on_at f base past k at ≡ on_kind f base past n at
+      on_same at = rw e (sym (kind_on_lem at))
 
-    pub kind_back : (n at next : ℕ) → n ≡ kind_on k → (on_kind f base past n at && eqb (f (at - 1)).later next) ≡ back_node_at f base past k at next
-    kind_back n at next e = rw (e, kind_on_lem at)
+      -- a node at the front, by the page that its number names
+      pub no_node : (prev at : ℕ) → None ≡ page_on f base past n at → node_at f base past k prev at ≡ false
+      no_node prev at h = node_on f base past k prev at ∙ rw (on_same at, none_page n at h)
+
+      pub node_page : (prev at p : ℕ) → Some p ≡ page_on f base past n at → node_at f base past k prev at ≡ eqb (f p).earlier prev
+      node_page prev at p h = let s = some_page n at p h in node_on f base past k prev at ∙ rw (on_same at, s.0, s.1)
+
+      -- and one at the back
+      pub no_back_node : (at next : ℕ) → None ≡ page_on f base past n at → back_node_at f base past k at next ≡ false
+      no_back_node at next h = rw (on_same at, none_page n at h)
+
+      pub back_page : (at next p : ℕ) → Some p ≡ page_on f base past n at → back_node_at f base past k at next ≡ eqb (f p).later next
+      back_page at next p h = let s = some_page n at p h in rw (on_same at, s.0, s.1)

@@ -1,5 +1,5 @@
 -- What the tests of a region say of its sheet, by its numbers; that sheet as a placed row's, and a placed row's in the sheet of the world.
-use Rattle.std.proofs.Common.{◌≡◌, ℕ, zero, suc, ◌-◌, ◌≤◌, Bool, true, false, ◌&&◌, List, get_or, sym, refl, ap, ◌∙◌, subst, arith}
+use Rattle.std.proofs.Common.{◌≡◌, ℕ, zero, suc, ◌+◌, ◌-◌, ◌*◌, ◌<◌, ◌≤◌, Bool, true, false, ◌&&◌, List, get_or, Option, Some, None, sym, refl, ap, ◌∙◌, arith, lit<}
 use mathlib.Core.Bool.{false≢true}
 use mathlib.Core.Path.{fun_ext}
 use Rattle.definition.specs.declared.Links.{Links}
@@ -9,9 +9,8 @@ use Rattle.definition.specs.Basics.{all, sum, range}
 use Rattle.definition.specs.Allocator.{first}
 use Rattle.definition.specs.World.{no_links, bare_region}
 use Rattle.definition.specs.Torn.{Placed, Records, past as past_of, is_node, walks, links_at, listed_pages, tiled, held_alone, lists_walk, unheld_listed, held_pages}
-use Rattle.definition.proofs.Tests.{same_test, and_left, and_right, and-true}
-use Rattle.scan.specs.declared.Scanned.{Scanned}
-use Rattle.scan.specs.declared.Whole.{Whole}
+use Rattle.definition.proofs.Tests.{and_left, and_right, and-true, range_in}
+use Rattle.scan.specs.declared.HeldPages.{HeldPages}
 use Rattle.scan.specs.Sheet.{
   tiled_row,
   alone_row,
@@ -26,10 +25,12 @@ use Rattle.scan.specs.Sheet.{
   node_at,
   walks_at,
   list_at,
+  level_at,
   listed_at,
   placed_at,
   whole_at,
-  Tallied,
+  Tally,
+  WholeAt,
   AuditedAt,
   Audited,
 }
@@ -81,80 +82,75 @@ module _ (f : Records) (row : Row) (from base past : ℕ) where
   abbrev pages : ℕ
   pages = listed_pages (placed_at base row)
 
-  torn_as : false ≡ whole_at f lists from base past → AuditedAt f row from base past (record { ok = false; page = 0; kernel = 0 })
-  torn_as e =
-      record {
-        exact = e;
-        page = λ z. absurd (false≢true z);
-        kernel = λ z. absurd (false≢true z);
-        pages = λ z. absurd (false≢true z);
-      }
+  -- the six lists walk just where both of each level do
+  pub levels_walk : ((level : ℕ) → level < 3 → level_at f base past lists level ≡ true) → walk ≡ true
+  unfolding all range
+  levels_walk h =
+      let a = h 0 (lit< tt) in
+      let b = h 1 (lit< tt) in
+      let c = h 2 (lit< tt) in
+      and-true (and_left _ _ a) (and-true (and_right (list_at f base past lists 0) _ a)
+      (and-true (and_left _ _ b) (and-true (and_right (list_at f base past lists 2) _ b)
+      (and-true (and_left _ _ c) (and-true (and_right (list_at f base past lists 4) _ c) refl)))))
 
-  module _ (r : Scanned) (t : Tallied f from base past r) where
-    heads_torn : r.ok ≡ false → false ≡ whole_at f lists from base past
+  walk_levels : walk ≡ true → (level : ℕ) → level < 3 → level_at f base past lists level ≡ true
+  walk_levels w level l =
+      let in-six = range_in (list_at f base past lists) 0 6 w in
+      and-true (in-six (2 * level) (omega arith) (omega arith)) (in-six (2 * level + 1) (omega arith) (omega arith))
+
+  pub torn_heads : (tiled_at f from base past && alone_at f base past) ≡ false → whole_at f lists from base past ≡ false
+  unfolding whole_at
+  torn_heads = go (tiled_at f from base past) (alone_at f base past)
+    where
+      go : (a b : Bool) → (a && b) ≡ false → (a && (b && (walk && listed_at f lists base past))) ≡ false
+      go true true d = absurd (false≢true (sym d))
+      go true false d = refl
+      go false b d = refl
+
+  module _ (held : HeldPages) (t : Tally f from base past held) (within : base ≤ past) where
+    is_tiled : tiled_at f from base past ≡ true
+    is_tiled = and_left _ _ t.whole
+
+    -- the lists decide what is left of the sheet
+    lists_decide : (walk && listed_at f lists base past) ≡ whole_at f lists from base past
     unfolding whole_at
-    heads_torn e = go (tiled_at f from base past) (alone_at f base past) (sym e ∙ t.exact)
-      where
-        go : (a b : Bool) → false ≡ (a && b) → false ≡ (a && (b && (walk && listed_at f lists base past)))
-        go true true d = absurd (false≢true d)
-        go true false d = refl
-        go false b d = refl
+    lists_decide = rw (is_tiled, and_right (tiled_at f from base past) _ t.whole)
 
-    pub torn_heads : r.ok ≡ false → AuditedAt f row from base past (record { ok = false; page = 0; kernel = 0 })
-    torn_heads e = torn_as (heads_torn e)
+    -- the pages that belong on lists are those that nobody holds
+    unheld_pages : pages_of_six (λ k. unheld_at k f base past) ≡ past - base - held.page - held.kernel
+    unheld_pages = omega (arith, region_pages f from base past is_tiled within, t.page, t.kernel)
 
-    module _ (within : base ≤ past) (ok : r.ok ≡ true) where
-      both : (tiled_at f from base past && alone_at f base past) ≡ true
-      both = sym t.exact ∙ ok
+    module _ (w : walk ≡ true) where
+      full_listed : pages ≡ past - base - held.page - held.kernel → listed_at f lists base past ≡ true
+      full_listed e =
+          counts_listed f from base past is_tiled lists w
+          (six_same (λ k. (get_or lists k no_links).count) (λ k. unheld_at k f base past)
+          (at_most f from base past is_tiled lists w)
+          (sym (listed_six (placed_at base row)) ∙ e ∙ sym unheld_pages))
 
-      is_tiled : tiled_at f from base past ≡ true
-      is_tiled = and_left _ _ both
+      listed_full : listed_at f lists base past ≡ true → pages ≡ past - base - held.page - held.kernel
+      listed_full l =
+          listed_six (placed_at base row)
+          ∙ same_six (λ k. (get_or lists k no_links).count) (λ k. unheld_at k f base past) (listed_counts f from base past is_tiled lists w l)
+          ∙ unheld_pages
 
-      -- the lists decide what is left of the sheet
-      lists_decide : (walk && listed_at f lists base past) ≡ whole_at f lists from base past
-      unfolding whole_at
-      lists_decide =
-          let b : alone_at f base past ≡ true = and_right (tiled_at f from base past) _ both in
-          sym
-          (ap (λ (c : Bool). c && (alone_at f base past && (walk && listed_at f lists base past))) is_tiled
-          ∙ ap (λ (c : Bool). c && (walk && listed_at f lists base past)) b)
+    pub torn_pages : (pages ≡ past - base - held.page - held.kernel → ⊥) → whole_at f lists from base past ≡ false
+    torn_pages n =
+        sym (refuse (λ e.
+        let d = lists_decide ∙ e in
+        n (listed_full (and_left _ _ d) (and_right walk _ d))))
 
-      -- the pages that belong on lists are those that nobody holds
-      unheld_pages : pages_of_six (λ k. unheld_at k f base past) ≡ past - base - r.page - r.kernel
-      unheld_pages = omega (arith, region_pages f from base past is_tiled within, t.page ok, t.kernel ok)
+    pub torn_levels : (((level : ℕ) → level < 3 → level_at f base past lists level ≡ true) → ⊥) → whole_at f lists from base past ≡ false
+    torn_levels n = sym (refuse (λ e. n (walk_levels (and_left _ _ (lists_decide ∙ e)))))
 
-      module _ (w : walk ≡ true) where
-        full_listed : pages ≡ past - base - r.page - r.kernel → listed_at f lists base past ≡ true
-        full_listed e =
-            counts_listed f from base past is_tiled lists w
-            (six_same (λ k. (get_or lists k no_links).count) (λ k. unheld_at k f base past)
-            (at_most f from base past is_tiled lists w)
-            (sym (listed_six (placed_at base row)) ∙ e ∙ sym unheld_pages))
-
-        listed_full : listed_at f lists base past ≡ true → pages ≡ past - base - r.page - r.kernel
-        listed_full l =
-            listed_six (placed_at base row)
-            ∙ same_six (λ k. (get_or lists k no_links).count) (λ k. unheld_at k f base past) (listed_counts f from base past is_tiled lists w l)
-            ∙ unheld_pages
-
-      pub torn_pages : (pages ≡ past - base - r.page - r.kernel → ⊥) → AuditedAt f row from base past (record { ok = false; page = 0; kernel = 0 })
-      torn_pages n =
-          torn_as (refuse (λ e.
-          let d = lists_decide ∙ e in
-          n (listed_full (and_left _ _ d) (and_right walk _ d))))
-
-      pub by_lists : pages ≡ past - base - r.page - r.kernel → (b : Bool) → b ≡ walk
-          → AuditedAt f row from base past (record { ok = b; page = r.page; kernel = r.kernel })
-      by_lists e b q =
-          record {
-            exact =
-                same_test
-                (λ h. sym lists_decide ∙ and-true (sym q ∙ h) (full_listed (sym q ∙ h) e))
-                (λ h. q ∙ and_left _ _ (lists_decide ∙ h));
-            page = λ z. t.page ok;
-            kernel = λ z. t.kernel ok;
-            pages = λ z. omega (arith, t.few ok);
-          }
+    pub by_lists : pages ≡ past - base - held.page - held.kernel → walk ≡ true → WholeAt f row from base past held
+    by_lists e w =
+        record {
+          whole = sym lists_decide ∙ and-true w (full_listed w e);
+          page = t.page;
+          kernel = t.kernel;
+          pages = omega (arith, t.few);
+        }
 
 -- ---- the region of a placed row
 
@@ -196,13 +192,12 @@ module _ (board : Board) where
     whole_at_lem = rw (tiled_at_lem, alone_at_lem, lists_at, listed_at_lem)
 
     -- what is found of a region by its numbers, of the row that it is of
-    pub audited_row : (from past : ℕ) (r : Whole) → from ≡ start → past ≡ end → AuditedAt f x.row from x.base past r → Audited board f x r
-    audited_row from past r d e h =
-        let t : AuditedAt f x.row start x.base end r =
-        subst (λ (p : ℕ). AuditedAt f x.row start x.base p r) e (subst (λ (n : ℕ). AuditedAt f x.row n x.base past r) d h) in
+    pub audited_row : (from past : ℕ) (r : Option HeldPages) → from ≡ start → past ≡ end → AuditedAt f x.row from x.base past r → Audited board f x r
+    audited_row from past None d e t = sym whole_at_lem ∙ rw (← d, ← e) t
+    audited_row from past (Some held) d e t =
         record {
-          exact = t.exact ∙ whole_at_lem;
-          page = λ z. t.page z ∙ held_at_lem false;
-          kernel = λ z. t.kernel z ∙ held_at_lem true;
-          pages = λ z. t.pages z ∙ omega arith;
+          whole = sym whole_at_lem ∙ rw (← d, ← e) t.whole;
+          page = t.page ∙ rw e (held_at_lem false);
+          kernel = t.kernel ∙ rw e (held_at_lem true);
+          pages = t.pages ∙ omega arith;
         }

@@ -1,7 +1,6 @@
 -- The scan's invariant and its turns: what is left from a page on decides as the whole does, and the pages held so far with those of what is left are the
 -- whole's.
 use Rattle.std.proofs.Common.{◌≡◌, ℕ, zero, suc, ◌+◌, ◌-◌, ◌<◌, ◌≤◌, Bool, true, false, ◌&&◌, List, sym, refl, ap, ◌∙◌, arith, ne_eqb}
-use mathlib.Core.Bool.{false≢true}
 use Rattle.definition.specs.Basics.{all, sum}
 use Rattle.definition.specs.Frame.{size}
 use Rattle.definition.specs.World.{allocated_bit}
@@ -9,8 +8,7 @@ use Rattle.definition.specs.Torn.{Records, pages_of_record, heads_from, alone_if
 use Rattle.definition.proofs.Tests.{and-true}
 use Rattle.record.specs.Records.{free_page}
 use Rattle.record.proofs.Decoding.{free_facts}
-use Rattle.scan.specs.declared.Scanned.{Scanned}
-use Rattle.scan.specs.Sheet.{head_at, tiled_at, alone_at, held_at, Free, Tallied}
+use Rattle.scan.specs.Sheet.{head_at, tiled_at, alone_at, held_at, Free, Tally}
 use Rattle.scan.proofs.Members.{all_both}
 use Rattle.scan.proofs.Heads.{head_small, pages_small, heads_end, heads_step}
 use Rattle.scan.proofs.Tallies.{alone_free, held_free}
@@ -84,14 +82,8 @@ module _ (f : Records) (from base past : ℕ) where
   unfolding tiled_at alone_at
   apart = all_both (head_at f from base past) (λ h. alone_if_held (f h)) (left base)
 
-  pub scan_bad : (page kernel at : ℕ) (r : Scanned) → Scanning page kernel at → at < past → good at ≡ false → r.ok ≡ false → Tallied f from base past r
-  scan_bad page kernel at r i l g e =
-      record {
-        exact = e ∙ sym (sym apart ∙ i.tests ∙ tests_step at (pages_of_record (f at)) l refl ∙ rw g);
-        page = λ t. absurd (false≢true (sym e ∙ t));
-        kernel = λ t. absurd (false≢true (sym e ∙ t));
-        few = λ t. absurd (false≢true (sym e ∙ t));
-      }
+  pub scan_bad : (page kernel at : ℕ) → Scanning page kernel at → at < past → good at ≡ false → (tiled_at f from base past && alone_at f base past) ≡ false
+  scan_bad page kernel at i l g = sym apart ∙ i.tests ∙ tests_step at (pages_of_record (f at)) l refl ∙ rw g
 
   module _ (page kernel at : ℕ) (i : Scanning page kernel at) (l : past ≤ at) where
     all_good : all good (left base) ≡ true
@@ -102,12 +94,12 @@ module _ (f : Records) (from base past : ℕ) where
     unfolding sum
     none_left b = ap (sum (λ h. held_as b (f h))) (heads_end f past at l)
 
-    pub scan_done : Tallied f from base past (record { ok = true; page = page; kernel = kernel })
+    pub scan_done : Tally f from base past (record { page = page; kernel = kernel })
     unfolding held_at
     scan_done =
         record {
-          exact = sym (sym apart ∙ all_good);
-          page = λ e. omega (arith, i.pages, none_left false);
-          kernel = λ e. omega (arith, i.kernels, none_left true);
-          few = λ e. omega arith;
+          whole = sym apart ∙ all_good;
+          page = omega (arith, i.pages, none_left false);
+          kernel = omega (arith, i.kernels, none_left true);
+          few = omega arith;
         }

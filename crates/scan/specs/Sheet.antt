@@ -1,6 +1,6 @@
 -- The torn sheet of one region. The code gets the region by numbers: `from` is the page frame number of its first managed page, `base` that page's number in
 -- the records, `past` the number behind its last. Each clause of `Torn` over the rows is `all` over the clause of a placed row, the last part here.
-use Rattle.std.specs.Prelude.{◌≡◌, ℕ, zero, suc, ◌+◌, ◌-◌, ◌/◌, ◌%◌, ◌<◌, ◌≤◌, Bool, true, false, cond, not, ◌&&◌, ◌||◌, List, get_or, ◌==◌, nat_le, nat_lt, slice_index_or}
+use Rattle.std.specs.Prelude.{◌≡◌, ℕ, zero, suc, ◌+◌, ◌-◌, ◌*◌, ◌/◌, ◌%◌, ◌<◌, ◌≤◌, Bool, true, false, cond, not, ◌&&◌, ◌||◌, List, get_or, ◌==◌, nat_le, nat_lt, slice_index_or, Option, Some, None, MatchOption}
 use Rattle.definition.specs.declared.Record.{Record}
 use Rattle.definition.specs.declared.Links.{Links}
 use Rattle.definition.specs.declared.Row.{Row}
@@ -25,8 +25,7 @@ use Rattle.definition.specs.Torn.{
   held_as,
 }
 use Rattle.record.specs.Records.{free_kind, of_kind, free_page}
-use Rattle.scan.specs.declared.Scanned.{Scanned}
-use Rattle.scan.specs.declared.Whole.{Whole}
+use Rattle.scan.specs.declared.HeldPages.{HeldPages}
 
 -- ---- of a placed row
 
@@ -43,9 +42,9 @@ head_at f from base past h =
     && ((from + (h - base)) % size (level_in (f h).level) == 0
     && (nat_le (h + size (level_in (f h).level)) past && all (λ q. is_blank (f q)) (range (h + 1) (size (level_in (f h).level) - 1))))))
 
--- the pages of a head, 0 where there is none
-unfoldable pub head_pages : Records → (from base past h : ℕ) → ℕ
-head_pages f from base past h = cond (head_at f from base past h) (size (level_in (f h).level)) 0
+-- the pages of a head
+unfoldable pub head_pages : Records → (from base past h : ℕ) → Option ℕ
+head_pages f from base past h = cond (head_at f from base past h) (Some (size (level_in (f h).level))) None
 
 -- the neighbours 0 of a held head
 abbrev pub alone : Record → Bool
@@ -80,6 +79,10 @@ kind_on k = free_kind (k / 2) (k % 2 == 1)
 unfoldable pub on_kind : Records → (base past kind at : ℕ) → Bool
 on_kind f base past kind at = nat_lt base at && (nat_le at past && of_kind kind (f (at - 1)))
 
+-- the page that it then names
+abbrev pub page_on : Records → (base past kind at : ℕ) → Option ℕ
+page_on f base past kind at = cond (on_kind f base past kind at) (Some (at - 1)) None
+
 -- the number `at` names an unheld frame of the region and the list k
 unfoldable pub on_at : Records → (base past k at : ℕ) → Bool
 on_at f base past k at =
@@ -105,29 +108,41 @@ abbrev pub list_at : Records → (base past : ℕ) → List Links → ℕ → Bo
 list_at f base past lists k =
     walks_at f base past k (get_or lists k no_links).count 0 (get_or lists k no_links).front (get_or lists k no_links).back
 
+-- both lists of a level
+abbrev pub level_at : Records → (base past : ℕ) → List Links → ℕ → Bool
+level_at f base past lists level = list_at f base past lists (2 * level) && list_at f base past lists (2 * level + 1)
+
 unfoldable pub listed_at : Records → List Links → (base past : ℕ) → Bool
 listed_at f lists base past = all (λ h. is_held_record (f h) || member h (pages_of f (slice_index_or lists (class_of (f h)) no_links))) (heads_of f base past)
 
 -- ---- what the functions answer
 
--- whether the heads are as the sheet says, and if so the pages held without and with KERNEL
-pub record Tallied (f : Records) (from base past : ℕ) (r : Scanned) : Type 0 where
-  pub exact : r.ok ≡ (tiled_at f from base past && alone_at f base past)
-  pub page : r.ok ≡ true → r.page ≡ held_at false f base past
-  pub kernel : r.ok ≡ true → r.kernel ≡ held_at true f base past
-  pub few : r.ok ≡ true → r.page + r.kernel ≤ past - base
+-- the heads are as the sheet says, and these are the pages held without and with KERNEL
+pub record Tally (f : Records) (from base past : ℕ) (held : HeldPages) : Type 0 where
+  pub whole : (tiled_at f from base past && alone_at f base past) ≡ true
+  pub page : held.page ≡ held_at false f base past
+  pub kernel : held.kernel ≡ held_at true f base past
+  pub few : held.page + held.kernel ≤ past - base
+
+-- whether they are, and if so the pages held
+abbrev pub Tallied : Records → (from base past : ℕ) → Option HeldPages → Type 0
+Tallied f from base past r = MatchOption r ((tiled_at f from base past && alone_at f base past) ≡ false) (Tally f from base past)
 
 -- the four clauses of the sheet that speak of a region's records
 unfoldable pub whole_at : Records → List Links → (from base past : ℕ) → Bool
 whole_at f lists from base past =
     tiled_at f from base past && (alone_at f base past && (all (list_at f base past lists) (range 0 6) && listed_at f lists base past))
 
--- whether a region is whole, and if so the pages held without and with KERNEL, which with those on its lists are all that it manages
-pub record AuditedAt (f : Records) (row : Row) (from base past : ℕ) (r : Whole) : Type 0 where
-  pub exact : r.ok ≡ whole_at f row.lists from base past
-  pub page : r.ok ≡ true → r.page ≡ held_at false f base past
-  pub kernel : r.ok ≡ true → r.kernel ≡ held_at true f base past
-  pub pages : r.ok ≡ true → listed_pages (placed_at base row) + r.page + r.kernel ≡ past - base
+-- a region is whole, and these are the pages held without and with KERNEL, which with those on its lists are all that it manages
+pub record WholeAt (f : Records) (row : Row) (from base past : ℕ) (held : HeldPages) : Type 0 where
+  pub whole : whole_at f row.lists from base past ≡ true
+  pub page : held.page ≡ held_at false f base past
+  pub kernel : held.kernel ≡ held_at true f base past
+  pub pages : listed_pages (placed_at base row) + held.page + held.kernel ≡ past - base
+
+-- whether it is, and if so the pages held
+abbrev pub AuditedAt : Records → Row → (from base past : ℕ) → Option HeldPages → Type 0
+AuditedAt f row from base past r = MatchOption r (whole_at f row.lists from base past ≡ false) (WholeAt f row from base past)
 
 -- ---- the same of a placed row
 
@@ -150,8 +165,11 @@ module _ (board : Board) where
   abbrev pub whole_row : Records → Placed → Bool
   whole_row f x = tiled_row f x && (alone_row f x && (walks_row f x && listed_row f x))
 
-  pub record Audited (f : Records) (x : Placed) (r : Whole) : Type 0 where
-    pub exact : r.ok ≡ whole_row f x
-    pub page : r.ok ≡ true → r.page ≡ held_row false f x
-    pub kernel : r.ok ≡ true → r.kernel ≡ held_row true f x
-    pub pages : r.ok ≡ true → listed_pages x + r.page + r.kernel ≡ managed board (bare_region board x.row)
+  pub record WholeRow (f : Records) (x : Placed) (held : HeldPages) : Type 0 where
+    pub whole : whole_row f x ≡ true
+    pub page : held.page ≡ held_row false f x
+    pub kernel : held.kernel ≡ held_row true f x
+    pub pages : listed_pages x + held.page + held.kernel ≡ managed board (bare_region board x.row)
+
+  abbrev pub Audited : Records → Placed → Option HeldPages → Type 0
+  Audited f x r = MatchOption r (whole_row f x ≡ false) (WholeRow f x)

@@ -12,7 +12,9 @@ use Rattle.definition.proofs.Boards.{page_least}
 use Rattle.definition.specs.World.{record_at}
 use Rattle.definition.specs.Torn.{row_as_boot}
 use Rattle.definition.proofs.Tests.{and-true}
-use Rattle.scan.specs.Sheet.{placed_at, Audited}
+use Rattle.std.proofs.Common.{Option, Some, None}
+use Rattle.scan.specs.declared.HeldPages.{HeldPages}
+use Rattle.scan.specs.Sheet.{placed_at, AuditedAt, WholeRow, Audited}
 use Rattle.scan.proofs.Rows.{audited_row}
 use Rattle.words.specs.Words.{board_in, rows_in}
 use Rattle.audit.specs.declared.Surveyed.{Surveyed}
@@ -22,7 +24,7 @@ use Rattle.audit.proofs.Booted.{Booted, booted, few_pages}
 use Rattle.audit.proofs.Counting.{managed_row}
 use Rattle.audit.proofs.Surveying.{visited_torn}
 use Rattle.audit.proofs.visit.Goals as goal
-use Rattle.audit.proofs.visit.Goals.{After-region_whole-whole, After-row_at-row, After-table_pages-tables, Else-not-row_as_boot, Else-not-whole, Else-records-past}
+use Rattle.audit.proofs.visit.Goals.{After-region_whole, After-row_at-row, After-table_pages-tables, Else-not-row_as_boot, Else-records-past, In-Some}
 
 -- the board that was read
 abbrev board : After-row_at-row → Board
@@ -104,10 +106,10 @@ overflow_add-page_number c =
     let b = numbers (goal.at.overflow_add-page_number c).Else-not-row_as_boot in
     omega (arith, few_pages (fit (goal.at.overflow_add-page_number c).After-row_at-row) b, b.tables, c.page_number.ensures, c.table_pages-tables.ensures)
 
-pub region_whole-whole-requires : goal.region_whole-whole-requires
-region_whole-whole-requires c =
-    let b = numbers (goal.at.region_whole-whole-requires c).Else-not-row_as_boot in
-    let few = few_pages (fit (goal.at.region_whole-whole-requires c).After-row_at-row) b in record {
+pub region_whole-requires : goal.region_whole-requires
+region_whole-requires c =
+    let b = numbers (goal.at.region_whole-requires c).Else-not-row_as_boot in
+    let few = few_pages (fit (goal.at.region_whole-requires c).After-row_at-row) b in record {
       in_use = ((c.requires.1, c.requires.2, c.requires.3), c.row_at-row.ensures);
       base_le_past = (
         omega arith,
@@ -116,38 +118,43 @@ region_whole-whole-requires c =
       );
     }
 
--- the region, whose first managed page is behind those that were seen
-region : (c : After-region_whole-whole) →
+-- what is found of the region by its numbers is found of the row: its first managed page is behind those that were seen
+region : (c : After-region_whole) →
     let a = c.args in
-    Audited (board (goal.at.After-region_whole-whole c).After-row_at-row) (record_at a.records.now) (placed_at a.seen.managed c.row_at-row.result) c.region_whole-whole.result
-region c =
+    let f = record_at a.records.now in
+    let row = c.row_at-row.result in
+    (r : Option HeldPages)
+    → AuditedAt f row (c.page_number.result + c.table_pages-tables.result) a.seen.managed (a.seen.managed + (row.pages - c.table_pages-tables.result)) r
+    → Audited (board (goal.at.After-region_whole c).After-row_at-row) f (placed_at a.seen.managed row) r
+region c r h =
     let a = c.args in
-    audited_row (board (goal.at.After-region_whole-whole c).After-row_at-row) (record_at a.records.now) (placed_at a.seen.managed c.row_at-row.result) (c.page_number.result + c.table_pages-tables.result)
-    (a.seen.managed + (c.row_at-row.result.pages - c.table_pages-tables.result)) c.region_whole-whole.result
-    (rw (c.page_number.ensures, c.table_pages-tables.ensures)) (ends (goal.at.After-region_whole-whole c).After-table_pages-tables) c.region_whole-whole.ensures
+    audited_row (board (goal.at.After-region_whole c).After-row_at-row) (record_at a.records.now) (placed_at a.seen.managed c.row_at-row.result)
+    (c.page_number.result + c.table_pages-tables.result) (a.seen.managed + (c.row_at-row.result.pages - c.table_pages-tables.result)) r
+    (rw (c.page_number.ensures, c.table_pages-tables.ensures)) (ends (goal.at.After-region_whole c).After-table_pages-tables) h
 
-pub returns-then-not-whole : goal.returns-then-not-whole
-returns-then-not-whole c =
-    of_row (goal.at.returns-then-not-whole c).After-row_at-row _
-    (visited_torn c.torn_rows-then-not-whole.ensures
-    (and_on _ (is_booted (goal.at.returns-then-not-whole c).Else-not-row_as_boot)
-    ∙ and_on _ (room (goal.at.returns-then-not-whole c).Else-records-past)
-    ∙ sym (region (goal.at.returns-then-not-whole c).After-region_whole-whole).exact
-    ∙ not-true _ c.if-not-whole.true))
+pub returns-in_default : goal.returns-in_default
+returns-in_default c =
+    of_row (goal.at.returns-in_default c).After-row_at-row _
+    (visited_torn c.torn_rows-in_default.ensures
+    (and_on _ (is_booted (goal.at.returns-in_default c).Else-not-row_as_boot)
+    ∙ and_on _ (room (goal.at.returns-in_default c).Else-records-past)
+    ∙ region (goal.at.returns-in_default c).After-region_whole None c.in_default.ensures))
 
 -- the region is whole, and its pages are those held and those listed
-whole : (c : Else-not-whole) → c.region_whole-whole.result.ok ≡ true
-whole c = not-false _ c.if-not-whole.false
+whole : (c : In-Some) →
+    let a = c.args in
+    WholeRow (board (goal.at.In-Some c).After-row_at-row) (record_at a.records.now) (placed_at a.seen.managed c.row_at-row.result) c.in-Some.held
+whole c = region (goal.at.In-Some c).After-region_whole (Some c.in-Some.held) c.in-Some.ensures
 
 -- the sums stay small
-small : (c : Else-not-whole) →
+small : (c : In-Some) →
     let a = c.args in
     (a.seen.total + c.row_at-row.result.pages < 4294967296)
-    × (a.seen.page + c.region_whole-whole.result.page < 4294967296)
-    × (a.seen.kernel + c.region_whole-whole.result.kernel < 4294967296)
+    × (a.seen.page + c.in-Some.held.page < 4294967296)
+    × (a.seen.kernel + c.in-Some.held.kernel < 4294967296)
 small c =
-    let pages = few_pages (fit (goal.at.Else-not-whole c).After-row_at-row) (numbers (goal.at.Else-not-whole c).Else-not-row_as_boot) in
-    let p = (region (goal.at.Else-not-whole c).After-region_whole-whole).pages (whole c) in
+    let pages = few_pages (fit (goal.at.In-Some c).After-row_at-row) (numbers (goal.at.In-Some c).Else-not-row_as_boot) in
+    let p = (whole c).pages in
     let few = c.requires.0 in (
       omega (arith, few.totals, c.requires.2, pages),
       omega (arith, p, few.holds, few.manages, few.totals, c.requires.2),
@@ -159,27 +166,25 @@ overflow_add-result c =
     omega (arith, c.requires.2)
 
 pub overflow_add-result-2 : goal.overflow_add-result-2
-overflow_add-result-2 c = let h = small (goal.at.overflow_add-result-2 c).Else-not-whole in omega arith
+overflow_add-result-2 c = let h = small (goal.at.overflow_add-result-2 c).In-Some in omega arith
 
 pub overflow_add-result-3 : goal.overflow_add-result-3
-overflow_add-result-3 c = let h = small (goal.at.overflow_add-result-3 c).Else-not-whole in omega arith
+overflow_add-result-3 c = let h = small (goal.at.overflow_add-result-3 c).In-Some in omega arith
 
 pub overflow_add-result-4 : goal.overflow_add-result-4
-overflow_add-result-4 c = let h = small (goal.at.overflow_add-result-4 c).Else-not-whole in omega arith
+overflow_add-result-4 c = let h = small (goal.at.overflow_add-result-4 c).In-Some in omega arith
 
 pub returns : goal.returns
 returns c =
-    let a = region (goal.at.returns c).After-region_whole-whole in
-    let p = a.page (whole (goal.at.returns c).Else-not-whole) in
-    let k = a.kernel (whole (goal.at.returns c).Else-not-whole) in
+    let w = whole (goal.at.returns c).In-Some in
     of_row (goal.at.returns c).After-row_at-row _ record {
-      exact = sym (and-true (is_booted (goal.at.returns c).Else-not-row_as_boot) (and-true (room (goal.at.returns c).Else-records-past) (sym a.exact ∙ whole (goal.at.returns c).Else-not-whole)));
+      exact = sym (and-true (is_booted (goal.at.returns c).Else-not-row_as_boot) (and-true (room (goal.at.returns c).Else-records-past) w.whole));
       added = λ t. record {
         used = refl;
         total = refl;
         manages = ends (goal.at.returns c).After-table_pages-tables;
-        page = omega (arith, p);
-        kernel = omega (arith, k);
-        pages = omega (arith, p, k, a.pages (whole (goal.at.returns c).Else-not-whole));
+        page = omega (arith, w.page);
+        kernel = omega (arith, w.kernel);
+        pages = omega (arith, w.page, w.kernel, w.pages);
       };
     }

@@ -1,44 +1,45 @@
 -- `region_whole` meets its contract: by `Rows`, as the scan, the pages on the lists, and then their walks answer.
-use Rattle.std.proofs.Common.{sym, ◌∙◌, arith, rules}
+use Rattle.std.proofs.Common.{sym, ◌∙◌}
+use mathlib.Core.Bool.{false≢true}
 use Rattle.definition.specs.World.{record_at}
 use Rattle.definition.proofs.Tests.{and_left}
 use Rattle.scan.proofs.Heads.{tiled_marked}
-use Rattle.scan.proofs.Rows.{torn_heads, torn_pages, by_lists}
+use Rattle.scan.proofs.Rows.{levels_walk, torn_heads, torn_pages, torn_levels, by_lists}
 use Rattle.scan.proofs.region_whole.Goals as goal
+use Rattle.scan.proofs.region_whole.Goals.{
+  else-listed_pages-past-via-then-listed_pages-past+else-all_walk,
+  else-listed_pages-past-via-else-listed_pages-past,
+}
 
-pub overflow_sub-past-then-ok : goal.overflow_sub-past-then-ok
-overflow_sub-past-then-ok c = let t = c.scan-scanned.ensures.few c.if-ok.true in omega arith
+pub returns-in_err-held : goal.returns-in_err-held
+returns-in_err-held c =
+    let a = c.args in
+    rw c.from_residual.ensures (torn_heads (record_at a.records.now) a.row a.from a.base a.past c.in_err-held.ensures)
 
-pub overflow_sub-past-then-ok-2 : goal.overflow_sub-past-then-ok-2
-overflow_sub-past-then-ok-2 c = let t = c.scan-scanned.ensures.few c.if-ok.true in omega arith
+pub all_walk-requires-clause-marked : goal.all_walk-requires-clause-marked
+all_walk-requires-clause-marked c =
+    let a = c.args in
+    tiled_marked (record_at a.records.now) a.from a.base a.past (and_left _ _ c.in_ok-held.ensures.whole)
 
-pub all_walk-requires : goal.all_walk-requires
-all_walk-requires c =
+pub returns-then-all_walk : goal.returns-then-all_walk
+returns-then-all_walk c =
     let a = c.args in
     let f = record_at a.records.now in
-    let t = sym c.scan-scanned.ensures.exact ∙ c.if-ok.true in record {
-      base_le_past = omega arith;
-      marked = tiled_marked f a.from a.base a.past (and_left _ _ t);
-      in_use = search rules;
-    }
-
-pub returns-then-listed_pages-past : goal.returns-then-listed_pages-past
-returns-then-listed_pages-past c =
-    let a = c.args in
     let p = c.requires in
-    by_lists (record_at a.records.now) a.row a.from a.base a.past c.scan-scanned.result c.scan-scanned.ensures p.base_le_past.0
-    c.if-ok.true
-    (sym c.listed_pages.ensures ∙ c.if-listed_pages-past.true) c.all_walk.result
-    (rw (← p.in_use.1) at c.all_walk.ensures)
+    by_lists f a.row a.from a.base a.past c.in_ok-held.held c.in_ok-held.ensures p.base_le_past.0
+    (sym c.listed_pages.ensures ∙ c.if-listed_pages-past.true)
+    (levels_walk f a.row a.from a.base a.past (rw p.in_use.1 (c.all_walk.ensures.0 c.if-all_walk.true)))
 
 pub returns-else-listed_pages-past : goal.returns-else-listed_pages-past
 returns-else-listed_pages-past c =
     let a = c.args in
-    torn_pages (record_at a.records.now) a.row a.from a.base a.past c.scan-scanned.result c.scan-scanned.ensures
-    c.requires.base_le_past.0 c.if-ok.true
-    (λ e. c.if-listed_pages-past.false (c.listed_pages.ensures ∙ e))
-
-pub returns-else-ok : goal.returns-else-ok
-returns-else-ok c =
-    let a = c.args in
-    torn_heads (record_at a.records.now) a.row a.from a.base a.past c.scan-scanned.result c.scan-scanned.ensures c.if-ok.false
+    let f = record_at a.records.now in
+    let p = c.requires in
+    elim c.else-listed_pages-past.branch [
+      | else-listed_pages-past-via-then-listed_pages-past+else-all_walk w ↦
+          torn_levels f a.row a.from a.base a.past c.in_ok-held.held c.in_ok-held.ensures p.base_le_past.0
+          (λ h. false≢true (sym w.if-all_walk.false ∙ w.all_walk.ensures.1 (rw (← p.in_use.1) h)))
+      | else-listed_pages-past-via-else-listed_pages-past w ↦
+          torn_pages f a.row a.from a.base a.past c.in_ok-held.held c.in_ok-held.ensures p.base_le_past.0
+          (λ e. w.if-listed_pages-past.false (c.listed_pages.ensures ∙ e))
+    ]

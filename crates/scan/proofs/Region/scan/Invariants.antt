@@ -2,10 +2,10 @@
 use Rattle.std.proofs.Common.{◌-◌}
 use Rattle.definition.specs.World.{record_at}
 use Rattle.scan.proofs.Scanning.{Scanning}
-use Rattle.scan.proofs.scan.Given as goal
+use Rattle.scan.proofs.Region.scan.Given as goal
 
 abbrev pub invariant-loop-at : goal.invariant-loop-at
-invariant-loop-at l = Scanning (record_at l.records) l.from l.base l.past l.page l.kernel l.at
+invariant-loop-at l = Scanning (record_at l.self.records.now) l.self.from l.self.base l.self.past l.page l.kernel l.at
 
 abbrev pub decreases-loop-at : goal.decreases-loop-at
-decreases-loop-at l = l.past - l.at
+decreases-loop-at l = l.self.past - l.at
