@@ -1,5 +1,5 @@
--- Laws of numbers: one is read byte by byte, and `gather` reads all of a line. What it leaves is definition's `read_numbers`, the list filled up to five
--- (`gather_kept`).
+-- Laws of numbers: one is read byte by byte, and `gather` reads all of a line. What it leaves is definition's `read_numbers`, the list
+-- filled up to five (`gather_kept`).
 use Prim.Native.Nat.{ℕ, ◌+◌, ◌-◌, ◌*◌, ◌^◌, ◌≤◌, ◌<◌}
 use mathlib.Core.Bool.{Bool, true, false, cond, ◌&&◌}
 use mathlib.Core.List.{List, [], ◌∷◌, ◌++◌, append_assoc, append-nil}
@@ -53,12 +53,13 @@ pub gather_end : (r : Numbers) → gather r [] ≡ Some r
 unfolding gather
 gather_end r = refl
 
-pub gather_more : (r : Numbers) (f : List ℕ) (fs : List (List ℕ)) (x : ℕ) (next : Numbers) → maybe.some x ≡ read_number f → Some next ≡ pushed r x
-    → gather r (f ∷ fs) ≡ gather next fs
+pub gather_more : (r : Numbers) (f : List ℕ) (fs : List (List ℕ)) (x : ℕ) (next : Numbers) → maybe.some x ≡ read_number f
+    → Some next ≡ pushed r x → gather r (f ∷ fs) ≡ gather next fs
 unfolding gather
 gather_more r f fs x next e p = rw (← e, ← p) refl
 
-pub gather_full : (r : Numbers) (f : List ℕ) (fs : List (List ℕ)) (x : ℕ) → maybe.some x ≡ read_number f → None ≡ pushed r x → gather r (f ∷ fs) ≡ None
+pub gather_full : (r : Numbers) (f : List ℕ) (fs : List (List ℕ)) (x : ℕ) → maybe.some x ≡ read_number f → None ≡ pushed r x
+    → gather r (f ∷ fs) ≡ None
 unfolding gather
 gather_full r f fs x e p = rw (← e, ← p) refl
 

@@ -68,7 +68,8 @@ module _ (line : List ℕ) (short : length line ≤ 512) (o : Option Named) (n :
   pub reads_more : (comma : ℕ) → Some comma ≡ position (is_sep 44) line → o ≡ pick (take comma line) all_ops
       → n ≡ gather no_numbers (fields (from (comma + 1) line)) → Reads line (unwrap_or r bad_line)
   reads_more comma h q g =
-      reads_as (take comma line) (fields (drop (comma + 1) line)) (first_part 44 line ([] ∷ []) comma h).1 q (rw (from_drop line (comma + 1)) at g)
+      let f = first_part 44 line ([] ∷ []) comma h in
+      reads_as (take comma line) (fields (drop (comma + 1) line)) f.1 q (rw (from_drop line (comma + 1)) at g)
 
   -- a name alone
   pub reads_last : None ≡ position (is_sep 44) line → o ≡ pick line all_ops → n ≡ Some no_numbers → Reads line (unwrap_or r bad_line)

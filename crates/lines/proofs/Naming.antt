@@ -1,5 +1,5 @@
--- `all_ops` is definition's table `ops`: an op that is picked by its name takes as many numbers, bounds the last alike and asks the same. So what a line is read
--- as asks what definition's `asks` does (`asked`).
+-- The code's table is `all_ops`, and that is definition's table `ops`: an op that is picked by its name takes as many numbers, bounds the
+-- last alike and asks the same. So what a line is read as asks what definition's `asks` does (`asked`).
 use Prim.Native.Nat.{ℕ, ◌+◌, ◌-◌, ◌%◌, ◌≤◌, ◌<◌}
 use mathlib.Core.Bool.{Bool, true, false, cond, ◌&&◌}
 use mathlib.Core.List.{List, [], ◌∷◌}
@@ -50,14 +50,16 @@ data Means : maybe.Option Script.Op → Option Named → Type 0 where
 
 data Alike : List Script.Op → List Named → Type 0 where
   end : Alike [] []
-  more : {p : Script.Op} {o : Named} {ps : List Script.Op} {os : List Named} → form_of p ≡ form_in o → Makes p o → Alike ps os → Alike (p ∷ ps) (o ∷ os)
+  more : {p : Script.Op} {o : Named} {ps : List Script.Op} {os : List Named} → form_of p ≡ form_in o → Makes p o → Alike ps os
+      → Alike (p ∷ ps) (o ∷ os)
 
 picked : (name : List ℕ) {ps : List Script.Op} {os : List Named} → Alike ps os → Means (op_named name ps) (pick name os)
 unfolding op_named pick
 picked name end = nothing
 picked name (more {p} {o} {ps} {os} f m a) = rw (ap (λ x. x.name) f) (go (same_bytes name (name_of o.op)) (picked name a))
   where
-    go : (t : Bool) → Means (op_named name ps) (pick name os) → Means (cond t (maybe.some p) (op_named name ps)) (cond t (Some o) (pick name os))
+    go : (t : Bool) → Means (op_named name ps) (pick name os)
+        → Means (cond t (maybe.some p) (op_named name ps)) (cond t (Some o) (pick name os))
     go true r = one f m
     go false r = r
 
@@ -81,7 +83,8 @@ same_pointwise [] (y ∷ b) = refl
 same_pointwise (x ∷ a) [] = refl
 same_pointwise (x ∷ a) (y ∷ b) = rw (same_pointwise a b) refl
 
-module _ (name : List ℕ) (rows : List Row) (i : ℕ) (d : Row) (inside : i < length rows) (t : Bool) (e : t ≡ pointwise eqb name (get_or rows i d).0.now) where
+module _ (name : List ℕ) (rows : List Row) (i : ℕ) (d : Row) (inside : i < length rows) (t : Bool)
+    (e : t ≡ pointwise eqb name (get_or rows i d).0.now) where
   at_row : pick_row name (drop i rows) ≡ cond t (Some (op_of (get_or rows i d))) (pick_row name (drop (i + 1) rows))
   unfolding pick_row
   at_row = rw (drop-cons rows i d inside, add-one i, e, same_pointwise name (get_or rows i d).0.now) refl
@@ -99,7 +102,8 @@ row_none name rows i h = rw (drop_of_length-le rows {i = i} h) refl
 -- ---- definition's table
 
 -- a byte stays as it is
-filled : (a b c d : ℕ) → d ≤ 255 → ◌≡◌ {A = maybe.Option Command} (maybe.some (Script.Ask (Calls.Fill a b c d))) (maybe.some (Script.Ask (Calls.Fill a b c (d % 256))))
+filled : (a b c d : ℕ) → d ≤ 255
+    → ◌≡◌ {A = maybe.Option Command} (maybe.some (Script.Ask (Calls.Fill a b c d))) (maybe.some (Script.Ask (Calls.Fill a b c (d % 256))))
 filled a b c d h = let e : d % 256 ≡ d = omega arith in rw e refl
 
 alike : Alike ops all_ops
@@ -160,16 +164,19 @@ module _ (p : Script.Op) (o : Named) (f : form_of p ≡ form_in o) (m : Makes p 
 
   asked_if : (t : Bool) → fits p ns ≡ t → asks (maybe.some p) (maybe.some ns) ≡ asks_as (line_if t)
   asked_if true e =
-      let h = leb-true (get_or ns (p.count - 1) 0) p.most (and_right (eqb (length ns) p.count) (leb (get_or ns (p.count - 1) 0) p.most) e) in
+      let l : ℕ = get_or ns (p.count - 1) 0 in
+      let h = leb-true l p.most (and_right (eqb (length ns) p.count) (leb l p.most) e) in
       rw e (ap (λ n. asks_if n (maybe.some (p.make (λ i. get_or ns i 0)))) (ap (λ x. x.name) f) ∙ ap (asks_if (name_of o.op)) (m ns h))
   asked_if false e = rw e refl
 
-  asked_kept : (t : Bool) → leb (length ns) 5 ≡ t → asks (maybe.some p) (maybe.some ns) ≡ asks_as (read_as (Some o) (kept_of (maybe.some ns)))
+  asked_kept : (t : Bool) → leb (length ns) 5 ≡ t
+      → asks (maybe.some p) (maybe.some ns) ≡ asks_as (read_as (Some o) (kept_of (maybe.some ns)))
   asked_kept true e =
       rw e (asked_if (fits p ns) refl ∙ ap (λ t. asks_as (line_if t)) (fits_same p o f ns (eqb (length ns) o.count) refl))
   asked_kept false e = rw (e, fits_not p o f ns (leb-false (length ns) 5 e)) refl
 
-asked_by : {p : maybe.Option Script.Op} {o : Option Named} → Means p o → (ns : maybe.Option (List ℕ)) → asks p ns ≡ asks_as (read_as o (kept_of ns))
+asked_by : {p : maybe.Option Script.Op} {o : Option Named} → Means p o → (ns : maybe.Option (List ℕ))
+    → asks p ns ≡ asks_as (read_as o (kept_of ns))
 asked_by nothing ns = refl
 asked_by (one {p} {o} f m) maybe.none = refl
 asked_by (one {p} {o} f m) (maybe.some ns) = asked_kept p o f m ns (leb (length ns) 5) refl

@@ -119,7 +119,8 @@ split_part p xs x rest false e h =
 
 -- one field more, where the closure g tests for a comma
 pub left_more : (g : Mut (Unit {0}) (Bor ℕ × Unit {0}) Bool) (s t : Split ℕ (Unit {0})) (x : Bor (List ℕ)) → split_steps g s (Some x) t
-    → ((a : Bor ℕ × Unit {0}) (r : Bool) (q : Unit {0}) → Called g s.pred a r q → (r ≡ is_sep 44 a.0.now) × (q ≡ s.pred)) → left s ≡ x.now ∷ left t
+    → ((a : Bor ℕ × Unit {0}) (r : Bool) (q : Unit {0}) → Called g s.pred a r q → (r ≡ is_sep 44 a.0.now) × (q ≡ s.pred))
+    → left s ≡ x.now ∷ left t
 left_more g s t x h tests =
     let k = h.2 (is_sep 44) (always_returns_same g (λ a r. r ≡ is_sep 44 a.0.now) s.pred tests) in
     rw h.0 (split_part (is_sep 44) s.rest.now x.now t.rest.now t.done h.1 k.1)
@@ -134,7 +135,8 @@ abbrev pub open_lines : List ℕ → ℕ
 open_lines s = cond (eqb (last_of s) 10) 0 1
 
 -- the count of the front, and that of what is behind it
-count_go : (t u : Bool) (b n k : ℕ) (ps : List (List ℕ)) (x : ℕ) → length (joined u x ps) ≡ n + k → length (joined t b (joined u x ps)) ≡ cond t 1 0 + n + k
+count_go : (t u : Bool) (b n k : ℕ) (ps : List (List ℕ)) (x : ℕ) → length (joined u x ps) ≡ n + k
+    → length (joined t b (joined u x ps)) ≡ cond t 1 0 + n + k
 count_go true u b n k ps x h = omega arith
 count_go false true b n k ps x h = omega arith
 count_go false false b n k [] x h = omega arith
@@ -151,6 +153,7 @@ lines_count (b ∷ []) = count_one (eqb b 10) b
 lines_count (b ∷ x ∷ s) =
     let p : suc (suc (length s)) - 1 ≡ suc (length s) = omega arith in
     let q : suc (length s) - 1 ≡ length s = omega arith in
-    let n = count_go (eqb b 10) (eqb x 10) b (count_by (is_sep 10) (x ∷ s)) (open_lines (x ∷ s)) (parts_by 10 [] s) x (lines_count (x ∷ s)) in
+    let n =
+    count_go (eqb b 10) (eqb x 10) b (count_by (is_sep 10) (x ∷ s)) (open_lines (x ∷ s)) (parts_by 10 [] s) x (lines_count (x ∷ s)) in
     let m = sum_by-cons (λ (y : ℕ). cond (eqb y 10) 1 0) b (x ∷ s) in
     rw p (rw q at (n ∙ ap (λ (k : ℕ). k + open_lines (x ∷ s)) (sym m)))

@@ -1,5 +1,5 @@
--- The steps by which a line is read, as the code takes them: the numbers one by one, an op by its name, and the test that they fit the op. proofs/ relates
--- each of them to definition's `read_numbers`, `op_named` and `asks`.
+-- The steps by which a line is read, as the code takes them: the numbers one by one, an op by its name, and the test that they fit the op.
+-- proofs/ relates each of them to definition's `read_numbers`, `op_named` and `asks`.
 use Rattle.std.specs.Prelude.{ℕ, ◌+◌, Bool, cond, ◌&&◌, List, [], ◌∷◌, eqb, leb, ltb, set, Option, Some, None, option_and_then}
 use Rattle.std.proofs.Math.Option as maybe
 use Rattle.definition.specs.Script.{read_number, same_bytes, any_number}

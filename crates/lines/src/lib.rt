@@ -2,7 +2,7 @@
 // `read_line` asks the same.
 #![tactic(auto)]
 
-ghost use Rattle.std.specs.Prelude.{◌≡◌, ◌<◌, ◌≤◌, ◌==◌, length, position, unwrap_or};
+ghost use Rattle.std.specs.Prelude.{◌≡◌, ◌<◌, ◌≤◌, ◌==◌, length, IfNone, option_map, position, unwrap_or};
 ghost use Rattle.definition.specs.Script.{lines, fields, read_number};
 ghost use Rattle.lines.specs.Reading.{Reads, NextLine};
 ghost use Rattle.lines.specs.Steps.{value_of, no_numbers, pushed, gather, all_ops, pick, bad_line, line_from};
@@ -84,31 +84,31 @@ const NO_NUMBERS: Numbers = Numbers {
     list: [0; 5],
 };
 
-// One number more, where there are not five yet.
-fn push(r: Numbers, x: u64) -> Option<Numbers>
-    ensures { result ≡ pushed r x }
-{
-    let mut list = r.list;
-    if r.count >= list.len() {
-        return None;
+impl Numbers {
+    // One number more, where there are not five yet.
+    fn push(&mut self, x: u64) -> Option<()>
+        ensures room { pushed self.old x ≡ option_map (λ u. self.new) result }
+        ensures full { IfNone result (self.new ≡ self.old) }
+    {
+        if self.count >= self.list.len() {
+            return None;
+        }
+        self.list[self.count] = x;
+        self.count += 1;
+        self.last = x;
+        Some(())
     }
-    list[r.count] = x;
-    Some(Numbers {
-        count: r.count + 1,
-        last: x,
-        list,
-    })
 }
 
 // The numbers in the fields of `s`, where all can be read and there are not too many.
 fn read_numbers(s: &[u8]) -> Option<Numbers>
     ensures { result ≡ gather no_numbers (fields s.now) }
 {
-    let mut r = NO_NUMBERS;
+    let mut numbers = NO_NUMBERS;
     for field in s.split(|b| *b == b',') {
-        r = push(r, read_number(field)?)?;
+        numbers.push(read_number(field)?)?;
     }
-    Some(r)
+    Some(numbers)
 }
 
 // ---- ops

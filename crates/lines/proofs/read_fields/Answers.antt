@@ -1,4 +1,4 @@
--- `read_fields` meets its contract: a line with numbers, and one of a name alone; in each the op may be unknown, and a number may be unreadable.
+-- `read_fields` meets its contract: a line with numbers, and one of a name alone; in each the op may be unknown, and a number unreadable.
 use Rattle.std.proofs.Common.{arith, refl}
 use Rattle.std.specs.Prelude.{Some, None}
 use Rattle.lines.specs.Steps.{no_numbers}

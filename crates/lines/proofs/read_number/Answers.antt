@@ -1,4 +1,5 @@
--- `read_number` meets its contract. The loop's invariant: the number that the slice spells is the one that goes on from the digits passed, worth v.
+-- `read_number` meets its contract. The loop's invariant: the number that the slice spells is the one that goes on from the digits passed,
+-- worth v.
 use Rattle.std.proofs.Common.{◌≡◌, ◌∙◌, sym, length, arith, rules}
 use lib.Seq.{drop-length}
 use Rattle.std.specs.Prelude.{None}
@@ -25,7 +26,8 @@ pub returns-in_err-v : goal.returns-in_err-v
 returns-in_err-v c =
     let k = c.loop-b in
     let r : c.from_residual-in_err-v.result ≡ None = search rules in
-    rw r (sym (k.invariant ∙ bad_at c.args.s.now k.v k.b-index c.loop-b-test.true (λ d h. omega (arith, c.in_err-v.ensures, c.in_ok-checked_mul.ensures, c.from.ensures))))
+    let m = c.in_ok-checked_mul.ensures in
+    rw r (sym (k.invariant ∙ bad_at c.args.s.now k.v k.b-index c.loop-b-test.true (λ d h. omega (arith, c.in_err-v.ensures, m))))
 
 pub loop-b-preserved : goal.loop-b-preserved
 loop-b-preserved c =

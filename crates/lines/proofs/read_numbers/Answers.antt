@@ -1,4 +1,5 @@
--- `read_numbers` meets its contract. The loop's invariant: the numbers of all fields are those of the fields that are left, behind those in r.
+-- `read_numbers` meets its contract. The loop's invariant: the numbers of all fields are those of the fields that are left, behind those
+-- read already.
 use Rattle.std.proofs.Common.{◌≡◌, ◌∙◌, ap, sym, rules}
 use Rattle.std.specs.Prelude.{None}
 use Rattle.lines.specs.Steps.{gather, no_numbers}
@@ -17,20 +18,22 @@ returns-in_err-read_number c =
     let k = c.loop-field in
     let e = left_more _ k.field-iterator c.next.new.self c.in-Some.field c.in-Some.ensures.steps (λ a r q h. search rules) in
     let r : c.from_residual.result ≡ None = search rules in
-    r ∙ sym (k.invariant ∙ rw e (gather_bad k.r c.in-Some.field.now (left c.next.new.self) c.in_err-read_number.ensures))
+    r ∙ sym (k.invariant ∙ rw e (gather_bad k.numbers c.in-Some.field.now (left c.next.new.self) c.in_err-read_number.ensures))
 
-pub returns-in_err-r : goal.returns-in_err-r
-returns-in_err-r c =
+pub returns-in_err-push : goal.returns-in_err-push
+returns-in_err-push c =
     let k = c.loop-field in
     let e = left_more _ k.field-iterator c.next.new.self c.in-Some.field c.in-Some.ensures.steps (λ a r q h. search rules) in
-    let r : c.from_residual-in_err-r.result ≡ None = search rules in
-    r ∙ sym (k.invariant ∙ rw e (gather_full k.r c.in-Some.field.now (left c.next.new.self) _ c.in_ok-read_number.ensures c.in_err-r.ensures))
+    let r : c.from_residual-in_err-push.result ≡ None = search rules in
+    let p = sym c.in_err-push.ensures.room in
+    r ∙ sym (k.invariant ∙ rw e (gather_full k.numbers c.in-Some.field.now (left c.next.new.self) _ c.in_ok-read_number.ensures p))
 
 pub loop-field-preserved : goal.loop-field-preserved
 loop-field-preserved c =
     let k = c.loop-field in
     let e = left_more _ k.field-iterator c.next.new.self c.in-Some.field c.in-Some.ensures.steps (λ a r q h. search rules) in
-    k.invariant ∙ rw e (gather_more k.r c.in-Some.field.now (left c.next.new.self) _ c.in_ok-r.r c.in_ok-read_number.ensures c.in_ok-r.ensures)
+    let p = sym c.in_ok-push.ensures.room in
+    k.invariant ∙ rw e (gather_more k.numbers c.in-Some.field.now (left c.next.new.self) _ c.push.new.self c.in_ok-read_number.ensures p)
 
 pub returns : goal.returns
-returns c = let k = c.loop-field in sym (k.invariant ∙ rw c.in-None.ensures.steps.0 (gather_end k.r))
+returns c = let k = c.loop-field in sym (k.invariant ∙ rw c.in-None.ensures.steps.0 (gather_end k.numbers))

@@ -10,10 +10,14 @@ unfolding pick all_ops bytes_of pick_row
 loop-name-init c = refl
 
 pub returns-then-eq : goal.returns-then-eq
-returns-then-eq c = sym (c.loop-name.invariant ∙ row_named c.args.s.now _ c.loop-name.name-index _ c.loop-name-test.true c.eq.result c.eq.ensures c.if-eq.true)
+returns-then-eq c =
+    let k = c.loop-name in
+    sym (k.invariant ∙ row_named c.args.s.now _ k.name-index _ c.loop-name-test.true c.eq.result c.eq.ensures c.if-eq.true)
 
 pub loop-name-preserved : goal.loop-name-preserved
-loop-name-preserved c = c.loop-name.invariant ∙ row_other c.args.s.now _ c.loop-name.name-index _ c.loop-name-test.true c.eq.result c.eq.ensures c.if-eq.false
+loop-name-preserved c =
+    let k = c.loop-name in
+    k.invariant ∙ row_other c.args.s.now _ k.name-index _ c.loop-name-test.true c.eq.result c.eq.ensures c.if-eq.false
 
 pub returns : goal.returns
 returns c = sym (c.loop-name.invariant ∙ row_none c.args.s.now _ c.loop-name.name-index c.loop-name-test.false)
