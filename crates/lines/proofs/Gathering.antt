@@ -1,70 +1,71 @@
--- Laws of numbers: one is read byte by byte, and `gather` reads all of a line. What it leaves is definition's `read_numbers`, the list filled up to five
--- (`gather_kept`).
+-- Laws of numbers: one is read byte by byte, and `gather` reads all of a line. What it leaves is definition's `read_numbers`, the list
+-- filled up to five (`gather_kept`).
 use Prim.Native.Nat.{ℕ, ◌+◌, ◌-◌, ◌*◌, ◌^◌, ◌≤◌, ◌<◌}
 use mathlib.Core.Bool.{Bool, true, false, cond, ◌&&◌}
 use mathlib.Core.List.{List, [], ◌∷◌, ◌++◌, append_assoc, append-nil}
-use mathlib.Core.Option.{Option, none, some}
-use mathlib.Core.Path.{◌≡◌, refl, ap, ◌∙◌}
+use mathlib.Core.Option as maybe
+use mathlib.Core.Path.{◌≡◌, refl, sym, ap, ◌∙◌}
 use native.Mathlib.Omega.{arith}
 use native.Mathlib.Numerals.{add-one}
 use lib.Dec.{ltb, leb}
 use lib.ListN.{length, get_or, drop, length-append}
 use lib.Seq.{drop-cons}
-use borrow.Author.Tests.{le-leb, lt-ltb, lt-leb, ltb-true, leb-true}
-use Rattle.definition.specs.Script.{number_from, read_number, behind, read_numbers}
+use borrow.Author.Tests.{le-leb, lt-ltb, lt-leb, ltb-true}
+use Rattle.std.specs.Prelude.{Option, Some, None, option_and_then}
+use Rattle.definition.specs.Script.{is_digit, number_from, read_number, behind, read_numbers}
 use Rattle.lines.specs.declared.Numbers.{Numbers}
-use Rattle.lines.specs.Steps.{no_numbers, unread, pushed, gather}
+use Rattle.lines.specs.Steps.{no_numbers, pushed, with_next, gather}
 
 -- ---- one number
 
-both : (p q r : Bool) → (p ≡ true → q ≡ true → r ≡ true → ⊥) → (p && q) && r ≡ false
-both true true true h = absurd (h refl refl refl)
-both true true false h = refl
-both true false r h = refl
-both false q r h = refl
+both : (p q : Bool) → (p ≡ true → q ≡ true → ⊥) → p && q ≡ false
+both true true h = absurd (h refl refl)
+both true false h = refl
+both false q h = refl
+
+-- v with the digit at i behind it
+abbrev pub next : List ℕ → ℕ → ℕ → ℕ
+next s v i = v * 10 + (get_or s i 0 - 48)
 
 -- the answer from i on, and from i + 1 on
 module _ (s : List ℕ) (v i : ℕ) (inside : i < length s) where
-  pub more_at : 48 ≤ get_or s i 0 → get_or s i 0 ≤ 57 → v * 10 + (get_or s i 0 - 48) < 2 ^ 64
-      → number_from v (drop i s) ≡ number_from (v * 10 + (get_or s i 0 - 48)) (drop (i + 1) s)
+  pub more_at : is_digit (get_or s i 0) ≡ true → next s v i < 2 ^ 64 → number_from v (drop i s) ≡ number_from (next s v i) (drop (i + 1) s)
   unfolding number_from
-  more_at lo hi h =
-      rw (drop-cons s i 0 inside, add-one i, le-leb 48 (get_or s i 0) lo, le-leb (get_or s i 0) 57 hi, lt-ltb (v * 10 + (get_or s i 0 - 48)) (2 ^ 64) h)
-      refl
+  more_at d h = rw (drop-cons s i 0 inside, add-one i, d, lt-ltb (next s v i) (2 ^ 64) h) refl
 
-  pub bad_at : (48 ≤ get_or s i 0 → get_or s i 0 ≤ 57 → v * 10 + (get_or s i 0 - 48) < 2 ^ 64 → ⊥) → number_from v (drop i s) ≡ none
+  pub bad_at : (is_digit (get_or s i 0) ≡ true → next s v i < 2 ^ 64 → ⊥) → number_from v (drop i s) ≡ maybe.none
   unfolding number_from
   bad_at n =
-      let b : ℕ = get_or s i 0 in
-      rw (
-        drop-cons s i 0 inside,
-        both (leb 48 b) (leb b 57) (ltb (v * 10 + (b - 48)) (2 ^ 64))
-            (λ p q r. n (leb-true 48 b p) (leb-true b 57 q) (ltb-true (v * 10 + (b - 48)) (2 ^ 64) r)),
-      ) refl
+      let b = both (is_digit (get_or s i 0)) (ltb (next s v i) (2 ^ 64)) (λ p r. n p (ltb-true (next s v i) (2 ^ 64) r)) in
+      rw (drop-cons s i 0 inside, b) refl
 
 pub some_from : (s : List ℕ) → 0 < length s → read_number s ≡ number_from 0 s
 some_from [] h = absurd (omega arith)
 some_from (x ∷ s) h = refl
 
-pub none_bad : (s : List ℕ) → length s ≡ 0 → read_number s ≡ none
-none_bad [] h = refl
-none_bad (x ∷ s) h = absurd (omega arith)
-
-pub from_end : (v : ℕ) → number_from v [] ≡ some v
+pub from_end : (v : ℕ) → number_from v [] ≡ maybe.some v
 unfolding number_from
 from_end v = refl
 
 -- ---- all numbers of a line
 
-pub gather_more : (r : Numbers) {r' : Numbers} {o : Option ℕ} {f : List ℕ} {fs l : List (List ℕ)} → l ≡ f ∷ fs → o ≡ read_number f → r' ≡ pushed r o
-    → gather r l ≡ gather r' fs
+pub gather_end : (r : Numbers) → gather r [] ≡ Some r
 unfolding gather
-gather_more r {r'} {o} {f} {fs} {l} e p q = rw (e, q, p) refl
+gather_end r = refl
 
-pub gather_last : (r : Numbers) {r' : Numbers} {o : Option ℕ} {f : List ℕ} {l : List (List ℕ)} → l ≡ f ∷ [] → o ≡ read_number f → r' ≡ pushed r o
-    → gather r l ≡ r'
+pub gather_more : (r : Numbers) (f : List ℕ) (fs : List (List ℕ)) (x : ℕ) (next : Numbers) → maybe.some x ≡ read_number f
+    → Some next ≡ pushed r x → gather r (f ∷ fs) ≡ gather next fs
 unfolding gather
-gather_last r {r'} {o} {f} {l} e p q = rw (e, q, p) refl
+gather_more r f fs x next e p = rw (← e, ← p) refl
+
+pub gather_full : (r : Numbers) (f : List ℕ) (fs : List (List ℕ)) (x : ℕ) → maybe.some x ≡ read_number f → None ≡ pushed r x
+    → gather r (f ∷ fs) ≡ None
+unfolding gather
+gather_full r f fs x e p = rw (← e, ← p) refl
+
+pub gather_bad : (r : Numbers) (f : List ℕ) (fs : List (List ℕ)) → maybe.none ≡ read_number f → gather r (f ∷ fs) ≡ None
+unfolding gather
+gather_bad r f fs e = rw (← e) refl
 
 -- the first five of a list, filled up with zeros
 abbrev pub five : List ℕ → List ℕ
@@ -74,53 +75,53 @@ abbrev pub kept : List ℕ → Numbers
 kept ns = record { count = length ns; last = get_or ns (length ns - 1) 0; list = five ns }
 
 -- what is kept of the numbers that were read
-abbrev pub kept_of : Option (List ℕ) → Numbers
-kept_of none = unread
-kept_of (some ns) = cond (leb (length ns) 5) (kept ns) unread
+abbrev pub kept_of : maybe.Option (List ℕ) → Option Numbers
+kept_of maybe.none = None
+kept_of (maybe.some ns) = cond (leb (length ns) 5) (Some (kept ns)) None
 
-too_many : (ns : List ℕ) (x : ℕ) → 5 < length ns → pushed (kept_of (some ns)) (some x) ≡ kept_of (some (ns ++ (x ∷ [])))
-too_many ns x h = rw (lt-leb (length ns) 5 h, lt-leb (length (ns ++ (x ∷ []))) 5 (rw (length-append ns (x ∷ [])) (omega arith))) refl
-
-kept_push : (ns : List ℕ) (x : ℕ) → pushed (kept_of (some ns)) (some x) ≡ kept_of (some (ns ++ (x ∷ [])))
-kept_push [] x = refl
-kept_push (a ∷ []) x = refl
-kept_push (a ∷ b ∷ []) x = refl
-kept_push (a ∷ b ∷ c ∷ []) x = refl
-kept_push (a ∷ b ∷ c ∷ d ∷ []) x = refl
-kept_push (a ∷ b ∷ c ∷ d ∷ e ∷ []) x = refl
-kept_push (a ∷ b ∷ c ∷ d ∷ e ∷ f ∷ ns) x = too_many (a ∷ b ∷ c ∷ d ∷ e ∷ f ∷ ns) x (omega arith)
+too_many : (ns : List ℕ) → 5 < length ns → kept_of (maybe.some ns) ≡ None
+too_many ns h = rw (lt-leb (length ns) 5 h) refl
 
 -- the numbers of the fields behind those already read
-abbrev after : List ℕ → Option (List ℕ) → Option (List ℕ)
-after ns none = none
-after ns (some ms) = some (ns ++ ms)
+abbrev after : List ℕ → maybe.Option (List ℕ) → maybe.Option (List ℕ)
+after ns maybe.none = maybe.none
+after ns (maybe.some ms) = maybe.some (ns ++ ms)
 
-after_one : (ns : List ℕ) (x : ℕ) (o : Option (List ℕ)) → after (ns ++ (x ∷ [])) o ≡ after ns (behind (some x) o)
-after_one ns x none = refl
-after_one ns x (some ms) = rw (append_assoc ns (x ∷ []) ms) refl
+after_one : (ns : List ℕ) (x : ℕ) (o : maybe.Option (List ℕ)) → after (ns ++ (x ∷ [])) o ≡ after ns (behind (maybe.some x) o)
+after_one ns x maybe.none = refl
+after_one ns x (maybe.some ms) = rw (append_assoc ns (x ∷ []) ms) refl
 
-unread_stays : (o : Option ℕ) → pushed unread o ≡ unread
-unread_stays none = refl
-unread_stays (some x) = refl
+after_many : (ns : List ℕ) (x : ℕ) (o : maybe.Option (List ℕ)) → 5 ≤ length ns → kept_of (after ns (behind (maybe.some x) o)) ≡ None
+after_many ns x maybe.none h = refl
+after_many ns x (maybe.some ms) h = too_many (ns ++ (x ∷ ms)) (rw (length-append ns (x ∷ ms)) (omega arith))
 
-gather_unread : (fs : List (List ℕ)) → gather unread fs ≡ unread
-unfolding gather
-gather_unread [] = refl
-gather_unread (f ∷ fs) = rw (unread_stays (read_number f)) (gather_unread fs)
+abbrev Gathers : List ℕ → List (List ℕ) → Type 0
+Gathers ns fs = gather (kept ns) fs ≡ kept_of (after ns (read_numbers fs))
 
-gather_after : (ns : List ℕ) (fs : List (List ℕ)) → gather (kept_of (some ns)) fs ≡ kept_of (after ns (read_numbers fs))
+-- one field more, where it spells x
+gather_some : (ns : List ℕ) (x : ℕ) (fs : List (List ℕ)) → length ns ≤ 5 → (length ns < 5 → Gathers (ns ++ (x ∷ [])) fs)
+    → option_and_then (λ n. gather n fs) (pushed (kept ns) x) ≡ kept_of (after ns (behind (maybe.some x) (read_numbers fs)))
+gather_some [] x fs h ih = ih (omega arith) ∙ ap kept_of (after_one [] x (read_numbers fs))
+gather_some (a ∷ []) x fs h ih = ih (omega arith) ∙ ap kept_of (after_one (a ∷ []) x (read_numbers fs))
+gather_some (a ∷ b ∷ []) x fs h ih = ih (omega arith) ∙ ap kept_of (after_one (a ∷ b ∷ []) x (read_numbers fs))
+gather_some (a ∷ b ∷ c ∷ []) x fs h ih = ih (omega arith) ∙ ap kept_of (after_one (a ∷ b ∷ c ∷ []) x (read_numbers fs))
+gather_some (a ∷ b ∷ c ∷ d ∷ []) x fs h ih = ih (omega arith) ∙ ap kept_of (after_one (a ∷ b ∷ c ∷ d ∷ []) x (read_numbers fs))
+gather_some (a ∷ b ∷ c ∷ d ∷ e ∷ []) x fs h ih = sym (after_many (a ∷ b ∷ c ∷ d ∷ e ∷ []) x (read_numbers fs) (omega arith))
+gather_some (a ∷ b ∷ c ∷ d ∷ e ∷ f ∷ ns) x fs h ih = absurd (omega arith)
+
+gather_after : (ns : List ℕ) (fs : List (List ℕ)) → length ns ≤ 5 → Gathers ns fs
 unfolding gather read_numbers
-gather_after ns [] = rw (append-nil ns) refl
-gather_after ns (f ∷ fs) = go (read_number f) (λ x. gather_after (ns ++ (x ∷ [])) fs)
+gather_after ns [] h = rw (append-nil ns, le-leb (length ns) 5 h) refl
+gather_after ns (f ∷ fs) h = go (read_number f) (λ x l. gather_after (ns ++ (x ∷ [])) fs (rw (length-append ns (x ∷ [])) (omega arith)))
   where
-    go : (o : Option ℕ) → ((x : ℕ) → gather (kept_of (some (ns ++ (x ∷ [])))) fs ≡ kept_of (after (ns ++ (x ∷ [])) (read_numbers fs)))
-        → gather (pushed (kept_of (some ns)) o) fs ≡ kept_of (after ns (behind o (read_numbers fs)))
-    go none ih = gather_unread fs
-    go (some x) ih = ap (λ r. gather r fs) (kept_push ns x) ∙ ih x ∙ ap kept_of (after_one ns x (read_numbers fs))
+    go : (o : maybe.Option ℕ) → ((x : ℕ) → length ns < 5 → Gathers (ns ++ (x ∷ [])) fs)
+        → with_next (kept ns) o (λ n. gather n fs) ≡ kept_of (after ns (behind o (read_numbers fs)))
+    go maybe.none ih = refl
+    go (maybe.some x) ih = gather_some ns x fs h (ih x)
 
-after_none : (o : Option (List ℕ)) → after [] o ≡ o
-after_none none = refl
-after_none (some ns) = refl
+after_none : (o : maybe.Option (List ℕ)) → after [] o ≡ o
+after_none maybe.none = refl
+after_none (maybe.some ns) = refl
 
 pub gather_kept : (fs : List (List ℕ)) → gather no_numbers fs ≡ kept_of (read_numbers fs)
-gather_kept fs = gather_after [] fs ∙ ap kept_of (after_none (read_numbers fs))
+gather_kept fs = gather_after [] fs (omega arith) ∙ ap kept_of (after_none (read_numbers fs))

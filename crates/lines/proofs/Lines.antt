@@ -1,71 +1,77 @@
--- Laws of lines: the first of a script and those behind it, how many are left, and a line read whole.
-use Prim.Native.Nat.{ℕ, suc, ◌+◌, ◌-◌, ◌≤◌, ◌<◌}
+-- Laws of lines: the first of a script and those behind it, and a line read whole.
+use Prim.Native.Nat.{ℕ, ◌+◌, ◌-◌, ◌≤◌, ◌<◌}
 use mathlib.Core.List.{List, [], ◌∷◌}
-use mathlib.Core.Path.{◌≡◌, refl, ap}
+use mathlib.Core.Path.{◌≡◌, refl, ◌∙◌}
 use native.Mathlib.Omega.{arith}
-use lib.ListN.{length, take, drop, drop_of_length-le}
+use lib.ListN.{length, take, drop, length-drop, drop_of_length-le}
+use lib.Seq.{drop-drop, take_all}
 use borrow.Author.Tests.{le-leb, lt-leb}
+use Rattle.std.specs.Prelude.{Option, Some, None, unwrap_or}
+use Rattle.std.specs.List.{position}
 use Rattle.definition.specs.Script.{parts_by, lines, fields, read_numbers, of_fields, read_line}
 use Rattle.lines.specs.declared.Line.{Line}
 use Rattle.lines.specs.declared.Named.{Named}
 use Rattle.lines.specs.declared.Numbers.{Numbers}
 use Rattle.lines.specs.Reading.{Reads, NextLine}
-use Rattle.lines.specs.Steps.{gap, no_numbers, gather, all_ops, pick, bad_line, line_from}
-use Rattle.lines.proofs.Parting.{first_at, last_field, last_line}
+use Rattle.lines.specs.Steps.{no_numbers, gather, all_ops, pick, bad_line}
+use Rattle.lines.proofs.Parting.{is_sep, first_part, last_field, last_line}
 use Rattle.lines.proofs.Gathering.{gather_kept}
-use Rattle.lines.proofs.Naming.{asked}
+use Rattle.lines.proofs.Naming.{read_as, asked}
 
 lines_none : (s : List ℕ) (at : ℕ) → length s ≤ at → lines (drop at s) ≡ []
 unfolding parts_by
 lines_none s at h = rw (drop_of_length-le s {i = at} h) refl
 
-pub line_fed : (s : List ℕ) (at end : ℕ) → end ≡ at + gap 10 (drop at s) → at < length s → end < length s → NextLine s at end (end + 1)
-line_fed s at end e h l = record {
-  first = first_at 10 s at end e [] (omega arith) l;
-  start_by = omega arith;
-  end_by = omega arith;
-  past = omega arith;
-  next_by = omega arith;
-}
+-- what `&s[at..]` is
+abbrev pub from : ℕ → List ℕ → List ℕ
+from at s = take (length s - at) (drop at s)
 
-pub line_last : (s : List ℕ) (at end : ℕ) → end ≡ at + gap 10 (drop at s) → at < length s → end ≡ length s → NextLine s at end end
-line_last s at end e h l = record {
-  first = rw (lines_none s end (omega arith)) (last_line 10 s at end e h l);
-  start_by = omega arith;
-  end_by = omega arith;
-  past = omega arith;
-  next_by = omega arith;
-}
+pub from_drop : (s : List ℕ) (at : ℕ) → from at s ≡ drop at s
+from_drop s at = take_all (length s - at) (drop at s) (rw (length-drop at s) (omega arith))
 
--- how many lines are left
-pub one_less : {s : List ℕ} {at end next : ℕ} → NextLine s at end next → length (lines (drop at s)) ≡ length (lines (drop next s)) + 1
-one_less {s} {at} {end} {next} n =
-    let e : length (lines (drop at s)) ≡ suc (length (lines (drop next s))) = ap length n.first in
-    omega arith
+pub line_fed : (s : List ℕ) (at i : ℕ) → at < length s → Some i ≡ position (is_sep 10) (from at s) → NextLine s at (at + i) (at + i + 1)
+line_fed s at i h e =
+    let f = first_part 10 (drop at s) [] i (rw (from_drop s at) at e) in
+    let l : i < length s - at = rw (length-drop at s) at f.0 in
+    let q : at + i - at ≡ i = omega arith in
+    let n : at + (i + 1) ≡ at + i + 1 = omega arith in record {
+      first = f.1 ∙ rw (q, drop-drop (i + 1) at s, n) refl;
+      start_by = omega arith;
+      end_by = omega arith;
+      past = omega arith;
+      next_by = omega arith;
+    }
 
-pub none_left : (s : List ℕ) (at : ℕ) → length s ≤ at → length (lines (drop at s)) ≡ 0
-none_left s at h = ap length (lines_none s at h)
+pub line_last : (s : List ℕ) (at : ℕ) → at < length s → None ≡ position (is_sep 10) (from at s) → NextLine s at (length s) (length s)
+line_last s at h e =
+    let l = last_line 10 (drop at s) (rw (from_drop s at) at e) (rw (length-drop at s) (omega arith)) in record {
+      first = l ∙ rw (from_drop s at, lines_none s (length s) (omega arith)) refl;
+      start_by = omega arith;
+      end_by = omega arith;
+      past = omega arith;
+      next_by = omega arith;
+    }
 
 -- ---- a line read whole
 
-pub reads_long : (line : List ℕ) {r : Line} → 512 < length line → r ≡ bad_line → Reads line r
+pub reads_long : (line : List ℕ) → 512 < length line → Reads line bad_line
 unfolding read_line
-reads_long line {r} h e = rw (lt-leb (length line) 512 h, e) refl
+reads_long line h = rw (lt-leb (length line) 512 h) refl
 
-reads_as : (line : List ℕ) (f : List ℕ) (fs : List (List ℕ)) {o : Named} {n : Numbers} {r : Line} → length line ≤ 512 → fields line ≡ f ∷ fs → o ≡ pick f all_ops
-    → n ≡ gather no_numbers fs → r ≡ line_from o n → Reads line r
-unfolding read_line of_fields
-reads_as line f fs {o} {n} {r} h p q g e =
-    rw (le-leb (length line) 512 h, p, e, g, gather_kept fs, q) (asked f (read_numbers fs))
+module _ (line : List ℕ) (short : length line ≤ 512) (o : Option Named) (n : Option Numbers) {r : Option Line} (e : r ≡ read_as o n) where
+  reads_as : (f : List ℕ) (fs : List (List ℕ)) → fields line ≡ f ∷ fs → o ≡ pick f all_ops → n ≡ gather no_numbers fs
+      → Reads line (unwrap_or r bad_line)
+  unfolding read_line of_fields
+  reads_as f fs p q g = rw (le-leb (length line) 512 short, p, e, q, g, gather_kept fs) (asked f (read_numbers fs))
 
-module _ (line : List ℕ) (end : ℕ) (at : end ≡ 0 + gap 44 (drop 0 line)) (short : length line ≤ 512) {o : Named} (q : o ≡ pick (take end line) all_ops) where
-  pub reads_more : {n : Numbers} {r : Line} → end < length line → n ≡ gather no_numbers (fields (drop (end + 1) line)) → r ≡ line_from o n → Reads line r
-  reads_more {n} {r} h g e =
-      let z : end - 0 ≡ end = omega arith in
-      reads_as line (take end line) (fields (drop (end + 1) line)) short (rw z at (first_at 44 line 0 end at ([] ∷ []) (omega arith) h)) q g e
+  -- a line with numbers, the commas but the first one behind `&line[comma + 1..]`
+  pub reads_more : (comma : ℕ) → Some comma ≡ position (is_sep 44) line → o ≡ pick (take comma line) all_ops
+      → n ≡ gather no_numbers (fields (from (comma + 1) line)) → Reads line (unwrap_or r bad_line)
+  reads_more comma h q g =
+      let f = first_part 44 line ([] ∷ []) comma h in
+      reads_as (take comma line) (fields (drop (comma + 1) line)) f.1 q (rw (from_drop line (comma + 1)) at g)
 
-  pub reads_last : {n : Numbers} {r : Line} → end ≡ length line → n ≡ no_numbers → r ≡ line_from o n → Reads line r
+  -- a name alone
+  pub reads_last : None ≡ position (is_sep 44) line → o ≡ pick line all_ops → n ≡ Some no_numbers → Reads line (unwrap_or r bad_line)
   unfolding gather
-  reads_last {n} {r} h g e =
-      let z : end - 0 ≡ end = omega arith in
-      reads_as line (take end line) [] short (rw z at (last_field 44 line 0 end at (omega arith) h)) q g e
+  reads_last h q g = reads_as line [] (last_field 44 line h) q g

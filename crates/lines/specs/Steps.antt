@@ -1,7 +1,7 @@
--- The steps by which a line is read, as the code takes them: up to the next separator, an op by its name, the numbers one by one, and the test that they fit
--- the op. proofs/ relates each of them to definition's `fields`, `op_named`, `read_numbers` and `asks`.
-use Rattle.std.specs.Prelude.{ℕ, ◌+◌, Bool, cond, ◌&&◌, List, [], ◌∷◌, eqb, leb, ltb, set}
-use Rattle.std.proofs.Math.Option.{Option, none, some}
+-- The steps by which a line is read, as the code takes them: the numbers one by one, an op by its name, and the test that they fit the op.
+-- proofs/ relates each of them to definition's `read_numbers`, `op_named` and `asks`.
+use Rattle.std.specs.Prelude.{ℕ, ◌+◌, Bool, cond, ◌&&◌, List, [], ◌∷◌, eqb, leb, ltb, set, Option, Some, None, option_and_then}
+use Rattle.std.proofs.Math.Option as maybe
 use Rattle.definition.specs.Script.{read_number, same_bytes, any_number}
 use Rattle.lines.specs.declared.Ask.TheVariants.{
   Alloc,
@@ -23,22 +23,16 @@ use Rattle.lines.specs.declared.Ask.TheVariants.{
 use Rattle.lines.specs.declared.Op.{Op}
 use Rattle.lines.specs.declared.Op.TheVariants.{Bad, Region, Boot, Stats, Call}
 use Rattle.lines.specs.declared.Line.{Line}
-use Rattle.lines.specs.declared.Number.{Number}
-use Rattle.lines.specs.declared.Number.TheVariants.{Value, Unreadable}
 use Rattle.lines.specs.declared.Numbers.{Numbers}
 use Rattle.lines.specs.declared.Named.{Named}
 use Rattle.lines.specs.Reading.{name_of}
 
--- how many bytes stand before the first separator
-unfoldable pub gap : ℕ → List ℕ → ℕ
-gap sep [] = 0
-gap sep (x ∷ xs) = cond (eqb x sep) 0 (gap sep xs + 1)
-
 -- ---- numbers
 
-abbrev pub value_of : Number → Option ℕ
-value_of (Value n) = some n
-value_of Unreadable = none
+-- what the code answers, as definition says it
+abbrev pub value_of : Option ℕ → maybe.Option ℕ
+value_of None = maybe.none
+value_of (Some n) = maybe.some n
 
 abbrev pub zeros : List ℕ
 zeros = 0 ∷ 0 ∷ 0 ∷ 0 ∷ 0 ∷ []
@@ -46,41 +40,24 @@ zeros = 0 ∷ 0 ∷ 0 ∷ 0 ∷ 0 ∷ []
 abbrev pub no_numbers : Numbers
 no_numbers = record { count = 0; last = 0; list = zeros }
 
--- no op takes six: there are too many, or one can't be read
-abbrev pub unread : Numbers
-unread = record { count = 6; last = 0; list = zeros }
+-- no op takes six
+abbrev pub pushed : Numbers → ℕ → Option Numbers
+pushed r n = cond (ltb r.count 5) (Some (record { count = r.count + 1; last = n; list = set r.list r.count n })) None
 
-abbrev pub pushed : Numbers → Option ℕ → Numbers
-pushed r none = unread
-pushed r (some n) = cond (ltb r.count 5) (record { count = r.count + 1; last = n; list = set r.list r.count n }) unread
+-- what goes on with one number more, if there is one and room for it
+abbrev pub with_next : Numbers → maybe.Option ℕ → (Numbers → Option Numbers) → Option Numbers
+with_next r maybe.none rest = None
+with_next r (maybe.some n) rest = option_and_then rest (pushed r n)
 
--- the numbers that the fields spell, behind those already read
-unfoldable pub gather : Numbers → List (List ℕ) → Numbers
-gather r [] = r
-gather r (f ∷ fs) = gather (pushed r (read_number f)) fs
+-- the numbers that the fields spell, behind those already read, if all can be read and there are not too many
+unfoldable pub gather : Numbers → List (List ℕ) → Option Numbers
+gather r [] = Some r
+gather r (f ∷ fs) = with_next r (read_number f) (λ next. gather next fs)
 
 -- ---- ops
 
 abbrev pub named : Op → ℕ → ℕ → Named
 named o count most = record { op = o; count = count; most = most }
-
--- nothing fits it
-abbrev pub unnamed : Named
-unnamed = named Bad 7 0
-
--- the names that come last in definition's `ops`, and all of them
-unfoldable pub later_ops : List Named
-later_ops =
-    named (Call Queue) 1 any_number
-    ∷ named (Call Fill) 4 255
-    ∷ named (Call Copy) 5 any_number
-    ∷ named (Call Pcopy) 4 any_number
-    ∷ named (Call Round) 0 0
-    ∷ named (Call Lend) 1 any_number
-    ∷ named (Call Back) 1 any_number
-    ∷ named (Call Low) 0 0
-    ∷ named Stats 0 0
-    ∷ []
 
 unfoldable pub all_ops : List Named
 all_ops =
@@ -93,12 +70,21 @@ all_ops =
     ∷ named (Call Zero) 1 any_number
     ∷ named (Call Dirty) 1 any_number
     ∷ named (Call Find) 1 any_number
-    ∷ later_ops
+    ∷ named (Call Queue) 1 any_number
+    ∷ named (Call Fill) 4 255
+    ∷ named (Call Copy) 5 any_number
+    ∷ named (Call Pcopy) 4 any_number
+    ∷ named (Call Round) 0 0
+    ∷ named (Call Lend) 1 any_number
+    ∷ named (Call Back) 1 any_number
+    ∷ named (Call Low) 0 0
+    ∷ named Stats 0 0
+    ∷ []
 
 -- the first of that name
-unfoldable pub pick : List ℕ → List Named → Named
-pick name [] = unnamed
-pick name (o ∷ os) = cond (same_bytes name (name_of o.op)) o (pick name os)
+unfoldable pub pick : List ℕ → List Named → Option Named
+pick name [] = None
+pick name (o ∷ os) = cond (same_bytes name (name_of o.op)) (Some o) (pick name os)
 
 -- ---- lines
 
@@ -109,5 +95,5 @@ abbrev pub is_fit : Named → Numbers → Bool
 is_fit o ns = eqb ns.count o.count && leb ns.last o.most
 
 -- the op with its numbers, if they fit it
-abbrev pub line_from : Named → Numbers → Line
-line_from o ns = cond (is_fit o ns) (record { op = o.op; numbers = ns.list }) bad_line
+abbrev pub line_from : Named → Numbers → Option Line
+line_from o ns = cond (is_fit o ns) (Some (record { op = o.op; numbers = ns.list })) None

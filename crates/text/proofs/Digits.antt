@@ -1,35 +1,37 @@
--- Laws of decimal digits, which are spelled from the last one on. What is spelled so far stands behind the place `j`.
-use Prim.Native.Nat.{ℕ, zero, suc, ◌+◌, ◌/◌, ◌%◌, ◌≤◌, ◌<◌}
+-- Laws of decimal digits: definition's are those that std prints, and a number below 2 ^ 64 has at most 20.
+use Prim.Native.Nat.{ℕ, zero, suc, ◌+◌, ◌*◌, ◌/◌, ◌%◌, ◌^◌, ◌≤◌, ◌<◌}
 use mathlib.Core.Bool.{Bool, true, false, cond}
-use mathlib.Core.List.{List, [], ◌∷◌, ◌++◌, append_assoc}
-use mathlib.Core.Path.{◌≡◌, refl, ◌∙◌}
+use mathlib.Core.List.{List, [], ◌∷◌, ◌++◌}
+use mathlib.Core.Path.{◌≡◌, refl, sym}
 use native.Mathlib.Omega.{arith}
-use native.Mathlib.Numerals.{add-one}
+use Rattle.std.proofs.Math.Nat.{pow-suc}
 use lib.Dec.{ltb}
-use lib.ListN.{length, drop, set, length-set, length-append}
-use lib.Seq.{drop-cons, get_or-set_same, drop-set-lt}
-use borrow.Author.Tests.{lt-ltb, le-ltb}
+use lib.ListN.{length, length-append}
+use borrow.Author.Tests.{ltb-true, ltb-false}
+use Rattle.std.specs.Fmt.{decimal}
+use Rattle.std.proofs.lemmas.Fmt.{decimal_digit, decimal_step}
 use Rattle.definition.specs.Text.{last_digits, digits_of}
 
-module _ (d : List ℕ) (j r : ℕ) (inside : j < length d) where
-  digit_in : drop j (set d j (48 + r % 10)) ≡ (48 + r % 10) ∷ drop (suc j) d
-  digit_in =
-      drop-cons (set d j (48 + r % 10)) j 0 (rw (length-set d j (48 + r % 10)) inside)
-      ∙ rw (get_or-set_same d j (48 + r % 10) 0 inside, drop-set-lt (suc j) d j (48 + r % 10) (omega arith)) refl
+some_more : (k n : ℕ) → 10 ≤ n → n < 10 ^ suc k → 0 < k
+some_more zero n l h = absurd (omega arith)
+some_more (suc k) n l h = omega arith
 
-  -- the last digit
-  pub digits_done : r < 10 → last_digits (j + 1) r ++ drop (j + 1) d ≡ drop j (set d j (48 + r % 10))
-  unfolding last_digits
-  digits_done h = rw (add-one, lt-ltb r 10 h, digit_in) refl
-
-  -- one digit on
-  pub digits_more : 10 ≤ r → last_digits (j + 1) r ++ drop (j + 1) d ≡ last_digits j (r / 10) ++ drop j (set d j (48 + r % 10))
-  unfolding last_digits
-  digits_more h = rw (add-one, le-ltb r 10 h, digit_in) (append_assoc (last_digits j (r / 10)) ((48 + r % 10) ∷ []) (drop (suc j) d))
-
-pub no_digits : (r : ℕ) (d : List ℕ) → last_digits 0 r ++ drop 0 d ≡ d
+printed : (k n : ℕ) → n < 10 ^ k → 0 < k → n < 2 ^ 64 → last_digits k n ≡ decimal n
 unfolding last_digits
-no_digits r d = refl
+printed zero n h z s = absurd (omega arith)
+printed (suc k) n h z s = go (ltb n 10) refl (λ l. let p : 10 ^ suc k ≡ 10 ^ k * 10 = pow-suc 10 k in
+    printed k (n / 10) (omega arith) (some_more k n l h) (omega arith))
+  where
+    go : (t : Bool) → ltb n 10 ≡ t → (10 ≤ n → last_digits k (n / 10) ≡ decimal (n / 10))
+        → cond t [] (last_digits k (n / 10)) ++ ((48 + n % 10) ∷ []) ≡ decimal n
+    go true e ih =
+        let l = ltb-true n 10 e in
+        let m : n % 10 ≡ n = omega arith in
+        rw m (sym (decimal_digit n l))
+    go false e ih = let l = ltb-false n 10 e in rw (ih l) (sym (decimal_step n l s))
+
+pub digits_decimal : (n : ℕ) → n < 2 ^ 64 → decimal n ≡ digits_of n
+digits_decimal n h = sym (printed 20 n (omega arith) (omega arith) h)
 
 shorter : (t : Bool) (l m : List ℕ) (k : ℕ) → length l ≤ k → length m ≡ 1 → length (cond t [] l ++ m) ≤ suc k
 shorter true l m k h e = omega arith

@@ -1,10 +1,9 @@
--- Laws of `Wrote`: one text after another is one text, and an equal text serves as well. The last law is of a part that goes to its list's end.
-use Prim.Native.Nat.{ℕ, ◌-◌, ◌≤◌}
+-- Laws of `Wrote`: one text after another is one text, and an equal text serves as well.
+use Prim.Native.Nat.{ℕ, ◌≤◌}
 use mathlib.Core.List.{List, ◌++◌}
 use mathlib.Core.Path.{◌≡◌}
 use native.Mathlib.Omega.{arith}
-use lib.ListN.{length, take, drop, length-append, length-drop}
-use lib.Seq.{take_all}
+use lib.ListN.{length, length-append}
 use Rattle.record.proofs.Bytes.{with_then}
 use Rattle.text.specs.Writing.{Wrote}
 
@@ -19,6 +18,3 @@ wrote_then {out} {a} {out'} {b} {out''} {at} {r} {r'} f g h =
 -- the same text, said otherwise
 pub wrote_as : {out a b out' : List ℕ} {at r : ℕ} → a ≡ b → Wrote out at a out' r → Wrote out at b out' r
 wrote_as e w = rw e at w
-
-pub to_the_end : (d : List ℕ) (i n : ℕ) → length d ≤ n → take (n - i) (drop i d) ≡ drop i d
-to_the_end d i n h = take_all (n - i) (drop i d) (rw (length-drop i d) (omega arith))

@@ -15,33 +15,15 @@ pub fn put_text(out: &mut [u8], at: usize, text: &[u8]) -> usize
     at + text.len()
 }
 
-// The decimal digits of `n` at the end of `digits`; where they start.
-fn spell(n: u64, digits: &mut [u8]) -> usize
-    requires { length digits.old ≡ 20 }
-    ensures { (result ≤ 20) × (drop result digits.new ≡ digits_of n) }
-{
-    let mut i: usize = 20;
-    let mut rest = n;
-    while i > 0 {
-        i -= 1;
-        digits[i] = 48 + (rest % 10) as u8;
-        if rest < 10 {
-            return i;
-        }
-        rest = rest / 10;
-    }
-    0
-}
-
 // The decimal digits of `n`.
 pub fn put_number(out: &mut [u8], at: usize, n: u64) -> usize
     requires { at + 20 ≤ length out.old }
     ensures wrote { Wrote out.old at (digits_of n) out.new result }
     ensures upper_bound { result ≤ at + 20 }
 {
-    let mut digits = [0u8; 20];
-    let first = spell(n, &mut digits);
-    put_text(out, at, &digits[first..])
+    let mut buffer = itoa::Buffer::new();
+    let digits = buffer.format(n).as_bytes();
+    put_text(out, at, digits)
 }
 
 // A text and the decimal digits of `n` behind it.

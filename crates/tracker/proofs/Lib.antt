@@ -1,2 +1,1 @@
-pub mod Low
 pub mod Stats

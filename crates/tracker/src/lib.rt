@@ -20,71 +20,87 @@ ghost use Rattle.tracker.specs.Stats.{counts_line, hundredths, share_of, share_l
 
 use definition::{Board, Counters};
 
-// What is left of a counter, at least 0: so that each count is the definition's on every input. On a sound store nothing is ever cut off.
-fn less(count: usize, pages: usize) -> usize
-    ensures { result ≡ count - pages }
-{
-    if pages <= count { count - pages } else { 0 }
-}
-
-// tracker.rs 69 to 80: so many pages were granted, to the kernel or not.
+// tracker.rs 69 to 80: so many pages were granted, to the kernel or not. Here and in `count_free` a counter falls to 0 at the lowest, so that
+// each count is the definition's on every input. On a sound store nothing is ever cut off.
+#[tactic(auto, unfolding(definition::specs::Tracker::count_alloc))]
 pub fn count_alloc(c: Counters, pages: usize, kernel: bool) -> Counters
     requires { (c.kernel_used + pages < 2 ^ 64) × (c.page_data + pages < 2 ^ 64) }
     ensures { result ≡ count_alloc pages kernel c }
 {
-    let mut d = c;
-    d.idle = less(c.idle, pages);
-    d.allocated = std::num::wrapping_add_usize(c.allocated, pages);
+    let granted = Counters {
+        idle: c.idle.saturating_sub(pages),
+        allocated: c.allocated.wrapping_add(pages),
+        ..c
+    };
     if kernel {
-        d.kernel_used += pages;
+        Counters {
+            kernel_used: c.kernel_used + pages,
+            ..granted
+        }
     } else {
-        d.page_data += pages;
+        Counters {
+            page_data: c.page_data + pages,
+            ..granted
+        }
     }
-    d
 }
 
 // tracker.rs 42 to 50: so many pages were freed.
+#[tactic(auto, unfolding(definition::specs::Tracker::count_free))]
 pub fn count_free(c: Counters, pages: usize, kernel: bool) -> Counters
     requires { c.idle + pages < 2 ^ 64 }
     ensures { result ≡ count_free pages kernel c }
 {
-    let mut d = c;
-    d.idle += pages;
-    d.freed = std::num::wrapping_add_usize(c.freed, pages);
+    let freed = Counters {
+        idle: c.idle + pages,
+        freed: c.freed.wrapping_add(pages),
+        ..c
+    };
     if kernel {
-        d.kernel_used = less(c.kernel_used, pages);
+        Counters {
+            kernel_used: c.kernel_used.saturating_sub(pages),
+            ..freed
+        }
     } else {
-        d.page_data = less(c.page_data, pages);
+        Counters {
+            page_data: c.page_data.saturating_sub(pages),
+            ..freed
+        }
     }
-    d
 }
 
 // tracker.rs 212
+#[tactic(auto, unfolding(definition::specs::Tracker::track_reclaimed))]
 pub fn track_reclaimed(c: Counters, count: usize) -> Counters
     ensures { result ≡ track_reclaimed count c }
 {
-    let mut d = c;
-    d.reclaimed = std::num::wrapping_add_usize(c.reclaimed, count);
-    d
+    Counters {
+        reclaimed: c.reclaimed.wrapping_add(count),
+        ..c
+    }
 }
 
 // tracker.rs 216
+#[tactic(auto, unfolding(definition::specs::Tracker::track_frame_pager))]
 pub fn track_frame_pager(c: Counters, count: usize) -> Counters
     ensures { result ≡ track_frame_pager count c }
 {
-    let mut d = c;
-    d.pager_outstanding = std::num::wrapping_add_usize(c.pager_outstanding, count);
-    d
+    Counters {
+        pager_outstanding: c.pager_outstanding.wrapping_add(count),
+        ..c
+    }
 }
 
 // tracker.rs 220; 01 refuses what is more than outstanding (15).
+#[tactic(auto, unfolding(definition::specs::Tracker::untrack_frame_pager))]
 pub fn untrack_frame_pager(c: Counters, count: usize) -> Counters
     requires { count ≤ c.pager_outstanding }
     ensures { result ≡ untrack_frame_pager count c }
 {
-    let mut d = c;
-    d.pager_outstanding -= count;
-    d
+    Counters {
+        pager_outstanding: c.pager_outstanding - count,
+        ..c
+    }
 }
 
 // tracker.rs 173: memory is low where the page data reach a part of the idle pages.
@@ -117,10 +133,7 @@ fn percent(n: usize, total: usize) -> usize
     requires { n < 2 ^ 57 }
     ensures { result ≡ hundredths n total }
 {
-    if total == 0 {
-        return 0;
-    }
-    n * 100 / total
+    (n * 100).checked_div(total).unwrap_or(0)
 }
 
 // A name, a counter, its share of the total in hundredths, and what follows.

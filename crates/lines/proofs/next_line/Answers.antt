@@ -3,12 +3,8 @@ use native.Mathlib.Omega.{arith}
 use Rattle.lines.proofs.Lines.{line_fed, line_last}
 use Rattle.lines.proofs.next_line.Goals as goal
 
-pub returns-then-end-s : goal.returns-then-end-s
-returns-then-end-s c =
-    let a = c.args in
-    line_fed a.s.now a.at c.find-end.result c.find-end.ensures.0 (omega arith) (omega arith)
+pub returns-in-Some : goal.returns-in-Some
+returns-in-Some c = line_fed c.args.s.now c.args.at c.in-Some.i (omega arith) c.in-Some.ensures
 
-pub returns : goal.returns
-returns c =
-    let a = c.args in
-    line_last a.s.now a.at c.find-end.result c.find-end.ensures.0 (omega arith) (omega arith)
+pub returns-in-None : goal.returns-in-None
+returns-in-None c = line_last c.args.s.now c.args.at (omega arith) c.in-None.ensures

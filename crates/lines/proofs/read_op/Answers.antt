@@ -1,21 +1,23 @@
--- `read_op` meets its contract: the table's beginning, in front of what `later_op` answers.
-use Rattle.std.proofs.Common.{refl}
+-- `read_op` meets its contract. The loop's invariant: no op that was passed has the name.
+use Rattle.std.proofs.Common.{◌∙◌, refl, sym}
 use Rattle.definition.specs.Text.{bytes_of}
 use Rattle.lines.specs.Steps.{pick, all_ops}
+use Rattle.lines.proofs.Naming.{pick_row, row_named, row_other, row_none}
 use Rattle.lines.proofs.read_op.Goals as goal
 
+pub loop-name-init : goal.loop-name-init
+unfolding pick all_ops bytes_of pick_row
+loop-name-init c = refl
+
+pub returns-then-eq : goal.returns-then-eq
+returns-then-eq c =
+    let k = c.loop-name in
+    sym (k.invariant ∙ row_named c.args.s.now _ k.name-index _ c.loop-name-test.true c.eq.result c.eq.ensures c.if-eq.true)
+
+pub loop-name-preserved : goal.loop-name-preserved
+loop-name-preserved c =
+    let k = c.loop-name in
+    k.invariant ∙ row_other c.args.s.now _ k.name-index _ c.loop-name-test.true c.eq.result c.eq.ensures c.if-eq.false
+
 pub returns : goal.returns
-unfolding pick all_ops bytes_of
-returns c =
-    rw (
-      c.or_else.ensures,
-      c.or_else-o-8.ensures,
-      c.or_else-o-7.ensures,
-      c.or_else-o-6.ensures,
-      c.or_else-o-5.ensures,
-      c.or_else-o-4.ensures,
-      c.or_else-o-3.ensures,
-      c.or_else-o-2.ensures,
-      c.or_else-o.ensures,
-      c.later_op.ensures,
-    ) refl
+returns c = sym (c.loop-name.invariant ∙ row_none c.args.s.now _ c.loop-name.name-index c.loop-name-test.false)

@@ -5,11 +5,8 @@ use Rattle.text.proofs.Writing.{wrote_then, wrote_as}
 use Rattle.tracker.proofs.Stats.{stats_lines}
 use Rattle.tracker.proofs.print_tracker_stats.Goals as goal
 
-pub returns : goal.returns
+pub returns-clause-wrote : goal.returns-clause-wrote
 unfolding bytes_of
-returns c =
+returns-clause-wrote c =
     let w2 = wrote_then c.put_text-next.ensures c.put_counts-next.ensures.wrote (omega arith) in
-    let w3 = wrote_then w2 c.put_shares.ensures.wrote (omega arith) in record {
-      wrote = wrote_as (stats_lines c.args.c) w3;
-      upper_bound = omega arith;
-    }
+    wrote_as (stats_lines c.args.c) (wrote_then w2 c.put_shares.ensures.wrote (omega arith))

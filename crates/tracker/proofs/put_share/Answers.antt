@@ -5,10 +5,8 @@ use Rattle.text.proofs.Writing.{wrote_then}
 use Rattle.tracker.specs.Stats.{share_of}
 use Rattle.tracker.proofs.put_share.Goals as goal
 
-pub returns : goal.returns
+pub returns-clause-wrote : goal.returns-clause-wrote
 unfolding bytes_of share_of
-returns c =
-    let share = rw c.percent.ensures at c.put_named-next-2.ensures.wrote in record {
-      wrote = wrote_then (wrote_then c.put_named-next.ensures.wrote share (omega arith)) c.put_text.ensures (omega arith);
-      upper_bound = omega arith;
-    }
+returns-clause-wrote c =
+    let share = rw c.percent.ensures at c.put_named-next-2.ensures.wrote in
+    wrote_then (wrote_then c.put_named-next.ensures.wrote share (omega arith)) c.put_text.ensures (omega arith)
