@@ -1,8 +1,16 @@
--- What is told is the one line or the other.
-use borrow.Author.Tests.{not-true}
+-- The numbers are spelt as definition spells them.
+use Rattle.std.proofs.Common.{arith}
 use Rattle.definition.specs.Text.{bytes_of}
+use Rattle.vectors.proofs.Printed.{decimal_digits}
 use Rattle.vectors.proofs.report.Goals as goal
 
-pub returns-then-not-t : goal.returns-then-not-t
+pub returns-in-Ok : goal.returns-in-Ok
 unfolding bytes_of
-returns-then-not-t g c = rw (not-true _ c.if-not-t.true) c.say.ensures
+returns-in-Ok g c =
+    let t = c.in-Ok.t in
+    rw c.in-Ok.is
+    (rw (decimal_digits t.scripts (omega arith), decimal_digits t.lines (omega arith), decimal_digits t.differ (omega arith)) at c.writeln.ensures.bytes)
+
+pub returns-in-Err : goal.returns-in-Err
+unfolding bytes_of
+returns-in-Err g c = rw c.in-Err.is c.say.ensures
