@@ -4,7 +4,7 @@
 // Where it can't be read, or the count can't be written, a line there says so and the exit status is 1.
 #![tactic(auto)]
 
-ghost use Rattle.std.specs.Prelude.{◌+◌, ◌≤◌, ◌<◌, not, ◌≡◌, length, OnOk, IfOk, IfSome};
+ghost use Rattle.std.specs.Prelude.{◌+◌, ◌≤◌, ◌<◌, not, ◌≡◌, ◌++◌, length, OnOk, IfOk, IfSome, Some, codes, decimal};
 ghost use Rattle.std.specs.Io.KnownBytes.{Appends};
 ghost use Rattle.definition.specs.Basics.{bit};
 ghost use Rattle.definition.specs.Script.{room, same_bytes};
@@ -26,6 +26,8 @@ struct BadFraming {
 }
 
 impl fmt::Display for BadFraming {
+    ghost output = { λ e. Some (codes "bad framing at byte " ++ decimal e.at) };
+
     fn fmt<W: fmt::Write>(&self, f: &mut fmt::Formatter<W>) -> fmt::Result {
         write!(f, "bad framing at byte {}", self.at)
     }
@@ -153,6 +155,19 @@ struct Tally {
     differ: u64,
 }
 
+impl fmt::Display for Tally {
+    ghost output = { λ t. Some (decimal t.scripts
+        ++ (codes " scripts, " ++ (decimal t.lines ++ (codes " lines, " ++ (decimal t.differ ++ codes " differ"))))) };
+
+    fn fmt<W: fmt::Write>(&self, f: &mut fmt::Formatter<W>) -> fmt::Result {
+        write!(
+            f,
+            "{} scripts, {} lines, {} differ",
+            self.scripts, self.lines, self.differ
+        )
+    }
+}
+
 // A line of a name and a number.
 fn say<W: Write>(out: &mut W, name: &str, n: u64) -> io::Result<()>
     ensures { OnOk result (Appends (W.contents out.old) (W.contents out.new) (headed name.now n)) }
@@ -246,12 +261,8 @@ fn report<W: Write>(out: &mut W, replayed: Result<Tally, BadFraming>) -> io::Res
     ensures { OnOk result (Appends (W.contents out.old) (W.contents out.new) (told replayed)) }
 {
     match replayed {
-        Ok(t) => writeln!(
-            out,
-            "{} scripts, {} lines, {} differ",
-            t.scripts, t.lines, t.differ
-        ),
-        Err(e) => say(out, "bad framing at byte ", e.at as u64),
+        Ok(t) => writeln!(out, "{t}"),
+        Err(e) => writeln!(out, "{e}"),
     }
 }
 
