@@ -169,6 +169,7 @@ impl fmt::Display for Tally {
 }
 
 // A line of a name and a number.
+#[tactic(auto, using(crate::proofs::Printed::decimal_digits), unfolding(definition::specs::Text::bytes_of))]
 fn say<W: Write>(out: &mut W, name: &str, n: u64) -> io::Result<()>
     ensures { OnOk result (Appends (W.contents out.old) (W.contents out.new) (headed name.now n)) }
 {
@@ -224,6 +225,7 @@ fn counted<W: Write>(
     }
 }
 
+#[tactic(auto, using(crate::proofs::Counting::seen_more))]
 fn replay_one<W: Write>(
     rt: &impl Eprint,
     out: &mut W,
@@ -257,6 +259,7 @@ fn replay<W: Write>(
 
 // ---- the program
 
+#[tactic(auto, using(crate::proofs::Printed::spelling), unfolding(definition::specs::Text::bytes_of))]
 fn report<W: Write>(out: &mut W, replayed: Result<Tally, BadFraming>) -> io::Result<()>
     ensures { OnOk result (Appends (W.contents out.old) (W.contents out.new) (told replayed)) }
 {
