@@ -40,17 +40,12 @@ fn answer<W: Write>(rt: &impl Eprint, script: &[u8], out: &mut W) -> Result<()>
     print_answers(rt, script, &mut answers, out)
 }
 
-// Room for the script and a byte more. It is a function of its own so that a proof takes the length from its type: one that sees the zeros
-// themselves counts them.
-fn script_room() -> [u8; 262145] {
-    [0; 262145]
-}
-
 fn answer_input<R: Read, W: Write>(rt: &impl Eprint, reader: &mut R, out: &mut W) -> Result<()>
     ensures { OnOk result (IfSome (R.remaining reader.old)
         (λ script. Answers script (W.contents out.old) (W.contents out.new))) }
 {
-    let mut script = script_room();
+    // A byte more than a script may have.
+    let mut script = program::room_of::<262145>();
     match program::read_all(reader, &mut script) {
         Ok(n) => answer(rt, &script[..n], out),
         Err(InputError::TooLong) => {

@@ -68,8 +68,13 @@ pub fn run_once(script: &[u8], answer: &mut [u8]) -> Option<usize>
     }
 }
 
-// Room for the answers to 8,191 lines: 512 bytes for each, plus 512. It is a function of its own so that a proof takes the length from its
-// type: one that sees the zeros themselves counts them.
+// Zeros to read into or to write over. It is a function of its own so that a proof takes the length from its type: one that sees the
+// zeros themselves counts them.
+pub fn room_of<const N: usize>() -> [u8; N] {
+    [0; N]
+}
+
+// Room for the answers to 8,191 lines: 512 bytes for each, plus 512.
 pub fn answer_room() -> [u8; 4194304] {
-    [0; 4194304]
+    room_of()
 }

@@ -295,13 +295,8 @@ fn replay_input<R: Read, W: Write>(
     }
 }
 
-// Room for the file and a byte more. It is a function of its own so that a proof takes the length from its type: one that sees the zeros
-// themselves counts them.
-fn file_room() -> [u8; 1048577] {
-    [0; 1048577]
-}
-
 fn main(rt: HostRuntime) -> Result<()> {
-    let mut file = file_room();
+    // A byte more than the file may have.
+    let mut file = program::room_of::<1048577>();
     replay_input(&rt, &mut rt.stdin(), &mut rt.stdout(), &mut file)
 }
