@@ -8,7 +8,7 @@ ghost use Rattle.std.specs.Prelude.{length, OnOk, IfSome};
 ghost use Rattle.jilakkor.specs.Answering.{Answers, Prints};
 
 use anyhow::{Context, Result};
-use program::Input;
+use program::InputError;
 use std::io::{Read, Write};
 
 // Where standard error can't be written there is nowhere left to say so.
@@ -16,7 +16,7 @@ fn complain(rt: &impl Eprint, line: &str) {
     let _ = rt.eprintln(line);
 }
 
-// 0 bytes say that the lines are more than there is room for, and then nothing was run.
+// Where the lines are more than there is room for, nothing is run.
 fn print_answers<W: Write>(
     rt: &impl Eprint,
     script: &[u8],
@@ -25,11 +25,10 @@ fn print_answers<W: Write>(
 ) -> Result<()>
     ensures { OnOk result (Prints script.now (length answers.old) (W.contents out.old) (W.contents out.new)) }
 {
-    let n = program::run_once(script, answers);
-    if n == 0 {
+    let Some(n) = program::run_once(script, answers) else {
         complain(rt, "jilakkor: the script has more than 8191 lines");
         return Ok(());
-    }
+    };
     out.write_all(&answers[..n])
         .context("jilakkor: standard output")
 }
@@ -41,25 +40,19 @@ fn answer<W: Write>(rt: &impl Eprint, script: &[u8], out: &mut W) -> Result<()>
     print_answers(rt, script, &mut answers, out)
 }
 
-// Room for the script and a byte more. It is a function of its own so that a proof takes the length from its type: one that sees the zeros
-// themselves counts them.
-fn script_room() -> [u8; 262145] {
-    [0; 262145]
-}
-
 fn answer_input<R: Read, W: Write>(rt: &impl Eprint, reader: &mut R, out: &mut W) -> Result<()>
     ensures { OnOk result (IfSome (R.remaining reader.old)
         (λ script. Answers script (W.contents out.old) (W.contents out.new))) }
 {
-    let mut script = script_room();
-    let input = program::read_all(reader, &mut script);
-    match input {
-        Input::Whole(n) => answer(rt, &script[..n], out),
-        Input::TooLong => {
+    // A byte more than a script may have.
+    let mut script = program::room_of::<262145>();
+    match program::read_all(reader, &mut script) {
+        Ok(n) => answer(rt, &script[..n], out),
+        Err(InputError::TooLong) => {
             complain(rt, "jilakkor: the script is longer than 262144 bytes");
             Ok(())
         }
-        Input::Failed(error) => Err(error).context("jilakkor: standard input"),
+        Err(InputError::Failed(error)) => Err(error).context("jilakkor: standard input"),
     }
 }
 

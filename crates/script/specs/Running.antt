@@ -26,15 +26,13 @@ use Rattle.definition.specs.Torn.{sound}
 use Rattle.definition.specs.World.{World, no_row}
 use Rattle.exam.specs.Promise.{State, state_with, world_of}
 use Rattle.text.specs.Writing.{Wrote}
-use Rattle.script.specs.declared.Name.{Name}
 use Rattle.script.specs.declared.Running.{Running as RunningOf}
 use Rattle.script.specs.declared.Turn.{Turn as TurnOf}
 
--- the bytes of a name stand in front
-pub record Names (name : List ℕ) (r : Name) : Type 0 where
-  pub bytes : take r.1 r.0 ≡ name
-  pub long : length r.0 ≡ 6
-  pub short : r.1 ≤ 6
+-- the bytes are the name, of at most 6
+pub record Names (name r : List ℕ) : Type 0 where
+  pub bytes : r ≡ name
+  pub short : length r ≤ 6
 
 -- the loans, whole
 pub record Loans : Type 0 where

@@ -33,40 +33,38 @@ use lines::{Ask, Op};
 
 // ---- what is printed
 
-// A name with spaces behind it, and how many bytes it has.
-#[derive(Clone, Copy)]
-pub struct Name(pub [u8; 6], pub usize);
-
-fn ask_name(op: Ask) -> Name
-    ensures { Names (ask_name op) result }
+#[tactic(auto, unfolding(definition::specs::Text::bytes_of))]
+fn ask_name(op: Ask) -> &'static [u8]
+    ensures { Names (ask_name op) result.now }
 {
     match op {
-        Ask::Alloc => Name(*b"alloc ", 5),
-        Ask::Take => Name(*b"take  ", 4),
-        Ask::Split => Name(*b"split ", 5),
-        Ask::Free => Name(*b"free  ", 4),
-        Ask::Zero => Name(*b"zero  ", 4),
-        Ask::Dirty => Name(*b"dirty ", 5),
-        Ask::Find => Name(*b"find  ", 4),
-        Ask::Queue => Name(*b"queue ", 5),
-        Ask::Fill => Name(*b"fill  ", 4),
-        Ask::Copy => Name(*b"copy  ", 4),
-        Ask::Pcopy => Name(*b"pcopy ", 5),
-        Ask::Round => Name(*b"round ", 5),
-        Ask::Lend => Name(*b"lend  ", 4),
-        Ask::Back => Name(*b"back  ", 4),
-        Ask::Low => Name(*b"low   ", 3),
+        Ask::Alloc => b"alloc",
+        Ask::Take => b"take",
+        Ask::Split => b"split",
+        Ask::Free => b"free",
+        Ask::Zero => b"zero",
+        Ask::Dirty => b"dirty",
+        Ask::Find => b"find",
+        Ask::Queue => b"queue",
+        Ask::Fill => b"fill",
+        Ask::Copy => b"copy",
+        Ask::Pcopy => b"pcopy",
+        Ask::Round => b"round",
+        Ask::Lend => b"lend",
+        Ask::Back => b"back",
+        Ask::Low => b"low",
     }
 }
 
-fn op_name(op: Op) -> Name
-    ensures { Names (name_of op) result }
+#[tactic(auto, unfolding(definition::specs::Text::bytes_of))]
+fn op_name(op: Op) -> &'static [u8]
+    ensures { Names (name_of op) result.now }
 {
     match op {
-        Op::Bad => Name(*b"bad   ", 3),
-        Op::Region => Name(*b"region", 6),
-        Op::Boot => Name(*b"boot  ", 4),
-        Op::Stats => Name(*b"stats ", 5),
+        Op::Bad => b"bad",
+        Op::Region => b"region",
+        Op::Boot => b"boot",
+        Op::Stats => b"stats",
         Op::Call(a) => ask_name(a),
     }
 }
@@ -76,10 +74,7 @@ fn put_op(out: &mut [u8], at: usize, op: Op) -> usize
     ensures wrote { Wrote out.old at (name_of op) out.new result }
     ensures upper_bound { result ≤ at + 6 }
 {
-    let name = op_name(op);
-    let bytes = name.0;
-    let len = name.1;
-    text::put_text(out, at, &bytes[..len])
+    text::put_text(out, at, op_name(op))
 }
 
 // "op, 0, address, bytes", or the refusal's number in place of 0: a name of at most 6 bytes, three numbers of at most 20 digits, and four

@@ -2,11 +2,15 @@
 -- those that were replayed before it.
 use Prim.Native.Nat.{ℕ, ◌+◌, ◌-◌, ◌≤◌}
 use mathlib.Core.Bool.{true}
+use lib.Dec.{eqb}
 use mathlib.Core.List.{List, ◌++◌, append_assoc}
-use mathlib.Core.Path.{◌≡◌, ap, sym, ◌∙◌}
+use mathlib.Core.Path.{◌≡◌, refl, ap, sym, ◌∙◌}
 use native.Mathlib.Omega.{arith}
 use lib.ListN.{length, take, drop, length-append, length-drop, take-append-drop}
-use lib.Seq.{length-take-le, drop-drop, take_at}
+use lib.Seq.{length-take-le, drop-drop, take_all, take_at}
+use Rattle.std.specs.List.{starts_with}
+use Rattle.std.proofs.lemmas.Bool.Decides.{Decides-eqb}
+use Rattle.std.proofs.lemmas.Slice.Eq.{starts_is}
 use Rattle.definition.specs.Cases.{Case}
 use Rattle.definition.specs.Script.{lines}
 use Rattle.definition.specs.Text.{bytes_of, digits_of}
@@ -14,8 +18,7 @@ use Rattle.record.specs.Records.{with_bytes}
 use Rattle.text.specs.Writing.{Wrote}
 use Rattle.vectors.specs.declared.Heading.{Heading}
 use Rattle.vectors.specs.declared.Places.{Places}
-use Rattle.vectors.specs.declared.Tally.{Tally}
-use Rattle.vectors.specs.Framing.{headed, tallied, part, case_at, Spelt, Heads, Frames}
+use Rattle.vectors.specs.Framing.{headed, part, case_at, Spelt, Heads, Frames}
 
 pub spelt : {out text out' : List ℕ} {r : ℕ} → Wrote out 0 text out' r → r ≤ length out → Spelt text out' r
 unfolding with_bytes
@@ -30,11 +33,6 @@ spelt {out} {text} {out'} {r} w h =
 
 pub as_headed : (name : List ℕ) (n : ℕ) → (name ++ digits_of n) ++ bytes_of "\n" ≡ headed name n
 as_headed name n = append_assoc name (digits_of n) (bytes_of "\n")
-
-pub as_tallied : (t : Tally)
-    → ((digits_of t.scripts ++ (bytes_of " scripts, " ++ digits_of t.lines)) ++ (bytes_of " lines, " ++ digits_of t.differ)) ++ bytes_of " differ\n"
-    ≡ tallied t
-as_tallied t = simp append_assoc
 
 -- ---- parts of the file
 
@@ -52,14 +50,17 @@ front file text a e h k eq =
     let long : length text ≡ e - a = omega (arith, simp (length-append, length-drop) at (ap length eq)) in
     rw eq (take_at text (drop e file) (e - a) long)
 
-pub heads : {file name line : List ℕ} {at k v : ℕ} → Spelt (headed name v) line k → at + k ≤ length file → take k line ≡ part file at (at + k)
-    → Heads file at name (record { found = true; value = v; next = at + k })
+pub heads : {file name line : List ℕ} {at k v : ℕ} → Spelt (headed name v) line k → at ≤ length file
+    → starts_with eqb (take (length file - at) (drop at file)) (take k line) ≡ true → Heads file at name (record { value = v; next = at + k })
 unfolding bytes_of
-heads {file} {name} {line} {at} {k} {v} s fits same =
+heads {file} {name} {line} {at} {k} {v} s fits begins =
+    let whole : take (length file - at) (drop at file) ≡ drop at file = take_all _ _ (simp length-drop (omega arith)) in
+    let begun = (starts_is Decides-eqb (drop at file) (take k line) true (rw whole at (sym begins))).0 refl in
+    let found : drop at file ≡ headed name v ++ drop (at + k) file = rw (← s.long, s.bytes, drop-drop) at begun in
     record {
-      bytes = parted file at (at + k) (omega arith) ∙ ap (λ l. l ++ drop (at + k) file) (sym same ∙ s.bytes);
+      bytes = found;
       after = omega (arith, s.long, simp length-append at (ap length s.bytes));
-      within = fits;
+      within = omega (arith, s.long, simp (length-append, length-drop) at (ap length begun));
     }
 
 -- ---- a case
@@ -70,7 +71,7 @@ chain h s k o e ha hb hc hd = rw (ha, hb, hc, hd) (simp append_assoc)
 -- where the headings h, at `at`, and a, at `e`, say that a case lies
 abbrev pub places_by : Heading → ℕ → Heading → Places
 places_by h e a =
-    record { framed = true; lines = h.value; script = h.next; end = e; answers = a.next; next = a.next + a.value }
+    record { lines = h.value; script = h.next; end = e; answers = a.next; next = a.next + a.value }
 
 pub frames : (file : List ℕ) (at e : ℕ) (h a : Heading) → Heads file at (bytes_of "script,") h → Heads file e (bytes_of "answers,") a
     → h.value ≡ length (lines (part file h.next e)) → h.value ≤ 8191 → h.next ≤ e → a.next + a.value ≤ length file

@@ -1,11 +1,12 @@
 -- Scripts with the answers that are expected of them, one after another in a file, and what a replay of the file counts. A reader takes from `Replayed` what
 -- the line `N scripts, M lines, D differ` says: the file is N cases, framed, and of these D print something else than the file has.
-use Rattle.std.specs.Prelude.{ℕ, ◌+◌, ◌-◌, ◌*◌, ◌≤◌, ◌<◌, Bool, true, not, cond, List, [], ◌∷◌, ◌++◌, ◌≡◌, length, take, drop}
+use Rattle.std.specs.Prelude.{ℕ, ◌+◌, ◌-◌, ◌*◌, ◌≤◌, ◌<◌, Bool, not, List, [], ◌∷◌, ◌++◌, ◌≡◌, length, take, drop, Result, Ok, Err}
 use Rattle.definition.specs.Basics.{bit}
 use Rattle.definition.specs.Cases.{Case}
 use Rattle.definition.specs.Script.{lines, same_bytes}
 use Rattle.definition.specs.Text.{bytes_of, digits_of}
 use Rattle.program.specs.Once.{printed}
+use Rattle.vectors.specs.declared.BadFraming.{BadFraming}
 use Rattle.vectors.specs.declared.Heading.{Heading}
 use Rattle.vectors.specs.declared.Places.{Places}
 use Rattle.vectors.specs.declared.Tally.{Tally}
@@ -61,8 +62,9 @@ tallied t =
     ++ (bytes_of " scripts, " ++ (digits_of t.lines ++ (bytes_of " lines, " ++ (digits_of t.differ ++ bytes_of " differ\n"))))
 
 -- the one line at the end
-abbrev pub told : Tally → List ℕ
-told t = cond t.framed (tallied t) (headed (bytes_of "bad framing at byte ") t.at)
+abbrev pub told : Result Tally BadFraming → List ℕ
+told (Ok t) = tallied t
+told (Err e) = headed (bytes_of "bad framing at byte ") e.at
 
 -- ---- on the way
 
@@ -92,7 +94,6 @@ pub record Frames (file : List ℕ) (at : ℕ) (p : Places) : Type 0 where
 
 -- what was replayed up to `at`; the rest keeps the numbers small
 pub record Seen (file : List ℕ) (t : Tally) : Type 0 where
-  pub framed : t.framed ≡ true
   pub replayed : Replayed (take t.at file) t
   pub within : t.at ≤ length file
   pub scripts : t.scripts ≤ t.at
@@ -102,4 +103,4 @@ pub record Seen (file : List ℕ) (t : Tally) : Type 0 where
 -- one case more
 abbrev pub counted : Tally → (lines next : ℕ) → Bool → Tally
 counted t lines next same =
-    record { framed = true; at = next; scripts = t.scripts + 1; lines = t.lines + lines; differ = t.differ + bit (not same) }
+    record { at = next; scripts = t.scripts + 1; lines = t.lines + lines; differ = t.differ + bit (not same) }

@@ -4,38 +4,47 @@
 // Where it can't be read, or the count can't be written, a line there says so and the exit status is 1.
 #![tactic(auto)]
 
-ghost use Rattle.std.specs.Prelude.{◌+◌, ◌≤◌, ◌<◌, true, false, not, ◌≡◌, length, OnOk};
+ghost use Rattle.std.specs.Prelude.{◌+◌, ◌≤◌, ◌<◌, not, ◌≡◌, ◌++◌, length, OnOk, IfOk, IfSome, Some, codes, decimal};
 ghost use Rattle.std.specs.Io.KnownBytes.{Appends};
 ghost use Rattle.definition.specs.Basics.{bit};
 ghost use Rattle.definition.specs.Script.{room, same_bytes};
 ghost use Rattle.program.specs.Once.{printed};
-ghost use Rattle.vectors.specs.Framing.{headed, tallied, told, Spelt, Heads, Frames, Seen, Replayed, counted as counted_def};
+ghost use Rattle.vectors.specs.Framing.{headed, told, Spelt, Heads, Frames, Seen, Replayed, counted as counted_def};
 
 use anyhow::{Context, Result};
-use program::Input;
+use program::InputError;
+use std::error::Error;
+use std::fmt;
 use std::io::{self, Read, Write};
 
 // ---- the framing
+
+// The place where the file shows that it is not framed.
+#[derive(Clone, Copy, Debug)]
+struct BadFraming {
+    at: usize,
+}
+
+impl fmt::Display for BadFraming {
+    ghost output = { λ e. Some (codes "bad framing at byte " ++ decimal e.at) };
+
+    fn fmt<W: fmt::Write>(&self, f: &mut fmt::Formatter<W>) -> fmt::Result {
+        write!(f, "bad framing at byte {}", self.at)
+    }
+}
+
+impl Error for BadFraming {}
 
 // What the digits from a place on say, as far as that is below 10^9. It is spelt again and compared, so nothing rests on it.
 fn number_at(file: &[u8], at: usize) -> u64
     ensures { result < 1000000000 }
 {
     let mut v: u64 = 0;
-    let mut i = at;
-    while i < file.len() {
-        let b = file[i];
-        if b < 48 {
-            return v;
+    for b in file.iter().skip(at) {
+        if !b.is_ascii_digit() || v >= 100000000 {
+            break;
         }
-        if b > 57 {
-            return v;
-        }
-        if v >= 100000000 {
-            return v;
-        }
-        v = v * 10 + (b - 48) as u64;
-        i += 1;
+        v = v * 10 + u64::from(b - b'0');
     }
     v
 }
@@ -49,54 +58,27 @@ fn put_heading(line: &mut [u8], name: &[u8], n: u64) -> usize
     text::put_text(line, k, b"\n")
 }
 
-// Whether two slices hold the same bytes.
-fn same(a: &[u8], b: &[u8]) -> bool
-    ensures only { result ≡ true → a.now ≡ b.now }
-    ensures always { a.now ≡ b.now → result ≡ true }
-{
-    a == b
-}
-
 // A heading, and the place behind it.
 #[derive(Clone, Copy)]
 struct Heading {
-    found: bool,
     value: usize,
     next: usize,
 }
 
-fn no_heading() -> Heading
-    ensures { result.found ≡ false }
-{
-    Heading {
-        found: false,
-        value: 0,
-        next: 0,
-    }
-}
-
-fn heading_at(file: &[u8], at: usize, name: &[u8]) -> Heading
+fn heading_at(file: &[u8], at: usize, name: &[u8]) -> Option<Heading>
     requires { (at ≤ length file.now) × (length name.now ≤ 8) }
-    ensures { result.found ≡ true → Heads file.now at name.now result }
+    ensures { IfSome result (Heads file.now at name.now) }
 {
-    if file.len() - at < name.len() {
-        return no_heading();
-    }
     let value = number_at(file, at + name.len());
     let mut line = [0u8; 32];
     let k = put_heading(&mut line, name, value);
-    if file.len() - at < k {
-        return no_heading();
+    if !file[at..].starts_with(&line[..k]) {
+        return None;
     }
-    let next = at + k;
-    if !same(&line[..k], &file[at..next]) {
-        return no_heading();
-    }
-    Heading {
-        found: true,
+    Some(Heading {
         value: value as usize,
-        next,
-    }
+        next: at + k,
+    })
 }
 
 // The place behind so many line feeds, or the end.
@@ -104,24 +86,21 @@ fn skip_lines(file: &[u8], at: usize, count: usize) -> usize
     requires { at ≤ length file.now }
     ensures { (at ≤ result) × (result ≤ length file.now) }
 {
-    let mut i = at;
     let mut left = count;
-    while i < file.len() {
+    for i in at..file.len() {
         if left == 0 {
             return i;
         }
         if file[i] == b'\n' {
             left -= 1;
         }
-        i += 1;
     }
-    i
+    file.len()
 }
 
-// Where a script and its answers lie in the file. Where the file is not framed so, `next` is the place where that shows.
+// Where a script and its answers lie in the file.
 #[derive(Clone, Copy)]
 struct Places {
-    framed: bool,
     lines: usize,
     script: usize,
     end: usize,
@@ -129,51 +108,31 @@ struct Places {
     next: usize,
 }
 
-fn unframed(at: usize) -> Places
-    ensures { result.framed ≡ false }
-{
-    Places {
-        framed: false,
-        lines: 0,
-        script: 0,
-        end: 0,
-        answers: 0,
-        next: at,
-    }
-}
-
-fn next_case(file: &[u8], at: usize) -> Places
+fn next_case(file: &[u8], at: usize) -> Result<Places, BadFraming>
     requires { at ≤ length file.now }
-    ensures { result.framed ≡ true → Frames file.now at result }
+    ensures { IfOk result (Frames file.now at) }
 {
-    let h = heading_at(file, at, b"script,");
-    if !h.found {
-        return unframed(at);
-    }
+    let h = heading_at(file, at, b"script,").ok_or(BadFraming { at })?;
     if h.value > 8191 {
-        return unframed(at);
+        return Err(BadFraming { at });
     }
     let script = h.next;
     let end = skip_lines(file, script, h.value);
     if lines::count_lines(&file[script..end]) != h.value {
-        return unframed(script);
+        return Err(BadFraming { at: script });
     }
-    let a = heading_at(file, end, b"answers,");
-    if !a.found {
-        return unframed(end);
-    }
+    let a = heading_at(file, end, b"answers,").ok_or(BadFraming { at: end })?;
     let answers = a.next;
     if file.len() - answers < a.value {
-        return unframed(answers);
+        return Err(BadFraming { at: answers });
     }
-    Places {
-        framed: true,
+    Ok(Places {
         lines: h.value,
         script,
         end,
         answers,
         next: answers + a.value,
-    }
+    })
 }
 
 // ---- the replay
@@ -183,28 +142,38 @@ fn agrees(script: &[u8], expected: &[u8], answers: &mut [u8]) -> bool
     requires { room script.now ≤ length answers.old }
     ensures { result ≡ same_bytes (printed script.now) expected.now }
 {
-    let n = program::run_once(script, answers);
-    same(&answers[..n], expected)
+    let n = program::run_once(script, answers).unwrap();
+    &answers[..n] == expected
 }
 
-// What was replayed so far, up to `at`. Where the file is not framed, `at` is the place where that shows.
-#[derive(Clone, Copy)]
+// What was replayed so far, up to `at`.
+#[derive(Clone, Copy, Default)]
 struct Tally {
-    framed: bool,
     at: usize,
     scripts: u64,
     lines: u64,
     differ: u64,
 }
 
+impl fmt::Display for Tally {
+    ghost output = { λ t. Some (decimal t.scripts
+        ++ (codes " scripts, " ++ (decimal t.lines ++ (codes " lines, " ++ (decimal t.differ ++ codes " differ"))))) };
+
+    fn fmt<W: fmt::Write>(&self, f: &mut fmt::Formatter<W>) -> fmt::Result {
+        write!(
+            f,
+            "{} scripts, {} lines, {} differ",
+            self.scripts, self.lines, self.differ
+        )
+    }
+}
+
 // A line of a name and a number.
-fn say<W: Write>(out: &mut W, name: &[u8], n: u64) -> io::Result<()>
-    requires { length name.now ≤ 40 }
+#[tactic(auto, using(crate::proofs::Printed::decimal_digits), unfolding(definition::specs::Text::bytes_of))]
+fn say<W: Write>(out: &mut W, name: &str, n: u64) -> io::Result<()>
     ensures { OnOk result (Appends (W.contents out.old) (W.contents out.new) (headed name.now n)) }
 {
-    let mut line = [0u8; 64];
-    let k = put_heading(&mut line, name, n);
-    out.write_all(&line[..k])
+    writeln!(out, "{name}{n}")
 }
 
 // A line on standard error. Where it can't be written there is nowhere left to say so.
@@ -228,7 +197,7 @@ fn differences<W: Write>(
         return before;
     }
     if before < 10 {
-        if let Err(error) = say(out, b"differs at script ", script) {
+        if let Err(error) = say(out, "differs at script ", script) {
             complain(rt, &error);
         }
     }
@@ -249,7 +218,6 @@ fn counted<W: Write>(
     let scripts = t.scripts + 1;
     let differ = differences(rt, out, t.differ, scripts, is_same);
     Tally {
-        framed: true,
         at: next,
         scripts,
         lines: t.lines + lines as u64,
@@ -257,83 +225,56 @@ fn counted<W: Write>(
     }
 }
 
+#[tactic(auto, using(crate::proofs::Counting::seen_more))]
 fn replay_one<W: Write>(
     rt: &impl Eprint,
     out: &mut W,
     file: &[u8],
     answers: &mut [u8],
     t: Tally,
-) -> Tally
+) -> Result<Tally, BadFraming>
     requires { (length file.now ≤ 1048576) × (length answers.old ≡ 4194304) × Seen file.now t }
-    ensures { result.framed ≡ true → Seen file.now result × (t.at < result.at) }
+    ensures { IfOk result (λ new. Seen file.now new × (t.at < new.at)) }
 {
-    let p = next_case(file, t.at);
-    let next = p.next;
-    if !p.framed {
-        return Tally {
-            framed: false,
-            at: next,
-            scripts: t.scripts,
-            lines: t.lines,
-            differ: t.differ,
-        };
-    }
-    let script = p.script;
-    let end = p.end;
-    let from = p.answers;
-    let is_same = agrees(&file[script..end], &file[from..next], answers);
-    counted(rt, out, t, p.lines, next, is_same)
+    let p = next_case(file, t.at)?;
+    let is_same = agrees(&file[p.script..p.end], &file[p.answers..p.next], answers);
+    Ok(counted(rt, out, t, p.lines, p.next, is_same))
 }
 
-fn replay<W: Write>(rt: &impl Eprint, out: &mut W, file: &[u8], answers: &mut [u8]) -> Tally
+fn replay<W: Write>(
+    rt: &impl Eprint,
+    out: &mut W,
+    file: &[u8],
+    answers: &mut [u8],
+) -> Result<Tally, BadFraming>
     requires { (length file.now ≤ 1048576) × (length answers.old ≡ 4194304) }
-    ensures { result.framed ≡ true → Replayed file.now result }
+    ensures { IfOk result (Replayed file.now) }
 {
-    let mut t = Tally {
-        framed: true,
-        at: 0,
-        scripts: 0,
-        lines: 0,
-        differ: 0,
-    };
+    let mut t = Tally::default();
     while t.at < file.len() {
-        t = replay_one(rt, out, file, answers, t);
-        if !t.framed {
-            return t;
-        }
+        t = replay_one(rt, out, file, answers, t)?;
     }
-    t
+    Ok(t)
 }
 
 // ---- the program
 
-fn put_tally(line: &mut [u8], t: Tally) -> usize
-    requires { 128 ≤ length line.old }
-    ensures { Spelt (tallied t) line.new result }
+#[tactic(auto, using(crate::proofs::Printed::spelling), unfolding(definition::specs::Text::bytes_of))]
+fn report<W: Write>(out: &mut W, replayed: Result<Tally, BadFraming>) -> io::Result<()>
+    ensures { OnOk result (Appends (W.contents out.old) (W.contents out.new) (told replayed)) }
 {
-    let k = text::put_number(line, 0, t.scripts);
-    let k = text::put_named(line, k, b" scripts, ", t.lines);
-    let k = text::put_named(line, k, b" lines, ", t.differ);
-    text::put_text(line, k, b" differ\n")
-}
-
-fn report<W: Write>(out: &mut W, t: Tally) -> io::Result<()>
-    ensures { OnOk result (Appends (W.contents out.old) (W.contents out.new) (told t)) }
-{
-    if !t.framed {
-        return say(out, b"bad framing at byte ", t.at as u64);
+    match replayed {
+        Ok(t) => writeln!(out, "{t}"),
+        Err(e) => writeln!(out, "{e}"),
     }
-    let mut line = [0u8; 128];
-    let k = put_tally(&mut line, t);
-    out.write_all(&line[..k])
 }
 
 fn replay_all<W: Write>(rt: &impl Eprint, out: &mut W, file: &[u8]) -> Result<()>
     requires { length file.now ≤ 1048576 }
 {
     let mut answers = program::answer_room();
-    let t = replay(rt, out, file, &mut answers);
-    report(out, t).context("vectors: standard output")
+    let replayed = replay(rt, out, file, &mut answers);
+    report(out, replayed).context("vectors: standard output")
 }
 
 fn replay_input<R: Read, W: Write>(
@@ -344,24 +285,18 @@ fn replay_input<R: Read, W: Write>(
 ) -> Result<()>
     requires { length file.old ≤ 1048577 }
 {
-    let input = program::read_all(reader, file);
-    match input {
-        Input::Whole(n) => replay_all(rt, out, &file[..n]),
-        Input::TooLong => {
+    match program::read_all(reader, file) {
+        Ok(n) => replay_all(rt, out, &file[..n]),
+        Err(InputError::TooLong) => {
             let _ = eprintln!(rt; "vectors: the file is longer than 1048576 bytes");
             Ok(())
         }
-        Input::Failed(error) => Err(error).context("vectors: standard input"),
+        Err(InputError::Failed(error)) => Err(error).context("vectors: standard input"),
     }
 }
 
-// Room for the file and a byte more. It is a function of its own so that a proof takes the length from its type: one that sees the zeros
-// themselves counts them.
-fn file_room() -> [u8; 1048577] {
-    [0; 1048577]
-}
-
 fn main(rt: HostRuntime) -> Result<()> {
-    let mut file = file_room();
+    // A byte more than the file may have.
+    let mut file = program::room_of::<1048577>();
     replay_input(&rt, &mut rt.stdin(), &mut rt.stdout(), &mut file)
 }

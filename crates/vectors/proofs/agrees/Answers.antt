@@ -1,7 +1,9 @@
--- `vectors::agrees` meets its contract. What is compared is what the run left at the front of the answers.
-use Rattle.vectors.proofs.Counting.{answered, same_as}
+-- What is compared is what the run left at the front of the answers.
+use Rattle.std.proofs.Common.{◌∙◌}
+use Rattle.vectors.proofs.Counting.{answered, same_is}
 use Rattle.vectors.proofs.agrees.Goals as goal
 
 pub returns : goal.returns
 returns c =
-    rw (answered c.run_once-n.ensures c.requires) at (same_as c.same.result _ _ c.same.ensures.only c.same.ensures.always)
+    let ran = rw c.unwrap-n.ensures at c.run_once.ensures in
+    (rw (answered ran c.requires) at c.eq.ensures) ∙ same_is _ _

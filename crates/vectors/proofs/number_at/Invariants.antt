@@ -1,10 +1,6 @@
--- `vectors::number_at` meets its contract. Each turn passes one digit, and what it says stays below 10^9.
-use Prim.Native.Nat.{◌-◌, ◌<◌}
-use lib.ListN.{length}
+-- Each turn passes one digit, and what it says stays below 10^9.
+use Rattle.std.proofs.Common.{◌<◌}
 use Rattle.vectors.proofs.number_at.Given as goal
 
-abbrev pub invariant-loop-i : goal.invariant-loop-i
-invariant-loop-i l = l.v < 1000000000
-
-abbrev pub decreases-loop-i : goal.decreases-loop-i
-decreases-loop-i l = length l.file - l.i
+abbrev pub invariant-loop-b : goal.invariant-loop-b
+invariant-loop-b l = l.v < 1000000000

@@ -1,9 +1,0 @@
--- A case that is framed joins those before it.
-use borrow.Author.Tests.{not-false}
-use Rattle.vectors.proofs.Counting.{seen_more}
-use Rattle.vectors.proofs.replay_one.Goals as goal
-
-pub returns : goal.returns
-returns g c =
-    let f = c.next_case-p.ensures (not-false _ c.if-not-p.false) in
-    λ _. rw c.counted.ensures (seen_more c.agrees-is_same.result c.requires.2 f c.agrees-is_same.ensures, f.after)
