@@ -1,11 +1,12 @@
 -- What the run of a script keeps between lines, and what it promises: `Stands`, that this is definition's `RunningOn`; `Turns`, of one line; `Ran`, of a whole
 -- script: the bytes that it writes and all that it leaves in the loans. `Sure` is what a line asks for: from an accepted boot on, the
 -- loans are sound.
-use Rattle.std.specs.Prelude.{ℕ, ◌+◌, ◌≤◌, ◌<◌, Bool, true, false, List, [], ◌∷◌, ◌++◌, ◌≡◌, get_or, length, take, drop, replicate}
+use Rattle.std.specs.Prelude.{ℕ, ◌+◌, ◌≤◌, ◌<◌, Bool, true, false, List, [], ◌∷◌, ◌++◌, Ok, Err, ◌≡◌, get_or, length, take, drop, replicate}
 use Rattle.definition.specs.declared.MemoryRegion.{MemoryRegion}
 use Rattle.definition.specs.Board.{Board, standard}
 use Rattle.definition.specs.Boot.{counters_at_boot}
 use Rattle.definition.specs.Calls.{Stats}
+use Rattle.definition.specs.Refusal.{number_of}
 use Rattle.definition.specs.Script.{
   AddRegion,
   Ask,
@@ -16,6 +17,7 @@ use Rattle.definition.specs.Script.{
   command_on,
   line_on,
   kind_of,
+  line_of,
   output_of,
   read_line,
   room,
@@ -24,10 +26,9 @@ use Rattle.definition.specs.Script.{
 use Rattle.definition.specs.Text.{bytes_of}
 use Rattle.definition.specs.Torn.{sound}
 use Rattle.definition.specs.World.{World, no_row}
-use Rattle.exam.specs.Promise.{State, state_with, world_of}
+use Rattle.exam.specs.Promise.{Answer, State, state_with, world_of}
 use Rattle.text.specs.Writing.{Wrote}
 use Rattle.script.specs.declared.Running.{Running as RunningOf}
-use Rattle.script.specs.declared.Turn.{Turn as TurnOf}
 
 -- the bytes are the name, of at most 6
 pub record Names (name r : List ℕ) : Type 0 where
@@ -61,8 +62,13 @@ pub record Turn : Type 0 where
 abbrev pub running_with : RunningOf → List ℕ → Running
 running_with r ws = record { map = r.map; count = r.count; booted = r.booted; state = state_with r.counters ws }
 
-abbrev pub turn_with : TurnOf → List ℕ → Turn
-turn_with t ws = record { running = running_with t.running ws; at = t.at }
+abbrev pub turn_with : RunningOf → List ℕ → ℕ → Turn
+turn_with r ws n = record { running = running_with r ws; at = n }
+
+-- the line of an answer under a name: a refusal has its number and two zeros
+abbrev pub line_by : List ℕ → Answer → List ℕ
+line_by name (Ok y) = line_of name 0 y.address y.bytes
+line_by name (Err r) = line_of name (number_of r) 0 0
 
 -- what is kept, with the loans, is the run's; of the map the first eight entries and their number
 pub record Stands (r : Running) (l : Loans) (x : RunningOn) : Type 0 where
@@ -89,15 +95,15 @@ pub record Turned (t : TurnOn) (out : List ℕ) (at : ℕ) (l' : Loans) (out' : 
   pub wrote : Wrote out at t.text out' r.at
 
 -- a text of at most 512 bytes, and at most one entry more
-abbrev pub Bounded : RunningOf → ℕ → TurnOf → Type 0
-Bounded r at t = (t.at ≤ at + 512) × (t.running.count ≤ r.count + 1)
+abbrev pub Bounded : RunningOf → ℕ → RunningOf → ℕ → Type 0
+Bounded r at r' n = (n ≤ at + 512) × (r'.count ≤ r.count + 1)
 
 -- `bad,17,0,0`, whatever the loans
 abbrev pub Bad : Running → List ℕ → ℕ → List ℕ → Turn → Type 0
 Bad r out at out' t = (l : Loans) (x : RunningOn) → Stands r l x → Turned (bad_on x) out at l out' t
 
-abbrev pub BadAny : RunningOf → List ℕ → ℕ → List ℕ → TurnOf → Type 0
-BadAny r out at out' t = (ws : List ℕ) → Bad (running_with r ws) out at out' (turn_with t ws)
+abbrev pub BadAny : List ℕ → ℕ → List ℕ → ℕ → Type 0
+BadAny out at out' n = (r : RunningOf) (ws : List ℕ) → Bad (running_with r ws) out at out' (turn_with r ws n)
 
 -- the entry of a map that a line's numbers are
 abbrev pub entry_of : (ℕ → ℕ) → MemoryRegion
@@ -123,18 +129,18 @@ module _ (board : Board) where
   abbrev pub Adds : Running → (ℕ → ℕ) → List ℕ → ℕ → List ℕ → Turn → Type 0
   Adds r n out at out' t = (l : Loans) → Does (AddRegion (entry_of n)) (bytes_of "region") r l out at l out' t
 
-  abbrev pub AddsAny : RunningOf → (ℕ → ℕ) → List ℕ → ℕ → List ℕ → TurnOf → Type 0
-  AddsAny r n out at out' t = (ws : List ℕ) → Adds (running_with r ws) n out at out' (turn_with t ws)
+  abbrev pub AddsAny : RunningOf → (ℕ → ℕ) → List ℕ → ℕ → List ℕ → RunningOf → ℕ → Type 0
+  AddsAny r k out at out' r' n = (ws : List ℕ) → Adds (running_with r ws) k out at out' (turn_with r' ws n)
 
   -- from an accepted boot on, what is kept and the loans pass the torn sheet
   abbrev pub Sure : Running → Loans → Type 0
   Sure r l = r.booted ≡ true → sound board (world_by r.state l) ≡ true
 
   -- the statistics, for any words and loans that are sure, whose records are bytes
-  abbrev pub TellsAny : RunningOf → List ℕ → ℕ → List ℕ → TurnOf → Type 0
-  TellsAny r out at out' t =
+  abbrev pub TellsAny : RunningOf → List ℕ → ℕ → List ℕ → ℕ → Type 0
+  TellsAny r out at out' n =
       (ws : List ℕ) (l : Loans) → Sure (running_with r ws) l → ((i : ℕ) → get_or l.records i 0 < 256)
-      → Does (Ask Stats) (bytes_of "stats") (running_with r ws) l out at l out' (turn_with t ws)
+      → Does (Ask Stats) (bytes_of "stats") (running_with r ws) l out at l out' (turn_with r ws n)
 
   abbrev pub Turns : Running → Loans → (line out : List ℕ) → ℕ → Loans → List ℕ → Turn → Type 0
   Turns r l line out at l' out' t = (x : RunningOn) → Stands r l x → Turned (line_on board x (read_line line)) out at l' out' t

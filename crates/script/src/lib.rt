@@ -3,7 +3,7 @@
 #![tactic(auto)]
 
 ghost use Rattle.std.specs.Prelude.{true, ◌≡◌, ◌+◌, ◌≤◌, ◌<◌, ◌^◌, length, get_or, replicate};
-ghost use Rattle.definition.specs.Script.{BootNow, Ask as Asks, line_of, room};
+ghost use Rattle.definition.specs.Script.{BootNow, Ask as Asks, room};
 ghost use Rattle.exam.specs.Making.{Few};
 ghost use Rattle.words.specs.Words.{Long, state_words};
 ghost use Rattle.text.specs.Writing.{Wrote};
@@ -20,6 +20,7 @@ ghost use Rattle.script.specs.Running.{
   Does,
   Sure,
   Turns,
+  line_by,
   RanAll,
   Ran,
   running_with,
@@ -27,7 +28,7 @@ ghost use Rattle.script.specs.Running.{
 };
 
 use address::PhysAddr;
-use definition::{Counters, MemoryRegion, MemoryRegionKind};
+use definition::{Counters, MemoryRegion, MemoryRegionKind, Refusal};
 use exam::Answer;
 use lines::{Ask, Op};
 
@@ -77,17 +78,21 @@ fn put_op(out: &mut [u8], at: usize, op: Op) -> usize
     text::put_text(out, at, op_name(op))
 }
 
-// "op, 0, address, bytes", or the refusal's number in place of 0: a name of at most 6 bytes, three numbers of at most 20 digits, and four
+// "op, 0, address, bytes", or the refusal's number and two zeros: a name of at most 6 bytes, three numbers of at most 20 digits, and four
 // marks.
 fn put_line(out: &mut [u8], at: usize, op: Op, y: Answer) -> usize
     requires { at + 70 ≤ length out.old }
-    ensures wrote { Wrote out.old at (line_of (name_of op) y.number y.address y.bytes) out.new result }
+    ensures wrote { Wrote out.old at (line_by (name_of op) y) out.new result }
     ensures upper_bound { result ≤ at + 70 }
 {
+    let (number, address, bytes) = match y {
+        Ok(reply) => (0, reply.address, reply.bytes),
+        Err(refusal) => (refusal.number() as u64, 0, 0),
+    };
     let next = put_op(out, at, op);
-    let next = text::put_named(out, next, b",", y.number as u64);
-    let next = text::put_named(out, next, b",", y.address);
-    let next = text::put_named(out, next, b",", y.bytes);
+    let next = text::put_named(out, next, b",", number);
+    let next = text::put_named(out, next, b",", address);
+    let next = text::put_named(out, next, b",", bytes);
     text::put_text(out, next, b"\n")
 }
 
@@ -101,13 +106,6 @@ pub struct Running {
     pub count: usize,
     pub booted: bool,
     pub counters: Counters,
-}
-
-// What is kept after a line, and the place behind its text.
-#[derive(Clone, Copy)]
-pub struct Turn {
-    pub running: Running,
-    pub at: usize,
 }
 
 // What is kept before the first line, where the words are zeros.
@@ -130,119 +128,87 @@ fn fresh() -> Running
 
 // ---- the lines
 
-// A line that can't be read, or that may not come now: `bad,17,0,0`.
-fn bad(running: Running, answer: &mut [u8], at: usize) -> Turn
+// A line that can't be read, or that may not come now: `bad,17,0,0`. Each of these functions answers the place behind what it printed.
+fn bad(answer: &mut [u8], at: usize) -> usize
     requires { at + 512 ≤ length answer.old }
-    ensures bad_any { BadAny running answer.old at answer.new result }
-    ensures bounded { Bounded running at result }
+    ensures bad_any { BadAny answer.old at answer.new result }
+    ensures upper_bound { result ≤ at + 512 }
 {
-    let next = put_line(answer, at, Op::Bad, exam::refused(17));
-    Turn { running, at: next }
+    put_line(answer, at, Op::Bad, Err(Refusal::BadLine))
 }
 
 // The first eight entries of the map, with one more read; past the eighth there is no place for it.
-fn entered(map: [MemoryRegion; 8], count: usize, entry: MemoryRegion) -> [MemoryRegion; 8]
-    ensures { Enters map count entry result }
+fn enter(map: &mut [MemoryRegion; 8], count: usize, entry: MemoryRegion)
+    ensures { Enters map.old count entry map.new }
 {
-    let mut next = map;
     if count < 8 {
-        next[count] = entry;
+        map[count] = entry;
     }
-    next
 }
 
 // An entry more of the map, which prints nothing.
-fn region(running: Running, n: [u64; 5], answer: &mut [u8], at: usize) -> Turn
-    requires { (at + 512 ≤ length answer.old) × (running.count + 1 < 2 ^ 64) }
-    ensures adds_any { AddsAny program_board running (λ i. get_or n i 0) answer.old at answer.new result }
-    ensures bounded { Bounded running at result }
+fn region(running: &mut Running, n: [u64; 5], answer: &mut [u8], at: usize) -> usize
+    requires { (at + 512 ≤ length answer.old) × (running.old.count + 1 < 2 ^ 64) }
+    ensures adds_any { AddsAny program_board running.old (λ i. get_or n i 0) answer.old at answer.new running.new result }
+    ensures bounded { Bounded running.old at running.new result }
 {
     if running.booted {
-        return bad(running, answer, at);
+        return bad(answer, at);
     }
     let entry = MemoryRegion {
         start: PhysAddr(n[0]),
-        length: calls::size_of(n[1]),
-        kind: calls::kind_of(n[2]),
+        length: n[1] as usize,
+        kind: MemoryRegionKind::from(n[2]),
     };
-    let count = running.count;
-    let first = running.map;
-    let map = entered(first, count, entry);
-    let counters = running.counters;
-    let next = Running {
-        map,
-        count: count + 1,
-        booted: running.booted,
-        counters,
-    };
-    Turn { running: next, at }
+    enter(&mut running.map, running.count, entry);
+    running.count += 1;
+    at
 }
 
 fn boot_now(
-    running: Running,
+    running: &mut Running,
     words: &mut [u64],
     records: &mut [u8],
     memory: &[u8],
     queue: &[u64],
     answer: &mut [u8],
     at: usize,
-) -> Turn
+) -> usize
     requires long { Long words.old }
     requires at_in_bounds { at + 512 ≤ length answer.old }
-    ensures does { Does program_board BootNow (name_of (Op.Boot)) (running_with running words.old)
+    ensures does { Does program_board BootNow (name_of (Op.Boot)) (running_with running.old words.old)
         (record { records = records.old; memory = memory.now; queue = queue.now }) answer.old at
         (record { records = records.new; memory = memory.now; queue = queue.now }) answer.new
-        (turn_with result words.new) }
-    ensures bounded { Bounded running at result }
+        (turn_with running.new words.new result) }
+    ensures bounded { Bounded running.old at running.new result }
 {
     if running.booted {
-        return bad(running, answer, at);
+        return bad(answer, at);
     }
+    let board = definition::standard();
     let map = running.map;
     let count = running.count;
-    let board = definition::standard();
-    let o = boot::boot(
-        board,
-        running.counters,
-        words,
-        map,
-        count,
-        records,
-        memory,
-        queue,
-    );
-    let y = o.answer;
-    let at = put_line(answer, at, Op::Boot, y);
-    let counters = o.counters;
-    let next = Running {
-        map,
-        count,
-        booted: y.number == 0,
-        counters,
-    };
-    Turn { running: next, at }
+    let y = boot::boot(board, &mut running.counters, words, map, count, records, memory, queue);
+    running.booted = y.is_ok();
+    put_line(answer, at, Op::Boot, y)
 }
 
 // The statistics answer by a text, of at most 368 bytes.
-fn stats_now(running: Running, answer: &mut [u8], at: usize) -> Turn
-    requires few { running.booted ≡ true → Few running.counters }
+fn stats_now(running: &Running, answer: &mut [u8], at: usize) -> usize
+    requires few { running.now.booted ≡ true → Few running.now.counters }
     requires at_in_bounds { at + 512 ≤ length answer.old }
-    ensures tells_any { TellsAny program_board running answer.old at answer.new result }
-    ensures bounded { Bounded running at result }
+    ensures tells_any { TellsAny program_board running.now answer.old at answer.new result }
+    ensures upper_bound { result ≤ at + 512 }
 {
     if !running.booted {
-        return bad(running, answer, at);
+        return bad(answer, at);
     }
-    let report = counts::stats(running.counters);
-    let text = report.text;
-    let len = report.len;
-    let at = text::put_text(answer, at, &text[..len]);
-    Turn { running, at }
+    counts::stats(running.counters, answer, at)
 }
 
 // A call tests nothing of the loans: they are the run's own, and are sound from the accepted boot on.
 fn call_now(
-    running: Running,
+    running: &mut Running,
     op: Ask,
     n: [u64; 5],
     words: &mut [u64],
@@ -251,60 +217,49 @@ fn call_now(
     queue: &mut [u64],
     answer: &mut [u8],
     at: usize,
-) -> Turn
+) -> usize
     requires long { Long words.old }
-    requires sure { Sure program_board (running_with running words.old)
+    requires sure { Sure program_board (running_with running.old words.old)
         (record { records = records.old; memory = memory.old; queue = queue.old }) }
     requires at_in_bounds { at + 512 ≤ length answer.old }
-    ensures does { Does program_board (Asks (call_of op (λ i. get_or n i 0))) (ask_name op) (running_with running words.old)
+    ensures does { Does program_board (Asks (call_of op (λ i. get_or n i 0))) (ask_name op) (running_with running.old words.old)
         (record { records = records.old; memory = memory.old; queue = queue.old }) answer.old at
         (record { records = records.new; memory = memory.new; queue = queue.new }) answer.new
-        (turn_with result words.new) }
-    ensures bounded { Bounded running at result }
+        (turn_with running.new words.new result) }
+    ensures bounded { Bounded running.old at running.new result }
 {
     if !running.booted {
-        return bad(running, answer, at);
+        return bad(answer, at);
     }
-    let o = calls::make(running.counters, words, records, memory, queue, op, n);
-    let y = o.answer;
-    let at = put_line(answer, at, Op::Call(op), y);
-    let map = running.map;
-    let counters = o.counters;
-    let next = Running {
-        map,
-        count: running.count,
-        booted: true,
-        counters,
-    };
-    Turn { running: next, at }
+    let y = calls::make(&mut running.counters, words, records, memory, queue, op, n);
+    put_line(answer, at, Op::Call(op), y)
 }
 
 // One line: read, done and answered.
 fn take_turn(
     line: &[u8],
-    running: Running,
+    running: &mut Running,
     words: &mut [u64],
     records: &mut [u8],
     memory: &mut [u8],
     queue: &mut [u64],
     answer: &mut [u8],
     at: usize,
-) -> Turn
+) -> usize
     requires long { Long words.old }
-    requires sure { Sure program_board (running_with running words.old)
+    requires sure { Sure program_board (running_with running.old words.old)
         (record { records = records.old; memory = memory.old; queue = queue.old }) }
-    requires at_in_bounds { (at + 512 ≤ length answer.old) × (running.count + 1 < 2 ^ 64) }
-    ensures turns { Turns program_board (running_with running words.old)
+    requires at_in_bounds { (at + 512 ≤ length answer.old) × (running.old.count + 1 < 2 ^ 64) }
+    ensures turns { Turns program_board (running_with running.old words.old)
         (record { records = records.old; memory = memory.old; queue = queue.old }) line.now
         answer.old at (record { records = records.new; memory = memory.new; queue = queue.new })
-        answer.new (turn_with result words.new) }
-    ensures bounded { Bounded running at result }
+        answer.new (turn_with running.new words.new result) }
+    ensures bounded { Bounded running.old at running.new result }
 {
     let read = lines::read_line(line);
-    let op = read.op;
     let n = read.numbers;
-    match op {
-        Op::Bad => bad(running, answer, at),
+    match read.op {
+        Op::Bad => bad(answer, at),
         Op::Region => region(running, n, answer, at),
         Op::Boot => boot_now(running, words, records, memory, queue, answer, at),
         Op::Stats => stats_now(running, answer, at),
@@ -332,10 +287,9 @@ fn run_all(
     let mut at: usize = 0;
     while at < script.len() {
         let cursor = lines::next_line(script, at);
-        let end = cursor.end;
-        let t = take_turn(
-            &script[at..end],
-            running,
+        w = take_turn(
+            &script[at..cursor.end],
+            &mut running,
             words,
             records,
             memory,
@@ -343,8 +297,6 @@ fn run_all(
             answer,
             w,
         );
-        running = t.running;
-        w = t.at;
         at = cursor.next;
     }
     w
@@ -363,10 +315,7 @@ pub fn jilakkor_run(
         (record { records = records.old; memory = memory.old; queue = queue.old }) answer.old
         (record { records = records.new; memory = memory.new; queue = queue.new }) answer.new result }
 {
-    if answer.len() < 512 {
-        return 0;
-    }
-    if (answer.len() - 512) / 512 < lines::count_lines(script) {
+    if answer.len() < 512 || (answer.len() - 512) / 512 < lines::count_lines(script) {
         return 0;
     }
     let mut words = [0u64; words::STATE_WORDS];
