@@ -18,8 +18,8 @@ use Rattle.words.proofs.Words.{counters_again}
 use Rattle.audit.proofs.Sheets.{sound_is}
 use Rattle.world.proofs.Calling.{torn_call}
 use Rattle.world.proofs.RoundTrip.{round_trip}
-use Rattle.exam.specs.declared.Answer.{Answer}
-use Rattle.exam.specs.Promise.{told}
+use Rattle.std.specs.Prelude.{Ok, Err}
+use Rattle.exam.specs.Promise.{Answer, told}
 use Rattle.exam.proofs.Promises.{Small}
 use Rattle.words.specs.Words.{board_in}
 use Rattle.service.specs.Serving.{
@@ -30,6 +30,7 @@ use Rattle.service.specs.Serving.{
   written,
   counted_by,
   tells,
+  code,
   is_lent,
   world_in,
   world_with,
@@ -40,7 +41,7 @@ use Rattle.service.proofs.Serving.{kept_same, lent_words, serves_torn, serves_wi
 -- ---- the world
 
 -- an answer whose number is not 0
-refused_by_lem : (a : AnswerOf) → ((told a).number ≡ 0 → ⊥) → (r : Refusal) × (a ≡ Refused r)
+refused_by_lem : (a : AnswerOf) → (code (told a) ≡ 0 → ⊥) → (r : Refusal) × (a ≡ Refused r)
 refused_by_lem (Refused r) d = (r, refl)
 refused_by_lem (Done a n) d = absurd (d refl)
 refused_by_lem (Text t) d = absurd (d refl)
@@ -51,7 +52,7 @@ module _ (board : Board) (w : World) (c : Call) where
   unfolding call
   whole_call e = rw e refl
 
-  pub call_untouched : Small w → ((told (call board w c).answer).number ≡ 0 → ⊥) → (call board w c).world ≡ w
+  pub call_untouched : Small w → (code (told (call board w c).answer) ≡ 0 → ⊥) → (call board w c).world ≡ w
   call_untouched small d = go (sound board w) refl
     where
       go : (t : Bool) → sound board w ≡ t → (call board w c).world ≡ w
@@ -64,9 +65,10 @@ module _ (board : Board) (w : World) (c : Call) where
 
 -- ---- the words and the answer
 
-tells_none : (y : Answer) (ys : List ℕ) → (y.number ≡ 0 → ⊥) → tells y ys ≡ ys
+tells_none : (y : Answer) (ys : List ℕ) → (code y ≡ 0 → ⊥) → tells y ys ≡ ys
 unfolding tells
-tells_none y ys d = rw (ne_eqb y.number 0 d) refl
+tells_none (Ok y) ys d = absurd (d refl)
+tells_none (Err r) ys d = refl
 
 module _ (c : Call) (l : Lent) where
   serves_made : is_lent l ≡ true → served c l ≡ written state_over l (call (board_in l.words) (world_in l) c)
@@ -87,7 +89,7 @@ module _ (c : Call) (l : Lent) (small : (i : ℕ) → get_or l.records i 0 < 256
       go false e = ap (λ (x : Served). x.lent) (serves_torn c l e)
       go true e =
           let m = serves_made c l e in
-          let n : (told (call (board_in l.words) (world_in l) c).answer).number ≡ 0 → ⊥ = rw m at d in
+          let n : code (told (call (board_in l.words) (world_in l) c).answer) ≡ 0 → ⊥ = rw m at d in
           ap (λ (x : Served). x.lent) m
           ∙ rw (
             call_untouched (board_in l.words) (world_in l) c small n,
@@ -104,7 +106,7 @@ module _ (c : Call) (l : Lent) (small : (i : ℕ) → get_or l.records i 0 < 256
       go false e = rw (serves_with_torn c l k e) (refl, refl)
       go true e =
           let m = serves_with_made c l k e in
-          let n : (told (call (board_in l.words) (world_with k l) c).answer).number ≡ 0 → ⊥ = rw m at d in
+          let n : code (told (call (board_in l.words) (world_with k l) c).answer) ≡ 0 → ⊥ = rw m at d in
           rw (
             m,
             call_untouched (board_in l.words) (world_with k l) c small n,

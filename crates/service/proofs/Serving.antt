@@ -5,7 +5,7 @@ use mathlib.Core.List.{List, [], ◌∷◌}
 use mathlib.Core.Option.{Option, none, some}
 use mathlib.Core.Path.{◌≡◌, refl, sym, ap, ◌∙◌}
 use native.Mathlib.Omega.{arith}
-use borrow.Author.Tests.{leb-true, le-leb, lt-leb, eq-eqb, eqb-false}
+use borrow.Author.Tests.{leb-true, le-leb, lt-leb, ne_eqb}
 use lib.Dec.{eqb, leb}
 use lib.ListN.{length, take, length-take}
 use Rattle.definition.specs.declared.Counters.{Counters}
@@ -14,7 +14,7 @@ use Rattle.definition.specs.declared.Refusal.{Refusal}
 use Rattle.definition.specs.declared.Refusal.TheVariants.{Torn}
 use Rattle.definition.specs.Board.{Board, standard}
 use Rattle.definition.specs.Boot.{boot_sheet}
-use Rattle.definition.specs.Refusal.{first_met}
+use Rattle.definition.specs.Refusal.{first_met, number_of}
 use Rattle.definition.specs.Calls.{Answer as AnswerOf, Call, Read, Refused, Done, Text, Bytes, Stats, answer_number, names, perform, sheet, step, unless_refused}
 use Rattle.definition.specs.World.{World, decode}
 use Rattle.definition.specs.Torn.{boot_call, booted as booted_world, call, sound, untouched, unless_refused as unlessBootRefused, written as writtenWorld}
@@ -22,12 +22,10 @@ use Rattle.definition.proofs.Tests.{and_left, and_right}
 use Rattle.record.specs.Records.{with_bytes}
 use Rattle.words.specs.Words.{board_in, Long, state_words, counters_at, Beside, word_in, is_kept, counters_in, counter_words}
 use Rattle.words.proofs.Words.{beside_same, kept_again, kept_from, counters_again}
-use Rattle.world.specs.Refusals.{number_if}
-use Rattle.exam.specs.declared.Answer.{Answer}
-use Rattle.exam.specs.Promise.{state_with, world_of, Leaves, told}
+use Rattle.exam.specs.Promise.{Answer, state_with, world_of, Leaves, reply, told}
 use Rattle.boot.specs.Booting.{Boots as BootsOf, BootsOver}
-use Rattle.copies.specs.declared.Place.{Place}
-use Rattle.counts.specs.declared.Report.{Report}
+use Rattle.std.specs.Prelude.{Result, Ok, Err, is_ok}
+use Rattle.world.proofs.Calling.{numbered}
 use Rattle.counts.specs.Counting.{text_of}
 use Rattle.door.specs.Tested.{Finds, Reports as ReportsOf}
 use Rattle.service.specs.Serving.{
@@ -53,7 +51,8 @@ use Rattle.service.specs.Serving.{
   is_lent,
   is_roomy,
   has_room,
-  short_number,
+  short_refusal,
+  code,
   world_in,
   world_with,
   kept_over,
@@ -92,7 +91,7 @@ module _ (c : Call) (l : Lent) where
 
 module _ {c : Call} (l : Lent) (k : Counters) {k' : Counters} {words records memory queue : List ℕ} {y : Answer}
     (L : Leaves (board_in l.words) (world_with k l) c (world_of (state_with k' words) records memory queue) y)
-    {answer : List ℕ} {r : ℕ} (told-answer : answer ≡ tells y l.answer) (told_number : r ≡ y.number) (e : is_lent l ≡ true) where
+    {answer : List ℕ} {r : ℕ} (told-answer : answer ≡ tells y l.answer) (told_number : r ≡ code y) (e : is_lent l ≡ true) where
   pub serves_with : length words ≡ length l.words → Beside l.words words
       → ServesWith c k l k' (record { words = words; records = records; memory = memory; queue = queue; answer = answer }) r
   unfolding served_with
@@ -137,12 +136,6 @@ module _ (c : Call) (l : Lent) (e : is_lent l ≡ true) where
 
 -- ---- a read
 
-answer_number_lem : (a : AnswerOf) → answer_number a ≡ (told a).number
-answer_number_lem (Refused r) = refl
-answer_number_lem (Done a n) = refl
-answer_number_lem (Text t) = refl
-answer_number_lem (Bytes t) = refl
-
 -- the place is the answer's first word
 word_told : (t : Bool) (at len : ℕ) (ys : List ℕ) → let zs = cond t (with_bytes ys 0 (at ∷ len ∷ [])) ys in zs ≡ cond t (with_bytes ys 0 (word_in zs 0 ∷ len ∷ [])) ys
 unfolding with_bytes
@@ -162,55 +155,47 @@ module _ (a off len : ℕ) (l : Lent) where
         bytes = λ z. absurd (omega arith);
       }
 
-  module _ (k : Counters) {p : Place} (F : Finds (board_in l.words) (world_with k l) (Read a off len) len p) (e : is_lent l ≡ true)
-      {answer : List ℕ} {r : ℕ} (told-answer : answer ≡ tells (record { number = p.number; address = p.at; bytes = len }) l.answer) (number : r ≡ p.number) where
-    read_number_lem : r ≡ (served_with (Read a off len) k l).served.number
+  module _ (k : Counters) {x : Result ℕ Refusal} (F : Finds (board_in l.words) (world_with k l) (Read a off len) len x) (e : is_lent l ≡ true) where
+    -- a read that is refused
+    pub places_not : (r : Refusal) → x ≡ Err r → PlacesWith a off len k l l (number_of r)
     unfolding served_with
-    read_number_lem = rw e (number ∙ F.numbers.number ∙ answer_number_lem (call (board_in l.words) (world_with k l) (Read a off len)).answer)
-
-    placed : r ≡ 0 → word_in answer 0 ≡ p.at
-    unfolding tells with_bytes
-    placed z = rw (told-answer, eq-eqb p.number 0 (sym number ∙ z)) refl
-
-    answered : answer ≡ cond (eqb r 0) (with_bytes l.answer 0 (word_in answer 0 ∷ len ∷ [])) l.answer
-    unfolding tells
-    answered = rw (told-answer, number) (word_told (eqb p.number 0) p.at len l.answer)
-
-    pub places : PlacesWith a off len k l (record { words = l.words; records = l.records; memory = l.memory; queue = l.queue; answer = answer }) r
-    places =
+    places_not r z =
         record {
-          number = read_number_lem;
+          number = rw (e, F.answer, z) refl;
           words = refl;
           records = refl;
           memory = refl;
           queue = refl;
-          answer = answered;
-          bytes = λ z. rw (placed z) (F.bytes (sym number ∙ z));
+          answer = rw (ne_eqb (number_of r) 0 (numbered r)) refl;
+          bytes = λ n. absurd (numbered r n);
         }
+
+    module _ (at : ℕ) (z : x ≡ Ok at) {answer : List ℕ} (told-answer : answer ≡ tells (Ok (reply at len)) l.answer) where
+      placed : word_in answer 0 ≡ at
+      unfolding tells with_bytes
+      placed = rw told-answer refl
+
+      answered : answer ≡ with_bytes l.answer 0 (word_in answer 0 ∷ len ∷ [])
+      unfolding tells
+      answered = rw placed told-answer
+
+      pub places : PlacesWith a off len k l (record { words = l.words; records = l.records; memory = l.memory; queue = l.queue; answer = answer }) 0
+      unfolding served_with
+      places =
+          record {
+            number = rw (e, F.answer, z) refl;
+            words = refl;
+            records = refl;
+            memory = refl;
+            queue = refl;
+            answer = answered;
+            bytes = λ n. rw placed (F.bytes at z);
+          }
 
   pub places_in_words : is_lent l ≡ true → {l' : Lent} {r : ℕ} → PlacesWith a off len (counters_in l.words) l l' r → Places a off len l l' r
   places_in_words e P = rw (in_words (Read a off len) l e) P
 
 -- ---- the statistics
-
-stats_or : (b : Board) (w : World) (t : Bool) (o : Option Refusal)
-    → let x = (cond t (writtenWorld b w (unless_refused (decode b w) o (perform b (decode b w) Stats))) (untouched w Torn)).answer in
-    (told x).bytes ≡ length (text_of x)
-unfolding perform
-stats_or b w false o = refl
-stats_or b w true (some r) = refl
-stats_or b w true none = refl
-
--- they answer a text, or a refusal and none
-stats_bytes : (b : Board) (w : World) → (told (call b w Stats).answer).bytes ≡ length (text_of (call b w Stats).answer)
-unfolding call step
-stats_bytes b w = stats_or b w (sound b w) (first_met (sheet b (decode b w) (names Stats)))
-
--- no more text than the report's array holds
-pub report_short : {b : Board} {w : World} {p : Report} → ReportsOf b w p → p.len ≤ length p.text
-report_short {b} {w} {p} R =
-    let e : (told (call b w Stats).answer).bytes ≡ p.len = ap (λ (y : Answer). y.bytes) R.answer in
-    omega (arith, stats_bytes b w, simp length-take at (ap length R.text))
 
 cond_same : {O : Type 0} (t : Bool) (x : O) → cond t x x ≡ x
 cond_same true x = refl
@@ -223,18 +208,45 @@ module _ {b : Board} {O : Type 0} (fit : Bool) (w : World) {made refused : O} (t
   pub reports_torn : fit ≡ false → made ≡ refused → ReportsBy b O fit w made refused refused text text
   reports_torn e m = record { loans = rw m (cond_same (leb 368 (length text)) refused); report = rw (e, and-false (leb 368 (length text))) refl }
 
+-- a refusal has no text
+refused_text : (a : AnswerOf) (r : Refusal) → told a ≡ Err r → text_of a ≡ []
+refused_text (Refused t) r e = refl
+refused_text (Done a n) r e = absurd (let z : ◌≡◌ {A = ℕ} 0 1 = cc in omega arith)
+refused_text (Text t) r e = absurd (let z : ◌≡◌ {A = ℕ} 0 1 = cc in omega arith)
+refused_text (Bytes t) r e = refl
+
+with_none : (bs : List ℕ) → with_bytes bs 0 [] ≡ bs
+unfolding with_bytes
+with_none bs = refl
+
 module _ (l : Lent) (text : List ℕ) where
-  pub reports : (k : Counters) {p : Report} → ReportsOf (board_in l.words) (world_with k l) p
-      → {answer text' : List ℕ} {r : ℕ} → answer ≡ tells (record { number = p.number; address = 0; bytes = p.len }) l.answer → r ≡ p.number
-      → 368 ≤ length text → is_lent l ≡ true
-      → text' ≡ with_bytes text 0 (take p.len p.text)
-      → ReportsWith k l text k (record { words = l.words; records = l.records; memory = l.memory; queue = l.queue; answer = answer }) text' r
-  reports k R a b h e t =
-      let n = le-leb 368 (length text) h in
-      record {
-        loans = rw n (serves_with l k (record { world = R.world; answer = R.answer }) a b e refl beside_same);
-        report = rw (n, e) (t ∙ ap (with_bytes text 0) R.text);
-      }
+  module _ (k : Counters) {text' : List ℕ} {x : Result ℕ Refusal} (R : ReportsOf (board_in l.words) (world_with k l) text 0 text' x)
+      (h : 368 ≤ length text) (e : is_lent l ≡ true)
+    where
+      -- the statistics are refused
+      pub reports_not : (r : Refusal) → x ≡ Err r → ReportsWith k l text k l text' (number_of r)
+      reports_not r z =
+          let n = le-leb 368 (length text) h in
+          record {
+            loans = rw n (serves_with l k (record { world = R.world; answer = rw z at R.answer }) refl refl e refl beside_same);
+            report = rw (n, e) (R.refused r z ∙ no_text);
+          }
+        where
+          none_told : text_of (call (board_in l.words) (world_with k l) Stats).answer ≡ []
+          none_told = refused_text (call (board_in l.words) (world_with k l) Stats).answer r (rw z at R.answer)
+
+          no_text : text ≡ with_bytes text 0 (text_of (call (board_in l.words) (world_with k l) Stats).answer)
+          no_text = rw none_told (sym (with_none text))
+
+      pub reports
+          : (next : ℕ) → x ≡ Ok next → {answer : List ℕ} → answer ≡ tells (Ok (reply 0 next)) l.answer
+          → ReportsWith k l text k (record { words = l.words; records = l.records; memory = l.memory; queue = l.queue; answer = answer }) text' 0
+      reports next z t =
+          let n = le-leb 368 (length text) h in
+          record {
+            loans = rw n (serves_with l k (record { world = R.world; answer = rw z at R.answer }) t refl e refl beside_same);
+            report = rw (n, e) (R.wrote next z).bytes;
+          }
 
   pub reports_in_words : {records memory queue answer text' : List ℕ} {r : ℕ} → is_lent l ≡ true
       → ReportsWith (counters_in l.words) l text (counters_in l.words) (besides l records memory queue answer) text' r
@@ -251,12 +263,12 @@ module _ (l : Lent) (text : List ℕ) where
 
 -- ---- a boot
 
-boot_or : (b : Board) (ms : List MemoryRegion) (w : World) (o : Option Refusal)
-    → let x = unlessBootRefused w o (booted_world b ms w) in ((told x.answer).number ≡ 0 → ⊥) → x.world ≡ w
-boot_or b ms w (some r) d = refl
-boot_or b ms w none d = absurd (d refl)
+boot_or : (b : Board) (ms : List MemoryRegion) (w : World) (o : Option Refusal) (r : Refusal)
+    → let x = unlessBootRefused w o (booted_world b ms w) in told x.answer ≡ Err r → x.world ≡ w
+boot_or b ms w (some t) r e = refl
+boot_or b ms w none r e = absurd (let z : ◌≡◌ {A = ℕ} 0 1 = cc in omega arith)
 
-boot_leaves_lem : (b : Board) (ms : List MemoryRegion) (w : World) → ((told (boot_call b ms w).answer).number ≡ 0 → ⊥) → (boot_call b ms w).world ≡ w
+boot_leaves_lem : (b : Board) (ms : List MemoryRegion) (w : World) (r : Refusal) → told (boot_call b ms w).answer ≡ Err r → (boot_call b ms w).world ≡ w
 unfolding boot_call
 boot_leaves_lem b ms w = boot_or b ms w (first_met (boot_sheet b ms (length w.records) (length w.memory)))
 
@@ -269,7 +281,7 @@ module _ (l : Lent) (e : is_roomy l ≡ true) where
 
 module _ (ms : List MemoryRegion) (l : Lent) where
   abbrev pub short_boot : ℕ
-  short_boot = short_number (number_if (first_met (boot_sheet standard ms (length l.records) (length l.memory))))
+  short_boot = number_of (short_refusal (first_met (boot_sheet standard ms (length l.records) (length l.memory))))
 
   pub boots_short : is_roomy l ≡ false → {r : ℕ} → r ≡ short_boot → booted ms l ≡ refused_as l r
   unfolding booted
@@ -282,39 +294,37 @@ module _ (ms : List MemoryRegion) (l : Lent) where
   -- one that is made: refused it leaves all loans as they were, accepted it has written them
   module _ (k : Counters) {k' : Counters} {words records : List ℕ} {y : Answer} (e : is_roomy l ≡ true)
       (B : BootsOf standard ms (world_with k l) (world_of (state_with k' words) records l.memory l.queue) y) (O : BootsOver l.words words y)
-      {answer : List ℕ} {r : ℕ} (told-answer : answer ≡ tells y l.answer) (told_number : r ≡ y.number) where
-    same_world : eqb y.number 0 ≡ false → world_of (state_with k' words) records l.memory l.queue ≡ world_with k l
-    same_world f =
-        sym B.world
-        ∙ boot_leaves_lem standard ms (world_with k l) (λ z. eqb-false y.number 0 f (sym (ap (λ (x : Answer). x.number) B.answer) ∙ z))
+      {answer : List ℕ} {r : ℕ} (told-answer : answer ≡ tells y l.answer) (told_number : r ≡ code y) where
+    same_world : (e : Refusal) → y ≡ Err e → world_of (state_with k' words) records l.memory l.queue ≡ world_with k l
+    same_world e z = sym B.world ∙ boot_leaves_lem standard ms (world_with k l) e (B.answer ∙ z)
 
     abbrev pub boot_leaves : Counted
     boot_leaves = record { counters = k'; served = refused_as (record { words = words; records = records; memory = l.memory; queue = l.queue; answer = answer }) r }
 
     pub boots : booted_with ms k l ≡ boot_leaves
     unfolding booted_with tells
-    boots = go (eqb y.number 0) refl
+    boots = go y refl
       where
-        go : (t : Bool) → eqb y.number 0 ≡ t → booted_with ms k l ≡ boot_leaves
-        go true f = rw (told-answer, told_number, e, B.answer, f, B.world, ← O.written f) refl
-        go false f =
-            let w = same_world f in
-            rw (told-answer, told_number, e, B.answer, f, O.refused f, ap (λ (v : World). v.records) w, ap (λ (v : World). v.counters) w) refl
+        go : (x : Answer) → y ≡ x → booted_with ms k l ≡ boot_leaves
+        go (Ok x) z = rw (told-answer, told_number, e, B.answer, z, B.world, ← O.written x z) refl
+        go (Err x) z =
+            let w = same_world x z in
+            rw (told-answer, told_number, e, B.answer, z, O.refused x z, ap (λ (v : World). v.records) w, ap (λ (v : World). v.counters) w) refl
 
   -- the words with the counters, whether they have room or not
   pub boot_in_words : Long l.words → booted ms l ≡ words_from (booted_with ms (counters_in l.words) l)
   unfolding booted booted_with
   boot_in_words h =
       let x = boot_call standard ms (world_in l) in
-      rw (le-leb state_words (length l.words) h) (roomy (has_room l) (eqb (told x.answer).number 0))
+      rw (le-leb state_words (length l.words) h) (roomy (has_room l) (is_ok (told x.answer)))
     where
       stayed : (n : ℕ) → refused_as l n ≡ words_from (stays (counters_in l.words) l n)
       stayed n = rw (counters_again l.words h) refl
 
-      roomy : (t u : Bool) → let x = boot_call standard ms (world_in l) in let n = (told x.answer).number in
+      roomy : (t u : Bool) → let x = boot_call standard ms (world_in l) in let n = code (told x.answer) in
           let made : Counted = record { counters = x.world.counters; served = written boot_over l x } in
           cond t (cond u (written boot_state_over l x) (refused_as l n)) (refused_as l short_boot)
           ≡ words_from (cond t (cond u made (stays (counters_in l.words) l n)) (stays (counters_in l.words) l short_boot))
       roomy true true = refl
-      roomy true false = stayed (told (boot_call standard ms (world_in l)).answer).number
+      roomy true false = stayed (code (told (boot_call standard ms (world_in l)).answer))
       roomy false u = stayed short_boot
