@@ -22,9 +22,9 @@ use Rattle.definition.proofs.Tests.{and_left, and_right}
 use Rattle.record.specs.Records.{with_bytes}
 use Rattle.words.specs.Words.{board_in, Long, state_words, counters_at, Beside, word_in, is_kept, counters_in, counter_words}
 use Rattle.words.proofs.Words.{beside_same, kept_again, kept_from, counters_again}
-use Rattle.exam.specs.Promise.{Answer, state_with, world_of, Leaves, reply, told}
+use Rattle.exam.specs.Promise.{Answer, state_with, world_of, Leaves, reply, told, unit_of}
 use Rattle.boot.specs.Booting.{Boots as BootsOf, BootsOver}
-use Rattle.std.specs.Prelude.{Result, Ok, Err, is_ok}
+use Rattle.std.specs.Prelude.{Result, Ok, Err, ⊤, is_ok}
 use Rattle.world.proofs.Calling.{numbered}
 use Rattle.counts.specs.Counting.{text_of}
 use Rattle.door.specs.Tested.{Finds, Reports as ReportsOf}
@@ -59,6 +59,13 @@ use Rattle.service.specs.Serving.{
   boot_over,
   boot_state_over,
 }
+
+-- ---- what is told
+
+-- a call that tells its answer is refused as that is
+pub told_code : (y : Answer) {r : Result ⊤ Refusal} → r ≡ unit_of y → code r ≡ code y
+told_code (Ok y) e = ap code e
+told_code (Err t) e = ap code e
 
 -- ---- the tests of the loans
 
@@ -166,8 +173,8 @@ module _ (a off len : ℕ) (l : Lent) where
           records = refl;
           memory = refl;
           queue = refl;
-          answer = rw (ne_eqb (number_of r) 0 (numbered r)) refl;
-          bytes = λ n. absurd (numbered r n);
+          answer = rw (ne_eqb (number_of r) 0 (λ n. omega (arith, numbered r))) refl;
+          bytes = λ n. absurd (omega (arith, numbered r));
         }
 
     module _ (at : ℕ) (z : x ≡ Ok at) {answer : List ℕ} (told-answer : answer ≡ tells (Ok (reply at len)) l.answer) where

@@ -48,7 +48,7 @@ module _ (board : Board) where
 
 -- ---- by numbers
 
-numbered : (r : Refusal) → 0 < number_of r
+pub numbered : (r : Refusal) → 0 < number_of r
 numbered LongMap = omega arith
 numbered FarAddress = omega arith
 numbered Overlap = omega arith

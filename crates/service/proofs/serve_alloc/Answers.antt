@@ -4,7 +4,7 @@ use mathlib.Core.Path.{◌≡◌, refl, sym, ◌∙◌}
 use native.Mathlib.Omega.{arith}
 use Rattle.words.specs.Words.{counters_in}
 use Rattle.service.specs.Serving.{Lent, is_lent}
-use Rattle.service.proofs.Serving.{lent_words, lent_room, made_in_words, serves_torn, serves_with}
+use Rattle.service.proofs.Serving.{lent_words, lent_room, made_in_words, serves_torn, serves_with, told_code}
 use Rattle.service.proofs.serve_alloc.Goals as goal
 use Rattle.service.proofs.serve_alloc.Goals.{Else-not-is_lent, Start, Then-not-is_lent}
 
@@ -31,14 +31,14 @@ returns-then-not-is_lent c = serves_torn _ (loans (goal.at.returns-then-not-is_l
 pub counters_in-counters-requires : goal.counters_in-counters-requires
 counters_in-counters-requires c = lent_words (loans (goal.at.counters_in-counters-requires c).Start) (lent (goal.at.counters_in-counters-requires c).Else-not-is_lent)
 
-pub alloc-o-requires : goal.alloc-o-requires
-alloc-o-requires c =
-    let l = loans (goal.at.alloc-o-requires c).Start in
-    lent_words l (lent (goal.at.alloc-o-requires c).Else-not-is_lent)
+pub alloc-y-requires : goal.alloc-y-requires
+alloc-y-requires c =
+    let l = loans (goal.at.alloc-y-requires c).Start in
+    lent_words l (lent (goal.at.alloc-y-requires c).Else-not-is_lent)
 
 pub put_counters-requires : goal.put_counters-requires
 put_counters-requires c =
-    omega (arith, c.alloc-o.auto.words, lent_words (loans (goal.at.put_counters-requires c).Start) (lent (goal.at.put_counters-requires c).Else-not-is_lent))
+    omega (arith, c.alloc-y.auto.words, lent_words (loans (goal.at.put_counters-requires c).Start) (lent (goal.at.put_counters-requires c).Else-not-is_lent))
 
 pub tell-requires : goal.tell-requires
 tell-requires c =
@@ -50,5 +50,5 @@ returns c =
     let else_not_is_lent = (goal.at.returns c).Else-not-is_lent in
     let l = loans (goal.at.returns c).Start in
     made_in_words _ l (lent else_not_is_lent)
-    (serves_with l (counters_in l.words) (rw (c.counters_in-counters.ensures, c.flags_of.ensures) at c.alloc-o.ensures.leaves) c.tell.ensures.1 c.tell.ensures.0 (lent else_not_is_lent) c.alloc-o.auto.words c.alloc-o.ensures.beside)
+    (serves_with l (counters_in l.words) (rw (c.counters_in-counters.ensures, c.flags_of.ensures) at c.alloc-y.ensures.leaves) c.tell.ensures.1 (told_code _ c.tell.ensures.0) (lent else_not_is_lent) c.alloc-y.auto.words c.alloc-y.ensures.beside)
     ∙ rw c.put_counters.ensures refl

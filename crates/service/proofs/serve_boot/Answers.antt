@@ -27,4 +27,4 @@ pub returns : goal.returns
 returns c =
     λ ms e f.
     boot_in_words ms (loans (goal.at.returns c).Start) c.if-words-lt-STATE_WORDS.false
-    ∙ rw (← c.counters_in-counters.ensures, c.serve_boot_with-c.ensures ms e f, c.put_counters.ensures) refl
+    ∙ rw (← c.counters_in-counters.ensures, c.serve_boot_with-told.ensures ms e f, c.put_counters.ensures) refl

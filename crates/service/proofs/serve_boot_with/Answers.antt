@@ -3,7 +3,7 @@ use mathlib.Core.Bool.{true}
 use mathlib.Core.Path.{◌≡◌, sym, ◌∙◌}
 use Rattle.definition.proofs.Boards.{standard_fit}
 use Rattle.service.specs.Serving.{Lent, is_roomy}
-use Rattle.service.proofs.Serving.{boots, boots_with_short, roomy_room, roomy_words}
+use Rattle.service.proofs.Serving.{boots, boots_with_short, roomy_room, roomy_words, told_code}
 use Rattle.service.proofs.serve_boot_with.Goals as goal
 use Rattle.service.proofs.serve_boot_with.Goals.{Else-not-is_roomy, Start}
 
@@ -25,22 +25,22 @@ pub returns-then-not-is_roomy : goal.returns-then-not-is_roomy
 returns-then-not-is_roomy c =
     λ ms e f.
     let s = (goal.at.returns-then-not-is_roomy c).Start in
-    boots_with_short ms (loans s) s.args.counters (sym c.is_roomy.ensures ∙ c.if-not-is_roomy.true)
-    (c.short_boot-number.ensures ms e f)
+    boots_with_short ms (loans s) s.args.counters.now (sym c.is_roomy.ensures ∙ c.if-not-is_roomy.true)
+    (c.short_boot.ensures ms e f)
 
-pub boot-o-requires : goal.boot-o-requires
-boot-o-requires c =
+pub boot-y-requires : goal.boot-y-requires
+boot-y-requires c =
     record {
       fit = rw c.standard-board.ensures standard_fit;
-      long = roomy_words (loans (goal.at.boot-o-requires c).Start) (roomy (goal.at.boot-o-requires c).Else-not-is_roomy);
+      long = roomy_words (loans (goal.at.boot-y-requires c).Start) (roomy (goal.at.boot-y-requires c).Else-not-is_roomy);
     }
 
-pub tell-number-requires : goal.tell-number-requires
-tell-number-requires c = roomy_room (loans (goal.at.tell-number-requires c).Start) (roomy (goal.at.tell-number-requires c).Else-not-is_roomy)
+pub tell-requires : goal.tell-requires
+tell-requires c = roomy_room (loans (goal.at.tell-requires c).Start) (roomy (goal.at.tell-requires c).Else-not-is_roomy)
 
 pub returns : goal.returns
 returns c =
     λ ms e f.
-    let b = rw c.standard-board.ensures at (c.boot-o.ensures.boots_all ms e f) in
+    let b = rw c.standard-board.ensures at (c.boot-y.ensures.boots_all ms e f) in
     let s = (goal.at.returns c).Start in
-    boots ms (loans s) s.args.counters (roomy (goal.at.returns c).Else-not-is_roomy) b c.boot-o.ensures.boots_over c.tell-number.ensures.1 c.tell-number.ensures.0
+    boots ms (loans s) s.args.counters.now (roomy (goal.at.returns c).Else-not-is_roomy) b c.boot-y.ensures.boots_over c.tell.ensures.1 (told_code _ c.tell.ensures.0)

@@ -4,7 +4,7 @@ use mathlib.Core.Path.{◌≡◌, refl, sym, ◌∙◌}
 use Rattle.words.specs.Words.{counters_in}
 use Rattle.words.proofs.Words.{beside_same}
 use Rattle.service.specs.Serving.{Lent, is_lent}
-use Rattle.service.proofs.Serving.{kept_in_words, lent_words, lent_room, serves_torn, serves_with}
+use Rattle.service.proofs.Serving.{kept_in_words, lent_words, lent_room, serves_torn, serves_with, told_code}
 use Rattle.service.proofs.serve_find.Goals as goal
 use Rattle.service.proofs.serve_find.Goals.{Else-not-is_lent, Start, Then-not-is_lent}
 
@@ -46,4 +46,4 @@ returns c =
     let else_not_is_lent = (goal.at.returns c).Else-not-is_lent in
     let l = loans (goal.at.returns c).Start in
     kept_in_words _ l (lent else_not_is_lent)
-    (serves_with l (counters_in l.words) (rw c.counters_in-counters.ensures at c.find-y.ensures) c.tell.ensures.1 c.tell.ensures.0 (lent else_not_is_lent) refl beside_same)
+    (serves_with l (counters_in l.words) (rw c.counters_in-counters.ensures at c.find-y.ensures) c.tell.ensures.1 (told_code _ c.tell.ensures.0) (lent else_not_is_lent) refl beside_same)

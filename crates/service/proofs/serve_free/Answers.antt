@@ -4,7 +4,7 @@ use mathlib.Core.Path.{◌≡◌, refl, sym, ◌∙◌}
 use native.Mathlib.Omega.{arith}
 use Rattle.words.specs.Words.{counters_in}
 use Rattle.service.specs.Serving.{Lent, is_lent}
-use Rattle.service.proofs.Serving.{lent_words, lent_room, made_in_words, serves_torn, serves_with}
+use Rattle.service.proofs.Serving.{lent_words, lent_room, made_in_words, serves_torn, serves_with, told_code}
 use Rattle.service.proofs.serve_free.Goals as goal
 use Rattle.service.proofs.serve_free.Goals.{Else-not-is_lent, Start, Then-not-is_lent}
 
@@ -31,14 +31,14 @@ returns-then-not-is_lent c = serves_torn _ (loans (goal.at.returns-then-not-is_l
 pub counters_in-counters-requires : goal.counters_in-counters-requires
 counters_in-counters-requires c = lent_words (loans (goal.at.counters_in-counters-requires c).Start) (lent (goal.at.counters_in-counters-requires c).Else-not-is_lent)
 
-pub free-o-requires : goal.free-o-requires
-free-o-requires c =
-    let l = loans (goal.at.free-o-requires c).Start in
-    lent_words l (lent (goal.at.free-o-requires c).Else-not-is_lent)
+pub free-y-requires : goal.free-y-requires
+free-y-requires c =
+    let l = loans (goal.at.free-y-requires c).Start in
+    lent_words l (lent (goal.at.free-y-requires c).Else-not-is_lent)
 
 pub put_counters-requires : goal.put_counters-requires
 put_counters-requires c =
-    omega (arith, c.free-o.auto.words, lent_words (loans (goal.at.put_counters-requires c).Start) (lent (goal.at.put_counters-requires c).Else-not-is_lent))
+    omega (arith, c.free-y.auto.words, lent_words (loans (goal.at.put_counters-requires c).Start) (lent (goal.at.put_counters-requires c).Else-not-is_lent))
 
 pub tell-requires : goal.tell-requires
 tell-requires c =
@@ -50,5 +50,5 @@ returns c =
     let else_not_is_lent = (goal.at.returns c).Else-not-is_lent in
     let l = loans (goal.at.returns c).Start in
     made_in_words _ l (lent else_not_is_lent)
-    (serves_with l (counters_in l.words) (rw c.counters_in-counters.ensures at c.free-o.ensures.leaves) c.tell.ensures.1 c.tell.ensures.0 (lent else_not_is_lent) c.free-o.auto.words c.free-o.ensures.beside)
+    (serves_with l (counters_in l.words) (rw c.counters_in-counters.ensures at c.free-y.ensures.leaves) c.tell.ensures.1 (told_code _ c.tell.ensures.0) (lent else_not_is_lent) c.free-y.auto.words c.free-y.ensures.beside)
     ∙ rw c.put_counters.ensures refl

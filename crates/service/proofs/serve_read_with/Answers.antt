@@ -2,7 +2,7 @@
 use mathlib.Core.Bool.{true}
 use mathlib.Core.Path.{◌≡◌, ap, sym, ◌∙◌}
 use Rattle.service.specs.Serving.{Lent, Counted, is_lent, world_with}
-use Rattle.service.proofs.Serving.{lent_room, lent_words, places, places_refused, serves_with_torn}
+use Rattle.service.proofs.Serving.{lent_room, lent_words, places, places_refused, serves_with_torn, told_code}
 use Rattle.service.proofs.serve_read_with.Goals as goal
 use Rattle.service.proofs.serve_read_with.Goals.{Else-not-is_lent, Start}
 
@@ -38,4 +38,4 @@ pub returns : goal.returns
 returns c =
     let s = (goal.at.returns c).Start in
     places s.args.pa.0 s.args.offset s.args.len (loans s) s.args.counters c.read_place-place.ensures (lent (goal.at.returns c).Else-not-is_lent)
-    c.tell.ensures.1 c.tell.ensures.0
+    c.tell.ensures.1 (told_code _ c.tell.ensures.0)

@@ -10,7 +10,7 @@ use denote.Laws.{Is}
 use Rattle.counts.specs.declared.Report.{Report}
 use Rattle.counts.specs.contracts.Report as P
 use Rattle.service.specs.Serving.{Lent, is_lent, world_with}
-use Rattle.service.proofs.Serving.{lent_room, lent_words, report_short, reports, reports_short, reports_torn, serves_with_torn}
+use Rattle.service.proofs.Serving.{lent_room, lent_words, report_short, reports, reports_short, reports_torn, serves_with_torn, told_code}
 use Rattle.service.proofs.serve_stats_with.Goals as goal
 use Rattle.service.proofs.serve_stats_with.Goals.{After-stats-report, Else-not-is_lent, Start}
 
@@ -68,5 +68,5 @@ tell-requires c =
 pub returns : goal.returns
 returns c =
     let s = (goal.at.returns c).Start in
-    reports (loans s) s.args.text.now s.args.counters c.stats-report.ensures c.tell.ensures.1 c.tell.ensures.0
+    reports (loans s) s.args.text.now s.args.counters c.stats-report.ensures c.tell.ensures.1 (told_code _ c.tell.ensures.0)
     c.if-text-lt368.false (lent (goal.at.returns c).Else-not-is_lent) c.put_text.ensures.bytes

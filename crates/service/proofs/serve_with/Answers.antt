@@ -2,7 +2,7 @@
 use mathlib.Core.Bool.{true}
 use mathlib.Core.Path.{◌≡◌, sym, ◌∙◌}
 use Rattle.service.specs.Serving.{Lent, is_lent}
-use Rattle.service.proofs.Serving.{lent_room, lent_words, serves_with, serves_with_torn}
+use Rattle.service.proofs.Serving.{lent_room, lent_words, serves_with, serves_with_torn, told_code}
 use Rattle.service.proofs.serve_with.Goals as goal
 use Rattle.service.proofs.serve_with.Goals.{Else-not-is_lent, Start}
 
@@ -23,15 +23,15 @@ lent c = sym c.is_lent.ensures ∙ c.if-not-is_lent.false
 pub returns-then-not-is_lent : goal.returns-then-not-is_lent
 returns-then-not-is_lent c =
     let s = (goal.at.returns-then-not-is_lent c).Start in
-    serves_with_torn _ (loans s) s.args.counters (sym c.is_lent.ensures ∙ c.if-not-is_lent.true)
+    serves_with_torn _ (loans s) s.args.counters.now (sym c.is_lent.ensures ∙ c.if-not-is_lent.true)
 
-pub ask-o-requires : goal.ask-o-requires
-ask-o-requires c = lent_words (loans (goal.at.ask-o-requires c).Start) (lent (goal.at.ask-o-requires c).Else-not-is_lent)
+pub ask-y-requires : goal.ask-y-requires
+ask-y-requires c = lent_words (loans (goal.at.ask-y-requires c).Start) (lent (goal.at.ask-y-requires c).Else-not-is_lent)
 
-pub tell-number-requires : goal.tell-number-requires
-tell-number-requires c = lent_room (loans (goal.at.tell-number-requires c).Start) (lent (goal.at.tell-number-requires c).Else-not-is_lent)
+pub tell-requires : goal.tell-requires
+tell-requires c = lent_room (loans (goal.at.tell-requires c).Start) (lent (goal.at.tell-requires c).Else-not-is_lent)
 
 pub returns : goal.returns
 returns c =
     let s = (goal.at.returns c).Start in
-    serves_with (loans s) s.args.counters c.ask-o.ensures.leaves c.tell-number.ensures.1 c.tell-number.ensures.0 (lent (goal.at.returns c).Else-not-is_lent) c.ask-o.auto.words c.ask-o.ensures.beside
+    serves_with (loans s) s.args.counters.now c.ask-y.ensures.leaves c.tell.ensures.1 (told_code _ c.tell.ensures.0) (lent (goal.at.returns c).Else-not-is_lent) c.ask-y.auto.words c.ask-y.ensures.beside

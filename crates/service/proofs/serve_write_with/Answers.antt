@@ -3,7 +3,7 @@ use mathlib.Core.Bool.{true}
 use mathlib.Core.Path.{◌≡◌, refl, sym, ◌∙◌}
 use Rattle.words.proofs.Words.{beside_same}
 use Rattle.service.specs.Serving.{Lent, is_lent}
-use Rattle.service.proofs.Serving.{lent_room, lent_words, serves_with, serves_with_torn}
+use Rattle.service.proofs.Serving.{lent_room, lent_words, serves_with, serves_with_torn, told_code}
 use Rattle.service.proofs.serve_write_with.Goals as goal
 use Rattle.service.proofs.serve_write_with.Goals.{Else-not-is_lent, Start}
 
@@ -35,4 +35,4 @@ tell-requires c = lent_room (loans (goal.at.tell-requires c).Start) (lent (goal.
 pub returns : goal.returns
 returns c =
     let s = (goal.at.returns c).Start in
-    serves_with (loans s) s.args.counters c.write-y.ensures c.tell.ensures.1 c.tell.ensures.0 (lent (goal.at.returns c).Else-not-is_lent) refl beside_same
+    serves_with (loans s) s.args.counters c.write-y.ensures c.tell.ensures.1 (told_code _ c.tell.ensures.0) (lent (goal.at.returns c).Else-not-is_lent) refl beside_same

@@ -1,17 +1,19 @@
 -- `tell` meets its contract: two stores in front where the call was accepted, else none.
 use mathlib.Core.List.{[], ◌∷◌}
 use mathlib.Core.Path.{refl}
-use borrow.Author.Tests.{eq-eqb, ne_eqb}
+use Rattle.std.proofs.lemmas.Result.{err_from_is_err_and}
 use Rattle.words.proofs.Stores.{stores}
 use Rattle.service.specs.Serving.{tells}
 use Rattle.service.proofs.tell.Goals as goal
 
-pub returns-then-y-eq0 : goal.returns-then-y-eq0
+pub returns-in_err-reply : goal.returns-in_err-reply
 unfolding tells
-returns-then-y-eq0 c =
-    let y = c.args.y in
-    (refl, rw (eq-eqb y.number 0 c.if-y-eq0.true) (stores (y.address ∷ y.bytes ∷ []) c.args.answer.now 0 c.requires))
+returns-in_err-reply c =
+    let p = err_from_is_err_and c.from_residual.result c.from_residual.ensures.1 in
+    rw (p.1, p.2, c.in_err-reply.was) (refl, refl)
 
-pub returns-else-y-eq0 : goal.returns-else-y-eq0
+pub returns : goal.returns
 unfolding tells
-returns-else-y-eq0 c = (refl, rw (ne_eqb c.args.y.number 0 c.if-y-eq0.false) refl)
+returns c =
+    let y = c.in_ok-reply.reply in
+    rw c.in_ok-reply.was (refl, stores (y.address ∷ y.bytes ∷ []) c.args.answer.now 0 c.requires)
