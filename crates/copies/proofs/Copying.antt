@@ -1,17 +1,17 @@
--- A copy between two held frames: which of its three ways it takes, by the marks that were read, and that what it leaves and answers is the definition's step.
+-- A copy between two held frames: which of its three ways it takes, by the marks that were read, and that what it leaves and answers is
+-- the definition's step.
 use Prim.Native.Nat.{ℕ, ◌+◌, ◌*◌, ◌/◌, ◌%◌}
-use mathlib.Core.Bool.{Bool, true, false, cond}
+use mathlib.Core.Bool.{true, false}
 use mathlib.Core.List.{List}
-use mathlib.Core.Path.{◌≡◌, refl, sym, ◌∙◌}
-use native.Mathlib.Decide.{ℕ_discrete}
+use mathlib.Core.Path.{◌≡◌, refl, ap, ◌∙◌}
+use Rattle.std.specs.Prelude.{Result, Ok, Err}
 use native.Mathlib.Omega.{arith}
-use borrow.Author.Tests.{eq-eqb, ne_eqb}
-use lib.Dec.{eqb, ltb}
+use lib.Dec.{eqb}
 use lib.ListN.{length}
+use Rattle.definition.specs.declared.Refusal.{Refusal}
 use Rattle.definition.specs.Board.{Board}
 use Rattle.definition.specs.Contents.{copy_contents_from, copy_contents_from_physaddr, is_zeroed_at, zero_range}
 use Rattle.definition.specs.Calls.{Copy, done, perform, step}
-use Rattle.definition.specs.Refusal.{rank_of}
 use Rattle.definition.specs.Store.{Store}
 use Rattle.definition.specs.World.{World, record_at}
 use Rattle.record.specs.Records.{pages_in}
@@ -19,11 +19,9 @@ use Rattle.world.specs.Refusals.{earlier, refusal_of}
 use Rattle.world.proofs.Refusing.{two_frames}
 use Rattle.allocator.specs.declared.Seen.{Seen}
 use Rattle.allocator.specs.Spots.{number_at}
-use Rattle.exam.specs.declared.Exam.{Exam}
 use Rattle.exam.specs.Making.{LooksIn, Made, RoomIn, TableIn, Whole}
-use Rattle.exam.specs.Promise.{Looks}
-use Rattle.exam.proofs.Making.{looked_number, looked_refusal, made_done, made_refused}
-use Rattle.exam.proofs.Promises.{done_by, refused_by}
+use Rattle.exam.specs.Promise.{Looks, both_held, refusal_in, reply}
+use Rattle.exam.proofs.Making.{looked_number, made_done, made_refused, whole_table}
 use Rattle.ranges.proofs.Held.{held_in, looked_ends}
 use Rattle.copies.specs.Copies.{Spans, SpansIn, Written}
 
@@ -63,46 +61,51 @@ module _ {board : Board} {w : World} {s : Store} (W : Whole board w s) where
 
 -- what the workers require of a frame that was looked at
 pub spans_of
-    : (ws rs m : List ℕ) {a off len : ℕ} {x : Exam} → TableIn ws rs → RoomIn ws m → LooksIn ws rs a off len x → x.number ≡ 0
-    → SpansIn ws rs m x.seen off len
-spans_of ws rs m T room L z = record { held = L.held z; range = L.range z; ends = omega (arith, looked_ends ws rs T L z m room) }
+    : (ws rs m : List ℕ) {a off len : ℕ} {r : Seen} → TableIn ws rs → RoomIn ws m → LooksIn ws rs a off len (Ok r)
+    → SpansIn ws rs m r off len
+spans_of ws rs m {r = r} T room L =
+    let F = L.found r refl in
+    record { held = F.held; range = F.range; ends = omega (arith, looked_ends ws rs T L m room) }
 
--- the earlier of two is none where each is none
-pub earlier_none : (a b : ℕ) → earlier a b ≡ 0 → (a ≡ 0) × (b ≡ 0)
-earlier_none a b e = go (ℕ_discrete a 0) (ℕ_discrete b 0)
-  where
-    less : (t : Bool) → cond t a b ≡ 0 → (a ≡ 0 → ⊥) → (b ≡ 0 → ⊥) → ⊥
-    less true e h k = h e
-    less false e h k = k e
+-- of two that were looked at, the refusal that is tried first
+pub both_refusal : (x y : Result Seen Refusal) → earlier (refusal_in x) (refusal_in y) ≡ refusal_in (both_held x y)
+both_refusal (Ok r) (Ok t) = refl
+both_refusal (Ok r) (Err e) = refl
+both_refusal (Err e) (Ok t) = refl
+both_refusal (Err e) (Err g) = refl
 
-    go : Dec (a ≡ 0) → Dec (b ≡ 0) → (a ≡ 0) × (b ≡ 0)
-    go (yes h) (yes k) = (h, k)
-    go (yes h) (no k) = absurd (k (rw (eq-eqb a 0 h) at e))
-    go (no h) (yes k) = absurd (h (rw (ne_eqb a 0 h, eq-eqb b 0 k) at e))
-    go (no h) (no k) = absurd (less (ltb (rank_of a) (rank_of b)) (rw (ne_eqb a 0 h, ne_eqb b 0 k) at e) h k)
+-- both were found where there is none
+pub both_found : (x y : Result Seen Refusal) {r t : Seen} → both_held x y ≡ Ok (r, t) → (x ≡ Ok r) × (y ≡ Ok t)
+both_found (Ok f) (Ok g) {r} {t} e =
+    let k : ◌≡◌ {A = Seen × Seen} (f, g) (r, t) = grind arith in
+    (ap (λ (p : Seen × Seen). Ok p.0) k, ap (λ (p : Seen × Seen). Ok p.1) k)
+both_found (Ok f) (Err g) e = absurd (grind arith)
+both_found (Err f) (Ok g) e = absurd (grind arith)
+both_found (Err f) (Err g) e = absurd (grind arith)
 
 -- ---- the promise
 
 module _ {board : Board} {w : World} {s : Store} (W : Whole board w s) where
-  abbrev LooksAt : (a off len : ℕ) → Exam → Type 0
+  abbrev LooksAt : (a off len : ℕ) → Result Seen Refusal → Type 0
   LooksAt a off len x = Looks board (record_at w.records) (pages_in w.records) w.rows a off len x
 
-  module _ {a off b soff len : ℕ} {to from : Exam} (L : LooksAt a off len to) (F : LooksAt b soff len from) where
-    refusal : refusal_of board s (Copy a off b soff len) ≡ earlier to.number from.number
-    refusal = two_frames board s a off b soff len ∙ rw (looked_refusal W L, looked_refusal W F) refl
+  module _ {a off b soff len : ℕ} {x y : Result Seen Refusal} (L : LooksAt a off len x) (F : LooksAt b soff len y) where
+    refusal : refusal_of board s (Copy a off b soff len) ≡ refusal_in (both_held x y)
+    refusal =
+        two_frames board s a off b soff len
+        ∙ rw (L.refusal s (whole_table W), F.refusal s (whole_table W)) (both_refusal x y)
 
-    pub copy_refused
-        : (n : ℕ) → n ≡ earlier to.number from.number → (n ≡ 0 → ⊥)
-        → Made board (step board s (Copy a off b soff len)) w w (refused_by n)
-    copy_refused n e d = made_refused W (Copy a off b soff len) n (refusal ∙ sym e) d
+    pub copy_refused : (e : Refusal) → both_held x y ≡ Err e → Made board (step board s (Copy a off b soff len)) w w (Err e)
+    copy_refused e k = made_refused W (Copy a off b soff len) e (refusal ∙ ap refusal_in k)
 
     pub copy_made
-        : to.number ≡ 0 → from.number ≡ 0 → (v : World)
+        : {to from : Seen} → both_held x y ≡ Ok (to, from) → (v : World)
         → Written board
-        (copy_contents_from board s (number_at board w.rows to.seen.spot) off (number_at board w.rows from.seen.spot) soff len) w v
-        → Made board (step board s (Copy a off b soff len)) w v (done_by a len)
+        (copy_contents_from board s (number_at board w.rows to.spot) off (number_at board w.rows from.spot) soff len) w v
+        → Made board (step board s (Copy a off b soff len)) w v (Ok (reply a len))
     unfolding perform
-    copy_made y z v D =
-        let E = rw (looked_number W L y, looked_number W F z) at D in
+    copy_made {to} {from} k v D =
+        let k2 = both_found x y k in
+        let E = rw (looked_number W L to k2.0, looked_number W F from k2.1) at D in
         made_done W (Copy a off b soff len) (done (copy_contents_from board s (a / board.page) off (b / board.page) soff len) a len) v
-        (refusal ∙ rw (y, z) refl) refl E.whole E.world
+        (refusal ∙ ap refusal_in k) refl E.whole E.world

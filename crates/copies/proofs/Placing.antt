@@ -1,9 +1,12 @@
--- A copy from a physical address: the region that manages the address is the one whose row was seen, so what the sheet asks of all regions is asked of that row,
--- and the bytes up to the region's end follow one another in the loan.
+-- A copy from a physical address: the region that manages the address is the one whose row was seen, so what the sheet asks of all
+-- regions is asked of that row, and the bytes up to the region's end follow one another in the loan.
 use Prim.Native.Nat.{ℕ, zero, suc, ◌+◌, ◌-◌, ◌*◌, ◌/◌, ◌%◌, ◌≤◌, ◌<◌}
 use mathlib.Core.Bool.{Bool, true, false, not, cond, ◌&&◌, ◌||◌}
 use mathlib.Core.List.{List, [], ◌∷◌}
-use mathlib.Core.Path.{◌≡◌, refl, sym, ◌∙◌}
+use mathlib.Core.Option.{none, some}
+use mathlib.Core.Path.{◌≡◌, refl, sym, ap, ◌∙◌}
+use Rattle.std.specs.Prelude.{Result, Ok, Err, Some, None}
+use Rattle.std.specs.Prelude.{Option as MayBe}
 use native.Mathlib.Omega.{arith}
 use borrow.Author.Tests.{ltb-false}
 use lib.Dec.{ltb}
@@ -12,6 +15,7 @@ use Rattle.definition.proofs.Boards.{page_least}
 use Rattle.definition.proofs.Bytes.{address_is, offset_small, page_before, pages_less}
 use Rattle.definition.specs.declared.Record.{Record}
 use Rattle.definition.specs.declared.Row.{Row}
+use Rattle.definition.specs.declared.Refusal.{Refusal}
 use Rattle.definition.specs.declared.Refusal.TheVariants.{Outside, PastTheEnd}
 use Rattle.definition.specs.Basics.{any}
 use Rattle.definition.specs.Board.{Board, Fit}
@@ -25,7 +29,7 @@ use Rattle.definition.specs.World.{World, bare_region, record_at, used_rows}
 use Rattle.definition.specs.Torn.{bare_regions, regions_of}
 use Rattle.record.specs.Records.{pages_in}
 use Rattle.region.specs.Rep.{Inside, from_of, managed}
-use Rattle.world.specs.Refusals.{earlier, number_if, place_refusal, range_of, refusal_of}
+use Rattle.world.specs.Refusals.{place_refusal, range_of, refusal_of}
 use Rattle.world.specs.Stands.{Disjoint, Each, Parted, row_at}
 use Rattle.world.specs.Stands.Disjoint.{disjoint_more}
 use Rattle.world.specs.Stands.Each.{each_none, each_more}
@@ -37,14 +41,16 @@ use Rattle.world.proofs.Spans.{any_spans, runs_bare, spans_bare}
 use Rattle.world.proofs.Tables.{used_row}
 use Rattle.world.proofs.Writing.{memory_read}
 use Rattle.allocator.specs.declared.Seen.{Seen}
-use Rattle.allocator.specs.Spots.{Sees, number_at}
+use Rattle.allocator.specs.Spots.{Sees, SeesIn, SeesPage, number_at}
+use Rattle.allocator.proofs.Standing.{sane_table, standing}
+use Rattle.words.specs.Words.{board_in, rows_in}
+use Rattle.words.proofs.Words.{fit_in}
 use Rattle.allocator.proofs.Turning.{sees_in, spot_good, spot_index}
-use Rattle.exam.specs.declared.Exam.{Exam}
-use Rattle.exam.specs.Making.{Made, Whole}
-use Rattle.exam.specs.Promise.{Looks}
-use Rattle.exam.proofs.Making.{looked_number, looked_refusal, made_done, made_refused}
-use Rattle.exam.proofs.Promises.{done_by, refused_by}
-use Rattle.copies.specs.Copies.{Placed, Written, end_seen, place_seen}
+use Rattle.exam.specs.Making.{Made, RoomIn, TableIn, Whole}
+use Rattle.exam.specs.Promise.{Looks, both_held, refusal_in, reply}
+use Rattle.exam.proofs.Making.{looked_number, made_done, made_refused, whole_table}
+use Rattle.copies.specs.Copies.{Inward, Placed, Written, end_seen, place_seen}
+use Rattle.copies.proofs.Copying.{both_found, both_refusal}
 
 -- ---- one region of many
 
@@ -86,7 +92,9 @@ module _ (board : Board) where
 
 -- ---- the refusal
 
-by_tests : (e h : Bool) → number_if (first_met ((Outside when not e) ∷ (PastTheEnd when h) ∷ [])) ≡ cond (not e) 11 (cond h 14 0)
+by_tests
+    : (e h : Bool)
+    → first_met ((Outside when not e) ∷ (PastTheEnd when h) ∷ []) ≡ cond (not e) (some Outside) (cond h (some PastTheEnd) none)
 unfolding first_met
 by_tests false h = refl
 by_tests true true = refl
@@ -94,38 +102,46 @@ by_tests true false = refl
 
 -- ---- what was seen of a sane table
 
-none_met : (m h : Bool) → ◌≡◌ {A = ℕ} (cond (not m) 11 (cond h 14 0)) 0 → (m ≡ true) × (h ≡ false)
-none_met false h e = absurd (omega arith)
-none_met true true e = absurd (omega arith)
-none_met true false e = (refl, refl)
+passed : (h : Bool) {r t : Seen} → ◌≡◌ {A = Result Seen Refusal} (cond h (Err PastTheEnd) (Ok r)) (Ok t) → (h ≡ false) × (r ≡ t)
+passed true e = absurd (grind arith)
+passed false e = (refl, grind arith)
+
+module _ (board : Board) (rows : List Row) (a len : ℕ) {r : Seen} where
+  -- a place that is not refused was seen, and its range ends within its region
+  place_found
+      : (o : MayBe Seen) → place_seen board rows o a len ≡ Ok r → (o ≡ Some r) × (ltb (end_seen board rows r) (a + len) ≡ false)
+  place_found None e = absurd (grind arith)
+  place_found (Some t) e =
+      let k = passed (ltb (end_seen board rows t) (a + len)) e in
+      (ap Some k.1, rw (← k.1) k.0)
 
 module _
     {board : Board} {f : ℕ → Record} {n : ℕ} {rows : List Row} (N : Sane board f n rows) (a : ℕ) {x : PhysicalFrameAllocator} {r : Seen}
-    (Y : Sees board f rows (a / board.page) x r)
+    (Y : SeesPage board f rows (a / board.page) x r)
   where
     abbrev row : Row
     row = row_at rows r.spot.index
 
-    seen_inside : r.managed ≡ true → Inside board (from_of board row) row.pages (a / board.page)
-    seen_inside m =
-        let I = Y.spot m in
+    seen_inside : Inside board (from_of board row) row.pages (a / board.page)
+    seen_inside =
+        let I = Y.spot in
         record { low = omega (arith, I.number); high = omega (arith, I.number, I.inside.low, I.inside.high) }
 
-    pub seen_placed : Fit board → Placed board rows r a
-    seen_placed fit m =
-        let I = Y.spot m in
-        let k = seen_inside m in
+    seen_inward : Fit board → Inward board rows r a
+    seen_inward fit =
+        let I = Y.spot in
+        let k = seen_inside in
         record {
-          index = spot_index N (sees_in Y m);
+          index = spot_index N (sees_in Y);
           before =
               let P = board.page in
               let last = page_before P {a = a / P} {b = end board (bare_region board row)} (omega (arith, spotted_end I, k.high)) in
               omega (arith, last, address_is P a, offset_small P (omega (arith, page_least fit)) a);
-          bounded = (spot_good N (sees_in Y m)).bounded;
+          bounded = (spot_good N (sees_in Y)).bounded;
         }
 
     -- the bytes of a place that is not refused follow one another, up to the end of its region
-    module _ (len : ℕ) (z : place_seen board rows r a len ≡ 0) where
+    module _ (len : ℕ) (h : ltb (end_seen board rows r) (a + len) ≡ false) where
       abbrev at : ℕ
       at = board.page * r.spot.page + a % board.page
 
@@ -134,68 +150,99 @@ module _
       RunsIn rs = Runs board rs (a / board.page) r.spot.page (end board (bare_region board row) - a / board.page)
 
       place_runs : RunsIn (regions_of board rows)
-      place_runs = spotted_runs (Y.spot (none_met r.managed (ltb (end_seen board rows r) (a + len)) z).0) N.apart
+      place_runs = spotted_runs Y.spot N.apart
 
       place_lies : {rs : List AllocationRegion} → RunsIn rs → Lies board rs a at len
       place_lies R =
           let P = board.page in
-          let e = ltb-false (end_seen board rows r) (a + len) (none_met r.managed (ltb (end_seen board rows r) (a + len)) z).1 in
-          let h : a % P + len ≤ P * (end board (bare_region board row) - a / P) =
+          let e = ltb-false (end_seen board rows r) (a + len) h in
+          let k : a % P + len ≤ P * (end board (bare_region board row) - a / P) =
           omega (arith, e, address_is P a, pages_less P (end board (bare_region board row)) (a / P))
           in
-          runs_lies board R (a % P) len h (sym (address_is P a)) refl
+          runs_lies board R (a % P) len k (sym (address_is P a)) refl
 
-      pub place_ends : at + len ≤ board.page * managed_pages board (regions_of board rows)
+      place_ends : at + len ≤ board.page * managed_pages board (regions_of board rows)
       place_ends = (place_lies place_runs).ends
+
+-- ---- by the loans
+
+module _ (ws rs : List ℕ) (a : ℕ) {o : MayBe Seen} (T : TableIn ws rs) (S : SeesIn rs ws (a / (board_in ws).page) o) where
+  -- in the table that the words and the records hold
+  abbrev here : PhysicalFrameAllocator
+  here = standing (board_in ws) (record_at rs) (rows_in ws)
+
+  page_there : (r : Seen) → o ≡ Some r → SeesPage (board_in ws) (record_at rs) (rows_in ws) (a / (board_in ws).page) here r
+  page_there = (S here (sane_table T.1)).page
+
+  pub seen_placed : Placed (board_in ws) (rows_in ws) o a
+  seen_placed r e = seen_inward T.1 a (page_there r e) (fit_in ws)
+
+  -- the place, which lies in the loan
+  pub seen_ends
+      : (len : ℕ) {r : Seen} → place_seen (board_in ws) (rows_in ws) o a len ≡ Ok r → (m : List ℕ) → RoomIn ws m
+      → (board_in ws).page * r.spot.page + a % (board_in ws).page + len ≤ length m
+  seen_ends len {r} e m room =
+      let p = place_found (board_in ws) (rows_in ws) a len o e in
+      omega (arith, place_ends T.1 a (page_there r p.0) len p.1, room)
 
 -- ---- in a world that holds a store
 
-module _ {board : Board} {w : World} {s : Store} (W : Whole board w s) (a : ℕ) {r : Seen}
-    (Y : Sees board (record_at w.records) w.rows (a / board.page) s.allocator r)
-  where
-    seen_leaves : (len : ℕ) → r.managed ≡ true → leaves_region board s (range_of a 0 len) ≡ ltb (end_seen board w.rows r) (a + len)
-    seen_leaves len m =
-        let I = Y.spot m in
+module _ {board : Board} {w : World} {s : Store} (W : Whole board w s) (a len : ℕ) where
+  module _ {r : Seen} (Y : SeesPage board (record_at w.records) w.rows (a / board.page) s.allocator r) where
+    seen_leaves : leaves_region board s (range_of a 0 len) ≡ ltb (end_seen board w.rows r) (a + len)
+    seen_leaves =
+        let I = Y.spot in
         let e : a + (0 + len) ≡ a + len = omega arith in
         let here = of_row board (a / board.page) (a + len) (used_rows w.rows) r.spot.index W.sane.apart I.used in
         spans_bare (any_spans (leaves board (a / board.page) (a + (0 + len))) (λ t. refl)) W.stands.rows
-        ∙ rw e (rw (used_row w.rows r.spot.index I.used) at here (seen_inside W.sane a Y m))
+        ∙ rw e (rw (used_row w.rows r.spot.index I.used) at here (seen_inside W.sane a Y))
 
-    place_seen_lem : (len : ℕ) → place_refusal board s (range_of a 0 len) ≡ place_seen board w.rows r a len
-    place_seen_lem len =
-        by_tests (is_managed board s.allocator.regions (a / board.page)) (leaves_region board s (range_of a 0 len))
-        ∙ rw (← Y.managed) (go r.managed refl)
-      where
-        go : (m : Bool) → r.managed ≡ m
-            → ◌≡◌ {A = ℕ} (cond (not m) 11 (cond (leaves_region board s (range_of a 0 len)) 14 0))
-            (cond (not m) 11 (cond (ltb (end_seen board w.rows r) (a + len)) 14 0))
-        go false e = refl
-        go true e = rw (seen_leaves len e) refl
+    place_bytes
+        : ltb (end_seen board w.rows r) (a + len) ≡ false
+        → bytes_at s.memory a len ≡ take len (drop (board.page * r.spot.page + a % board.page) w.memory)
+    place_bytes h =
+        let lies = place_lies W.sane a Y len h (runs_bare W.stands.rows (place_runs W.sane a Y len h)) in
+        memory_read board lies s.memory w.memory W.stands.fits W.stands.memory
 
-    pub place_bytes
-        : (len : ℕ) → place_seen board w.rows r a len ≡ 0 → {from : ℕ} → from ≡ board.page * r.spot.page + a % board.page
-        → bytes_at s.memory a len ≡ take len (drop from w.memory)
-    place_bytes len z e =
-        let lies = place_lies W.sane a Y len z (runs_bare W.stands.rows (place_runs W.sane a Y len z)) in
-        rw e (memory_read board lies s.memory w.memory W.stands.fits W.stands.memory)
+  end_refusal : (h : Bool) (r : Seen) → cond h (some PastTheEnd) none ≡ refusal_in (cond h (Err PastTheEnd) (Ok r))
+  end_refusal true r = refl
+  end_refusal false r = refl
 
-    -- ---- the promise
+  place_seen_lem
+      : (o : MayBe Seen) → Sees board (record_at w.records) w.rows (a / board.page) s.allocator o
+      → place_refusal board s (range_of a 0 len) ≡ refusal_in (place_seen board w.rows o a len)
+  place_seen_lem None S =
+      by_tests (is_managed board s.allocator.regions (a / board.page)) (leaves_region board s (range_of a 0 len))
+      ∙ rw (← S.managed) refl
+  place_seen_lem (Some r) S =
+      by_tests (is_managed board s.allocator.regions (a / board.page)) (leaves_region board s (range_of a 0 len))
+      ∙ rw (← S.managed, seen_leaves (S.page r refl)) (end_refusal (ltb (end_seen board w.rows r) (a + len)) r)
 
-    module _ {b off len : ℕ} {to : Exam} (L : Looks board (record_at w.records) (pages_in w.records) w.rows b off len to) where
-      refusal : refusal_of board s (Pcopy b off a len) ≡ earlier to.number (place_seen board w.rows r a len)
-      refusal = frame_and_place board s b off a 0 len len ∙ rw (looked_refusal W L, place_seen_lem len) refl
+  -- ---- the promise
 
-      pub pcopy_refused
-          : (n : ℕ) → n ≡ earlier to.number (place_seen board w.rows r a len) → (n ≡ 0 → ⊥)
-          → Made board (step board s (Pcopy b off a len)) w w (refused_by n)
-      pcopy_refused n e d = made_refused W (Pcopy b off a len) n (refusal ∙ sym e) d
+  module _ {o : MayBe Seen} (S : Sees board (record_at w.records) w.rows (a / board.page) s.allocator o)
+      {b off : ℕ} {x : Result Seen Refusal} (L : Looks board (record_at w.records) (pages_in w.records) w.rows b off len x)
+    where
+      abbrev both : Result (Seen × Seen) Refusal
+      both = both_held x (place_seen board w.rows o a len)
+
+      refusal : refusal_of board s (Pcopy b off a len) ≡ refusal_in both
+      refusal =
+          frame_and_place board s b off a 0 len len
+          ∙ rw (L.refusal s (whole_table W), place_seen_lem o S) (both_refusal x (place_seen board w.rows o a len))
+
+      pub pcopy_refused : (e : Refusal) → both ≡ Err e → Made board (step board s (Pcopy b off a len)) w w (Err e)
+      pcopy_refused e k = made_refused W (Pcopy b off a len) e (refusal ∙ ap refusal_in k)
 
       pub pcopy_made
-          : to.number ≡ 0 → place_seen board w.rows r a len ≡ 0 → (v : World)
-          → Written board (copy_contents_from_physaddr board s (number_at board w.rows to.seen.spot) off a len) w v
-          → Made board (step board s (Pcopy b off a len)) w v (done_by b len)
+          : {to from : Seen} → both ≡ Ok (to, from) → (v : World)
+          → (bytes_at s.memory a len ≡ take len (drop (board.page * from.spot.page + a % board.page) w.memory)
+          → Written board (copy_contents_from_physaddr board s (number_at board w.rows to.spot) off a len) w v)
+          → Made board (step board s (Pcopy b off a len)) w v (Ok (reply b len))
       unfolding perform
-      pcopy_made y z v D =
-          let E = rw (looked_number W L y) at D in
+      pcopy_made {to} {from} k v D =
+          let n = both_found x (place_seen board w.rows o a len) k in
+          let p = place_found board w.rows a len o n.1 in
+          let E = rw (looked_number W L to n.0) at (D (place_bytes (S.page from p.0) p.1)) in
           made_done W (Pcopy b off a len) (done (copy_contents_from_physaddr board s (b / board.page) off a len) b len) v
-          (refusal ∙ rw (y, z) refl) refl E.whole E.world
+          (refusal ∙ ap refusal_in k) refl E.whole E.world

@@ -1,5 +1,6 @@
--- What the workers of a copy leave of the loans, for a store that they hold (`Written`): other bytes of a held frame's range, and another ZEROED of the frame. A
--- range is zeroed (`zero_part`, `zero_whole`), or bytes of the loan are moved into the frame (`moved_into`), or nothing is done (`written_same`).
+-- What the workers of a copy leave of the loans, for a store that they hold (`Written`): other bytes of a held frame's range, and another
+-- ZEROED of the frame. A range is zeroed (`zero_part`, `zero_whole`), or bytes of the loan are moved into the frame (`moved_into`), or
+-- nothing is done (`written_same`).
 use Prim.Native.Nat.{ℕ, ◌+◌, ◌*◌}
 use mathlib.Core.Bool.{Bool, true, false, ◌&&◌}
 use mathlib.Core.List.{List}
@@ -18,7 +19,8 @@ use Rattle.allocator.specs.Spots.{number_at}
 use Rattle.exam.specs.Making.{Whole}
 use Rattle.exam.specs.Promise.{bytes_if}
 use Rattle.ranges.proofs.Held.{held_bytes, held_filled, held_written}
-use Rattle.ranges.proofs.Marking.{Remarked, marked_left, marked_whole, relent, written_left, written_whole}
+use Rattle.ranges.specs.Marking.{Remarked}
+use Rattle.ranges.proofs.Marking.{marked_left, marked_whole, relent, written_left, written_whole}
 use Rattle.copies.specs.Copies.{Spans, Written}
 
 module _ {board : Board} {w : World} {s : Store} (W : Whole board w s) where
@@ -45,9 +47,9 @@ module _ {board : Board} {w : World} {s : Store} (W : Whole board w s) where
         let R = held_filled W P.held refl off len P.range 0 in
         rw (held_bytes W P.held refl, ← d, e) (record { whole = written_whole W m zeros R; world = written_left W m zeros R })
 
-    module _ {kernel : Bool} {bs : List ℕ} where
+    module _ {bs : List ℕ} where
       pub zero_whole
-          : Remarked board w r true kernel bs → {whole : Bool} → whole ≡ (eqb off 0 && eqb len (bytes_if board r)) → whole ≡ true
+          : Remarked board w.rows w.records r true bs → {whole : Bool} → whole ≡ (eqb off 0 && eqb len (bytes_if board r)) → whole ≡ true
           → Written board (zero_range board s number off len) w (relent w bs zeros)
       unfolding zero_range
       zero_whole M d e =
@@ -58,7 +60,7 @@ module _ {board : Board} {w : World} {s : Store} (W : Whole board w s) where
 
       -- bytes of the loan are moved into the range
       pub moved_into
-          : Remarked board w r false kernel bs → (from a : ℕ) → bytes_at s.memory a len ≡ take len (drop from w.memory)
+          : Remarked board w.rows w.records r false bs → (from a : ℕ) → bytes_at s.memory a len ≡ take len (drop from w.memory)
           → Written board (copy_contents_from_physaddr board s number off a len) w
           (relent w bs (with_bytes w.memory at (take len (drop from w.memory))))
       unfolding copy_contents_from_physaddr set_not_zero

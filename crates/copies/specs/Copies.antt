@@ -1,46 +1,47 @@
--- What the parts of a read and of a copy promise: `FindsIn` where the bytes that are read stand in the lent memory, `WritesBy` and `MovesTo` what the workers of a
--- copy leave of the loans, for every store that they hold.
-use Rattle.std.specs.Prelude.{ℕ, ◌+◌, ◌*◌, ◌≤◌, ◌<◌, ◌^◌, true, not, cond, List, [], ◌≡◌, eqb, ltb, length, take, drop}
+-- What the parts of a read and of a copy promise: `FindsIn` where the bytes that are read stand in the lent memory, `WritesBy` and
+-- `MovesTo` what the workers of a copy leave of the loans, for every store that they hold.
+use Rattle.std.specs.Prelude.{ℕ, ◌+◌, ◌*◌, ◌≤◌, ◌<◌, ◌^◌, cond, List, [], Option, Some, None, Result, Ok, Err, ◌≡◌, ltb, length, take, drop}
 use Rattle.definition.specs.declared.Record.{Record}
 use Rattle.definition.specs.declared.Row.{Row}
 use Rattle.definition.specs.declared.Counters.{Counters}
+use Rattle.definition.specs.declared.Refusal.{Refusal}
+use Rattle.definition.specs.declared.Refusal.TheVariants.{Outside, PastTheEnd}
 use Rattle.definition.specs.Board.{Board}
 use Rattle.definition.specs.Frame.{size}
 use Rattle.definition.specs.Allocator.{end}
 use Rattle.definition.specs.Store.{Store}
 use Rattle.definition.specs.Contents.{bytes_at, copy_contents_from_physaddr}
-use Rattle.definition.specs.Calls.{Answer, Refused, Done, Text, Bytes, Read, step}
+use Rattle.definition.specs.Calls.{Answer as AnswerOf, Refused, Done, Text, Bytes, Read, step}
 use Rattle.definition.specs.World.{World, bare_region, encode, record_at}
 use Rattle.words.specs.Words.{board_in, rows_in}
 use Rattle.world.specs.Stands.{row_at}
 use Rattle.allocator.specs.declared.Seen.{Seen}
 use Rattle.allocator.specs.declared.Spot.{Spot}
 use Rattle.allocator.specs.Spots.{number_in}
-use Rattle.exam.specs.declared.Answer.{Answer as Answer3}
-use Rattle.exam.specs.Promise.{HeldSeen}
+use Rattle.exam.specs.Promise.{Answer, HeldSeen, reply}
 use Rattle.exam.specs.Making.{Reads, RoomIn, Whole, world}
-use Rattle.copies.specs.declared.Place.{Place}
 
 -- ---- a read
 
 -- the bytes that were read, none where the call was refused
-abbrev pub bytes_of : Answer → List ℕ
+abbrev pub bytes_of : AnswerOf → List ℕ
 bytes_of (Refused r) = []
 bytes_of (Done a n) = []
 bytes_of (Text t) = []
 bytes_of (Bytes t) = t
 
--- the answer of a read by its number
-abbrev pub read_by : (number len : ℕ) → Answer3
-read_by n len = cond (eqb n 0) (record { number = 0; address = 0; bytes = len }) (record { number = n; address = 0; bytes = 0 })
+-- the answer of a read by where its bytes stand
+abbrev pub read_by : Result ℕ Refusal → (len : ℕ) → Answer
+read_by (Ok at) len = Ok (reply 0 len)
+read_by (Err r) len = Err r
 
 -- where the bytes of a read stand in every memory that has room for the managed pages
-pub record FindsIn (ws rs : List ℕ) (a off len : ℕ) (r : Place) : Type 0 where
-  pub makes : Reads (Read a off len) ws rs (read_by r.number len)
-  pub inside : r.number ≡ 0 → (m : List ℕ) → RoomIn ws m → r.at + len ≤ length m
+pub record FindsIn (ws rs : List ℕ) (a off len : ℕ) (x : Result ℕ Refusal) : Type 0 where
+  pub makes : Reads (Read a off len) ws rs (read_by x len)
+  pub inside : (at : ℕ) → x ≡ Ok at → (m : List ℕ) → RoomIn ws m → at + len ≤ length m
   pub bytes
-      : r.number ≡ 0 → (k : Counters) (m q : List ℕ) (s : Store) → Whole (board_in ws) (world k ws rs m q) s
-      → take len (drop r.at m) ≡ bytes_of (step (board_in ws) s (Read a off len)).answer
+      : (at : ℕ) → x ≡ Ok at → (k : Counters) (m q : List ℕ) (s : Store) → Whole (board_in ws) (world k ws rs m q) s
+      → take len (drop at m) ≡ bytes_of (step (board_in ws) s (Read a off len)).answer
 
 -- ---- a copy
 
@@ -61,12 +62,13 @@ module _ (board : Board) where
     pub before : a < end_seen rows r
     pub bounded : end_seen rows r ≤ 2 ^ 40
 
-  abbrev pub Placed : List Row → Seen → ℕ → Type 0
-  Placed rows r a = r.managed ≡ true → Inward rows r a
+  abbrev pub Placed : List Row → Option Seen → ℕ → Type 0
+  Placed rows o a = (r : Seen) → o ≡ Some r → Inward rows r a
 
   -- 11 and 14 of a place that need only be managed, by what was seen at the address a
-  abbrev pub place_seen : List Row → Seen → (a len : ℕ) → ℕ
-  place_seen rows r a len = cond (not r.managed) 11 (cond (ltb (end_seen rows r) (a + len)) 14 0)
+  abbrev pub place_seen : List Row → Option Seen → (a len : ℕ) → Result Seen Refusal
+  place_seen rows None a len = Err Outside
+  place_seen rows (Some r) a len = cond (ltb (end_seen rows r) (a + len)) (Err PastTheEnd) (Ok r)
 
   -- from the world w on, v is left, which holds the store t
   pub record Written (t : Store) (w v : World) : Type 0 where
@@ -81,10 +83,13 @@ SpansIn ws rs m r off len = Spans (board_in ws) (record_at rs) (rows_in ws) (len
 -- the loans became those of what `op` makes of every store that they hold, whatever the counters and the queue
 abbrev pub WritesBy : (Store → Store) → (words records memory records' memory' : List ℕ) → Type 0
 WritesBy op ws rs m rs' m' =
-    (k : Counters) (q : List ℕ) (s : Store) → Whole (board_in ws) (world k ws rs m q) s → Written (board_in ws) (op s) (world k ws rs m q) (world k ws rs' m' q)
+    (k : Counters) (q : List ℕ) (s : Store) → Whole (board_in ws) (world k ws rs m q) s
+    → Written (board_in ws) (op s) (world k ws rs m q) (world k ws rs' m' q)
 
 -- the same of a copy into the frame of a spot, from any address whose bytes are those of the loan from `from` on
 abbrev pub MovesTo : Spot → (off from len : ℕ) → (words records memory records' memory' : List ℕ) → Type 0
 MovesTo spot off from len ws rs m rs' m' =
-    (k : Counters) (q : List ℕ) (s : Store) → Whole (board_in ws) (world k ws rs m q) s → (a : ℕ) → bytes_at s.memory a len ≡ take len (drop from m)
-    → Written (board_in ws) (copy_contents_from_physaddr (board_in ws) s (number_in ws spot) off a len) (world k ws rs m q) (world k ws rs' m' q)
+    (k : Counters) (q : List ℕ) (s : Store) → Whole (board_in ws) (world k ws rs m q) s
+    → (a : ℕ) → bytes_at s.memory a len ≡ take len (drop from m)
+    → Written (board_in ws) (copy_contents_from_physaddr (board_in ws) s (number_in ws spot) off a len) (world k ws rs m q)
+    (world k ws rs' m' q)

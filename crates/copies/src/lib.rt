@@ -15,33 +15,25 @@ ghost use Rattle.copies.specs.Copies.{FindsIn, SpansIn, WritesBy, MovesTo, Place
 
 use address::PhysAddr;
 use allocator::Seen;
-use definition::Board;
-use exam::Answer;
+use definition::{Board, Refusal};
+use exam::{Answer, Reply};
 
 // ---- read
 
-// The refusal's number, or 0 and where the bytes that are read stand in the memory.
-#[derive(Clone, Copy)]
-pub struct Place {
-    pub number: u32,
-    pub at: usize,
-}
-
-pub fn read_place(words: &[u64], records: &[u8], pa: PhysAddr, offset: u64, len: u64) -> Place
+// Where the bytes that are read stand in the memory.
+#[tactic(auto, using(crate::proofs::Reading::place_small, crate::proofs::Reading::finds_place, crate::proofs::Reading::finds_refused))]
+pub fn read_place(
+    words: &[u64],
+    records: &[u8],
+    pa: PhysAddr,
+    offset: u64,
+    len: u64,
+) -> Result<usize, Refusal>
     requires { TableIn words.now records.now }
     ensures { FindsIn words.now records.now pa.0 offset len result }
 {
-    let exam = exam::look(words, records, pa, offset, len);
-    let number = exam.number;
-    if number != 0 {
-        return Place { number, at: 0 };
-    }
-    let seen = exam.seen;
-    let spot = seen.spot;
-    Place {
-        number: 0,
-        at: exam::place(words, spot.page, offset),
-    }
+    let seen = exam::look(words, records, pa, offset, len)?;
+    Ok(exam::place(words, seen.spot.page, offset))
 }
 
 // ---- copy
@@ -52,10 +44,7 @@ fn is_whole(board: Board, seen: Seen, offset: u64, len: u64) -> bool
     requires level_known { LevelKnown seen }
     ensures { result ≡ (eqb offset 0 && eqb len (bytes_if board seen)) }
 {
-    if offset != 0 {
-        return false;
-    }
-    len == exam::frame_bytes(board, seen)
+    offset == 0 && len == exam::frame_bytes(board, seen)
 }
 
 // Bytes of a held frame become 0; 01: "sets the mark if that is the whole frame".
@@ -65,13 +54,11 @@ fn zero_range(words: &[u64], records: &mut [u8], memory: &mut [u8], to: Seen, of
     ensures { WritesBy (λ s. zero_range (board_in words.now) s (number_in words.now to.spot) offset len)
         words.now records.old memory.old records.new memory.new }
 {
-    let spot = to.spot;
-    let at = exam::place(words, spot.page, offset);
+    let at = exam::place(words, to.spot.page, offset);
     contents::fill(memory, at, len as usize, 0);
-    if !is_whole(words::board_in(words), to, offset, len) {
-        return;
+    if is_whole(words::board_in(words), to, offset, len) {
+        ranges::mark(words, records, to, true);
     }
-    allocator::set_marks(words, records, spot, true, record::is_kernel(to.marks));
 }
 
 // Bytes of the loan, from `from` on, go to a held frame, which is not zeroed then.
@@ -89,10 +76,9 @@ fn move_into(
     ensures { MovesTo to.spot offset from len
         words.now records.old memory.old records.new memory.new }
 {
-    let spot = to.spot;
-    let at = exam::place(words, spot.page, offset);
+    let at = exam::place(words, to.spot.page, offset);
     contents::copy(memory, at, from, len as usize);
-    allocator::set_marks(words, records, spot, false, record::is_kernel(to.marks));
+    ranges::mark(words, records, to, false);
 }
 
 // Frame::copy_contents_from, frame.rs 491, of two held frames.
@@ -114,15 +100,11 @@ fn copy_contents_from(
         words.now records.old memory.old records.new memory.new }
 {
     if !record::is_zeroed(from.marks) {
-        let spot = from.spot;
-        let at = exam::place(words, spot.page, from_offset);
+        let at = exam::place(words, from.spot.page, from_offset);
         move_into(words, records, memory, to, offset, at, len);
-        return;
+    } else if !record::is_zeroed(to.marks) {
+        zero_range(words, records, memory, to, offset, len);
     }
-    if record::is_zeroed(to.marks) {
-        return;
-    }
-    zero_range(words, records, memory, to, offset, len);
 }
 
 // `len` bytes of one held frame go to another, as if all were read first.
@@ -144,42 +126,38 @@ pub fn copy(
 {
     let to = exam::look(words, records, target, target_offset, len);
     let from = exam::look(words, records, source, source_offset, len);
-    let number = exam::earlier(to.number, from.number);
-    if number != 0 {
-        return exam::refused(number);
-    }
+    let (to, from) = exam::both(to, from)?;
     copy_contents_from(
         words,
         records,
         memory,
-        to.seen,
+        to,
         target_offset,
-        from.seen,
+        from,
         source_offset,
         len,
     );
-    exam::done(target.raw(), len)
+    Ok(Reply {
+        address: target.raw(),
+        bytes: len,
+    })
 }
 
 // ---- pcopy
 
 // Refusals 11 and 14 of a physical source, which need only be managed, up to the end of its region.
-fn place_refusal(words: &[u64], seen: Seen, pa: PhysAddr, len: u64) -> u32
+fn placed(words: &[u64], seen: Option<Seen>, pa: PhysAddr, len: u64) -> Result<Seen, Refusal>
     requires { Long words.now × Placed (board_in words.now) (rows_in words.now) seen pa.0 }
     ensures { result ≡ place_seen (board_in words.now) (rows_in words.now) seen pa.0 len }
 {
-    if !seen.managed {
-        return definition::OUTSIDE;
-    }
-    let board = words::board_in(words);
-    let spot = seen.spot;
-    let row = words::row_at(words, spot.index);
-    let start = row.start;
-    let end = board.page * (start.page_number(board.page) + row.pages);
+    let seen = seen.ok_or(Refusal::Outside)?;
+    let page = words::board_in(words).page;
+    let row = words::row_at(words, seen.spot.index);
+    let end = page * (row.start.page_number(page) + row.pages);
     if (end as u64) - pa.raw() < len {
-        return definition::PAST_THE_END;
+        return Err(Refusal::PastTheEnd);
     }
-    0
+    Ok(seen)
 }
 
 // Frame::copy_contents_from_physaddr, frame.rs 527.
@@ -199,14 +177,13 @@ pub fn pcopy(
         records.new memory.new result }
 {
     let to = exam::look(words, records, target, target_offset, len);
-    let seen = allocator::see(words, records, source);
-    let number = exam::earlier(to.number, place_refusal(words, seen, source, len));
-    if number != 0 {
-        return exam::refused(number);
-    }
-    let board = words::board_in(words);
-    let spot = seen.spot;
-    let from = exam::place(words, spot.page, source.raw() % (board.page as u64));
-    move_into(words, records, memory, to.seen, target_offset, from, len);
-    exam::done(target.raw(), len)
+    let place = placed(words, allocator::see(words, records, source), source, len);
+    let (to, place) = exam::both(to, place)?;
+    let page = words::board_in(words).page as u64;
+    let from = exam::place(words, place.spot.page, source.raw() % page);
+    move_into(words, records, memory, to, target_offset, from, len);
+    Ok(Reply {
+        address: target.raw(),
+        bytes: len,
+    })
 }
