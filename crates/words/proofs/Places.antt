@@ -92,7 +92,8 @@ pub list_numbered : (ws : List ℕ) (i k : ℕ) → InUse ws i → k < 6
     → cond (eqb (k % 2) 1) (second_in ws (place i (k / 2))) (first_in ws (place i (k / 2))) ≡ list_in (row_of (rows_in ws) i) k
 list_numbered ws i k u l = go (ℕ_discrete (k % 2) 1)
   where
-    go : Dec (k % 2 ≡ 1) → cond (eqb (k % 2) 1) (second_in ws (place i (k / 2))) (first_in ws (place i (k / 2))) ≡ list_in (row_of (rows_in ws) i) k
+    go : Dec (k % 2 ≡ 1)
+        → cond (eqb (k % 2) 1) (second_in ws (place i (k / 2))) (first_in ws (place i (k / 2))) ≡ list_in (row_of (rows_in ws) i) k
     go (yes e) =
         let m : 2 * (k / 2) + 1 ≡ k = omega arith in
         rw (eq-eqb (k % 2) 1 e) (sym (rw m at (list_place ws i (k / 2) u (omega arith)).1))

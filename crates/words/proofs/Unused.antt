@@ -1,5 +1,5 @@
--- A row read of words is an unused one just where its eleven words are zeros, and a level's lists are empty just where their three words are; of several rows, one
--- after another; and those behind the rows in use are unused.
+-- Words that are zeros: a row read of words is an unused one just where its eleven words are, and a level's lists are empty just where their
+-- three words are. Of the rows from one on those in use decide, as the rows behind them are unused.
 use Prim.Native.Nat.{ℕ, zero, suc, ◌+◌, ◌*◌, ◌-◌, min, ◌≤◌, ◌<◌}
 use mathlib.Core.Bool.{Bool, true, false, ◌&&◌}
 use mathlib.Core.List.{List, [], ◌∷◌}
@@ -11,6 +11,7 @@ use native.Mathlib.Decide.{dec_lt}
 use lib.Dec.{eqb}
 use lib.ListN.{length, get_or, take, drop, replicate, length-take, get_or-replicate}
 use lib.Seq.{get_or-take, get_or-drop}
+use Rattle.std.proofs.Math.Bool.{and_assoc}
 use Rattle.std.specs.List.{fold, list_all, range_with_len}
 use Rattle.definition.specs.declared.Links.{Links}
 use Rattle.definition.specs.declared.Row.{Row}
@@ -23,10 +24,6 @@ use Rattle.words.proofs.Reading.{pair_again, pair_same, row_same, row_used, row_
 use Rattle.words.proofs.Places.{place, list_place}
 
 -- ---- words that are zeros
-
-and_assoc : (a b c : Bool) → (a && b && c) ≡ (a && (b && c))
-and_assoc true b c = refl
-and_assoc false b c = refl
 
 pub zeros_folded : (t : Bool) (xs : List ℕ) → fold (λ zeros w. zeros && is_zero w) t xs ≡ (t && all is_zero xs)
 unfolding all
@@ -143,19 +140,23 @@ module _ (ws : List ℕ) where
   is_unused i = is_no_row (row_in ws (1 + 11 * i))
 
   -- n rows in use, and m behind them
-  unused_run : (i n m : ℕ) → i + n ≤ used_in ws → (0 < m → used_in ws ≤ i + n) → all is_no_row (rows_from ws i (n + m)) ≡ list_all is_unused (range_with_len i n)
+  unused_run : (i n m : ℕ) → i + n ≤ used_in ws → (0 < m → used_in ws ≤ i + n)
+      → all is_no_row (rows_from ws i (n + m)) ≡ list_all is_unused (range_with_len i n)
   unfolding rows_from all
   unused_run i zero m u h = let e : zero + m ≡ m = omega arith in rw e (rows_unused i m (λ l. omega (arith, h l)))
   unused_run i (suc n) m u h =
       let e : suc n + m ≡ suc (n + m) = omega arith in
-      rw (e, row_used ws i (omega (arith, u))) (ap (λ (t : Bool). is_unused i && t) (unused_run (i + 1) n m (omega (arith, u)) (λ l. omega (arith, h l))))
+      let t = unused_run (i + 1) n m (omega (arith, u)) (λ l. omega (arith, h l)) in
+      rw (e, row_used ws i (omega (arith, u))) (ap (λ (t : Bool). is_unused i && t) t)
 
   -- the rows from `first` on: those in use decide
-  pub unused_behind : (first : ℕ) → first ≤ 8 → list_all is_unused (range_with_len first (min (used_in ws) 8 - first)) ≡ all is_no_row (drop first (rows_in ws))
+  pub unused_behind : (first : ℕ) → first ≤ 8
+      → list_all is_unused (range_with_len first (min (used_in ws) 8 - first)) ≡ all is_no_row (drop first (rows_in ws))
   unused_behind first h =
       rw (rows_behind 0 8 first, zero-add first) (go (dec_lt (used_in ws) first))
     where
-      go : Dec (used_in ws < first) → list_all is_unused (range_with_len first (min (used_in ws) 8 - first)) ≡ all is_no_row (rows_from ws first (8 - first))
+      go : Dec (used_in ws < first)
+          → list_all is_unused (range_with_len first (min (used_in ws) 8 - first)) ≡ all is_no_row (rows_from ws first (8 - first))
       go (yes l) =
           let n : min (used_in ws) 8 - first ≡ 0 = omega arith in
           rw n (sym (rows_unused first (8 - first) (λ k. omega (arith, l))))

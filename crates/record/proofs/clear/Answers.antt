@@ -11,7 +11,8 @@ returns c =
     let bs = a.records.now in
     let at = a.first * 16 in
     let e = (a.first + a.count) * 16 in
-    let b = part_filled bs at (a.count * 16) e (omega arith) 0 c.fill.new.self (omega arith) (c.fill.ensures.after (λ y same. same)) in record {
+    let f = c.fill.ensures.after (λ y same. same) in
+    let b = part_filled bs at (a.count * 16) e (omega arith) 0 c.fill.new.self (omega arith) f in record {
       bytes = b;
       records = rw b (clear_records bs a.first a.count c.requires);
     }
