@@ -225,10 +225,10 @@ impl<'a> Region<'a> {
 // The lists of a row in use, and its region, no page of which has a mark bit but those named.
 #[derive(Clone, Copy)]
 struct Lists<'a> {
-    region: Region<'a>,
+    region: &'a Region<'a>,
     words: &'a [u64],
     i: usize,
-    ghost marked: { Marked (record_at region.records.now) region.base region.past },
+    ghost marked: { Marked (record_at region.now.records.now) region.now.base region.now.past },
     ghost in_use: { InUse words.now i },
 }
 
@@ -236,7 +236,7 @@ impl<'a> Lists<'a> {
     // Whether the list `k` walks. The empty ones, as most are, are told by their numbers.
     fn list_walks(&self, k: usize) -> bool
         requires { k < 6 }
-        ensures { let r = self.now.region in
+        ensures { let r = self.now.region.now in
             result ≡ list_at (record_at r.records.now) r.base r.past (row_of (rows_in self.now.words.now) self.now.i).lists k }
     {
         let links = words::list_at(self.words, self.i, k);
@@ -246,7 +246,7 @@ impl<'a> Lists<'a> {
     // Whether both lists of a level walk. Where both are empty, they are told together.
     fn level_walks(&self, level: usize) -> bool
         requires { level < 3 }
-        ensures { let r = self.now.region in
+        ensures { let r = self.now.region.now in
             result ≡ level_at (record_at r.records.now) r.base r.past (row_of (rows_in self.now.words.now) self.now.i).lists level }
     {
         words::is_bare(self.words, self.i, level)
@@ -255,7 +255,7 @@ impl<'a> Lists<'a> {
 
     // Whether all six walk.
     fn all_walk(&self) -> bool
-        ensures { let r = self.now.region in
+        ensures { let r = self.now.region.now in
             let lists = (row_of (rows_in self.now.words.now) self.now.i).lists in
             IsTrue result ↔ ((level : ℕ) → level < 3 → IsTrue (level_at (record_at r.records.now) r.base r.past lists level)) }
     {
@@ -301,6 +301,10 @@ pub fn region_whole(
     if listed_pages(row) != past - base - held.page - held.kernel {
         return None;
     }
-    let lists = Lists { region, words, i };
+    let lists = Lists {
+        region: &region,
+        words,
+        i,
+    };
     if lists.all_walk() { Some(held) } else { None }
 }

@@ -11,7 +11,7 @@ use Rattle.scan.proofs.Lists.level_walks.Goals as goal
 pub returns-then-is_bare : goal.returns-then-is_bare
 returns-then-is_bare c =
     let s = c.args.self.now in
-    let r = s.region in
+    let r = s.region.now in
     let f = record_at r.records.now in
     let row = row_of (rows_in s.words.now) s.i in
     let k = 2 * c.args.level in

@@ -8,7 +8,7 @@ use Rattle.scan.proofs.Lists.list_walks.Goals as goal
 pub returns-then-is_none : goal.returns-then-is_none
 returns-then-is_none c =
     let s = c.args.self.now in
-    let r = s.region in
+    let r = s.region.now in
     let lists = (row_of (rows_in s.words.now) s.i).lists in
     let e = c.if-is_none.true in
     e ∙ sym (none_walks (record_at r.records.now) r.base r.past lists c.args.k c.list_at-links.result c.list_at-links.ensures (sym c.is_none.ensures ∙ e))
