@@ -220,38 +220,46 @@ impl<'a> Region<'a> {
         }
         at == next && prev == last
     }
+}
 
-    // Whether the list `k` of a row in use walks. The empty ones, as most are, are told by their numbers.
-    fn list_walks(&self, words: &[u64], i: usize, k: usize) -> bool
-        requires list { k < 6 }
-        requires marked { Marked (record_at self.now.records.now) self.now.base self.now.past }
-        requires in_use { InUse words.now i }
-        ensures { result ≡ list_at (record_at self.now.records.now) self.now.base self.now.past (row_of (rows_in words.now) i).lists k }
+// The lists of a row in use, and its region, no page of which has a mark bit but those named.
+#[derive(Clone, Copy)]
+struct Lists<'a> {
+    region: &'a Region<'a>,
+    words: &'a [u64],
+    i: usize,
+    ghost marked: { Marked (record_at region.now.records.now) region.now.base region.now.past },
+    ghost in_use: { InUse words.now i },
+}
+
+impl<'a> Lists<'a> {
+    // Whether the list `k` walks. The empty ones, as most are, are told by their numbers.
+    fn list_walks(&self, k: usize) -> bool
+        requires { k < 6 }
+        ensures { let r = self.now.region.now in
+            result ≡ list_at (record_at r.records.now) r.base r.past (row_of (rows_in self.now.words.now) self.now.i).lists k }
     {
-        let links = words::list_at(words, i, k);
-        is_none(links) || self.walk(k, links)
+        let links = words::list_at(self.words, self.i, k);
+        is_none(links) || self.region.walk(k, links)
     }
 
     // Whether both lists of a level walk. Where both are empty, they are told together.
-    fn level_walks(&self, words: &[u64], i: usize, level: usize) -> bool
-        requires level { level < 3 }
-        requires marked { Marked (record_at self.now.records.now) self.now.base self.now.past }
-        requires in_use { InUse words.now i }
-        ensures { result ≡ level_at (record_at self.now.records.now) self.now.base self.now.past (row_of (rows_in words.now) i).lists level }
+    fn level_walks(&self, level: usize) -> bool
+        requires { level < 3 }
+        ensures { let r = self.now.region.now in
+            result ≡ level_at (record_at r.records.now) r.base r.past (row_of (rows_in self.now.words.now) self.now.i).lists level }
     {
-        words::is_bare(words, i, level)
-            || (self.list_walks(words, i, 2 * level) && self.list_walks(words, i, 2 * level + 1))
+        words::is_bare(self.words, self.i, level)
+            || (self.list_walks(2 * level) && self.list_walks(2 * level + 1))
     }
 
-    // Whether all six lists of a row in use walk.
-    fn all_walk(&self, words: &[u64], i: usize) -> bool
-        requires marked { Marked (record_at self.now.records.now) self.now.base self.now.past }
-        requires in_use { InUse words.now i }
-        ensures { IsTrue result
-            ↔ ((level : ℕ) → level < 3
-            → IsTrue (level_at (record_at self.now.records.now) self.now.base self.now.past (row_of (rows_in words.now) i).lists level)) }
+    // Whether all six walk.
+    fn all_walk(&self) -> bool
+        ensures { let r = self.now.region.now in
+            let lists = (row_of (rows_in self.now.words.now) self.now.i).lists in
+            IsTrue result ↔ ((level : ℕ) → level < 3 → IsTrue (level_at (record_at r.records.now) r.base r.past lists level)) }
     {
-        (0..3).all(|level| self.level_walks(words, i, level))
+        (0..3).all(|level| self.level_walks(level))
     }
 }
 
@@ -290,9 +298,13 @@ pub fn region_whole(
         past,
     };
     let held = region.scan()?;
-    if listed_pages(row) == past - base - held.page - held.kernel && region.all_walk(words, i) {
-        Some(held)
-    } else {
-        None
+    if listed_pages(row) != past - base - held.page - held.kernel {
+        return None;
     }
+    let lists = Lists {
+        region: &region,
+        words,
+        i,
+    };
+    if lists.all_walk() { Some(held) } else { None }
 }

@@ -3,11 +3,12 @@ use Rattle.std.proofs.Common.{sym, ◌∙◌}
 use Rattle.definition.specs.World.{record_at}
 use Rattle.words.specs.Words.{row_of, rows_in}
 use Rattle.scan.proofs.Ends.{none_walks}
-use Rattle.scan.proofs.Region.list_walks.Goals as goal
+use Rattle.scan.proofs.Lists.list_walks.Goals as goal
 
 pub returns-then-is_none : goal.returns-then-is_none
 returns-then-is_none c =
     let s = c.args.self.now in
-    let lists = (row_of (rows_in c.args.words.now) c.args.i).lists in
+    let r = s.region.now in
+    let lists = (row_of (rows_in s.words.now) s.i).lists in
     let e = c.if-is_none.true in
-    e ∙ sym (none_walks (record_at s.records.now) s.base s.past lists c.args.k c.list_at-links.result c.list_at-links.ensures (sym c.is_none.ensures ∙ e))
+    e ∙ sym (none_walks (record_at r.records.now) r.base r.past lists c.args.k c.list_at-links.result c.list_at-links.ensures (sym c.is_none.ensures ∙ e))
