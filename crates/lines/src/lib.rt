@@ -178,9 +178,11 @@ fn line_from(o: Named, n: Numbers) -> Option<Line>
 
 // The op first, up to a comma or the end, then the numbers.
 fn read_fields(line: &[u8]) -> Option<Line>
-    requires { length line.now ≤ 512 }
     ensures { Reads line.now (unwrap_or result bad_line) }
 {
+    if line.len() > LONGEST {
+        return None;
+    }
     match find(line, b',') {
         Some(comma) => line_from(read_op(&line[..comma])?, read_numbers(&line[comma + 1..])?),
         None => line_from(read_op(line)?, NO_NUMBERS),
@@ -190,9 +192,6 @@ fn read_fields(line: &[u8]) -> Option<Line>
 pub fn read_line(line: &[u8]) -> Line
     ensures { Reads line.now result }
 {
-    if line.len() > LONGEST {
-        return BAD_LINE;
-    }
     read_fields(line).unwrap_or(BAD_LINE)
 }
 

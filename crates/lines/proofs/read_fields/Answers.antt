@@ -1,9 +1,12 @@
--- `read_fields` meets its contract: a line with numbers, and one of a name alone; in each the op may be unknown, and a number unreadable.
+-- `read_fields` meets its contract: a line too long, one with numbers, and one of a name alone. The op may be unknown, and a number unreadable.
 use Rattle.std.proofs.Common.{arith, refl}
 use Rattle.std.specs.Prelude.{Some, None}
 use Rattle.lines.specs.Steps.{no_numbers}
-use Rattle.lines.proofs.Lines.{reads_more, reads_last}
+use Rattle.lines.proofs.Lines.{reads_long, reads_more, reads_last}
 use Rattle.lines.proofs.read_fields.Goals as goal
+
+pub returns-then-line-gt-LONGEST : goal.returns-then-line-gt-LONGEST
+returns-then-line-gt-LONGEST c = reads_long c.args.line.now (omega arith)
 
 pub returns-in_err-read_op-in-Some : goal.returns-in_err-read_op-in-Some
 returns-in_err-read_op-in-Some c =
