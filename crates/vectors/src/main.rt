@@ -142,6 +142,7 @@ fn agrees(script: &[u8], expected: &[u8], answers: &mut [u8]) -> bool
     requires { room script.now ≤ length answers.old }
     ensures { result ≡ same_bytes (printed script.now) expected.now }
 {
+    // There is room for the answers, so the script ran.
     let n = program::run_once(script, answers).unwrap();
     &answers[..n] == expected
 }
@@ -204,23 +205,17 @@ fn differences<W: Write>(
     before + 1
 }
 
-fn counted<W: Write>(
-    rt: &impl Eprint,
-    out: &mut W,
-    t: Tally,
-    lines: usize,
-    next: usize,
-    is_same: bool,
-) -> Tally
-    requires { (t.scripts < 2097152) × (t.lines < 17179869184) × (t.differ < 2097152) × (lines ≤ 8191) }
-    ensures { result ≡ counted_def t lines next is_same }
+// What was replayed after one case more.
+fn counted<W: Write>(rt: &impl Eprint, out: &mut W, t: Tally, p: Places, is_same: bool) -> Tally
+    requires { (t.scripts < 2097152) × (t.lines < 17179869184) × (t.differ < 2097152) × (p.lines ≤ 8191) }
+    ensures { result ≡ counted_def t p.lines p.next is_same }
 {
     let scripts = t.scripts + 1;
     let differ = differences(rt, out, t.differ, scripts, is_same);
     Tally {
-        at: next,
+        at: p.next,
         scripts,
-        lines: t.lines + lines as u64,
+        lines: t.lines + p.lines as u64,
         differ,
     }
 }
@@ -238,7 +233,7 @@ fn replay_one<W: Write>(
 {
     let p = next_case(file, t.at)?;
     let is_same = agrees(&file[p.script..p.end], &file[p.answers..p.next], answers);
-    Ok(counted(rt, out, t, p.lines, p.next, is_same))
+    Ok(counted(rt, out, t, p, is_same))
 }
 
 fn replay<W: Write>(
