@@ -13,7 +13,6 @@ use Rattle.definition.specs.declared.Row.{Row}
 use Rattle.definition.specs.Board.{Board}
 use Rattle.definition.specs.Calls.{Layout, bad_layout, find_level, mine, no_level}
 use Rattle.level.specs.declared.Level.{Level}
-use Rattle.level.specs.declared.FoundLevel.TheVariants.{At, Refused}
 use Rattle.level.specs.Level.{found_level, level_at, rank}
 use Rattle.level.proofs.Choice.{finds}
 use Rattle.level.proofs.Ranks.{rank_below}
@@ -23,11 +22,11 @@ use Rattle.grants.specs.Granting.{Wants}
 
 module _ (board : Board) where
   found_refused
-      : (y : Layout) (x : Refusal) (rest : Option Refusal) → found_level board y ≡ Refused x
+      : (y : Layout) (x : Refusal) (rest : Option Refusal) → found_level board y ≡ Err x
       → cond (bad_layout y) (some BadLayout) (cond (no_level board y) (some NoLevel) rest) ≡ some x
   found_refused y x rest e = go (bad_layout y) (no_level board y) e
     where
-      go : (t u : Bool) → cond t (Refused BadLayout) (cond u (Refused NoLevel) (At (level_at (find_level board y)))) ≡ Refused x
+      go : (t u : Bool) → cond t (Err BadLayout) (cond u (Err NoLevel) (Ok (level_at (find_level board y)))) ≡ Err x
           → cond t (some BadLayout) (cond u (some NoLevel) rest) ≡ some x
       go true u e = let k : BadLayout ≡ x = cc in rw k refl
       go false true e = let k : NoLevel ≡ x = cc in rw k refl
@@ -38,11 +37,11 @@ no_level_in : {x : Refusal} {l : ℕ} → ◌≡◌ {A = Result ℕ Refusal} (Er
 no_level_in e = let z : ◌≡◌ {A = ℕ} 0 1 = cc in omega arith
 
 module _ {board : Board} {f : ℕ → Record} {n : ℕ} {rows : List Row} {y : Layout} where
-  pub wants_refused : (x : Refusal) → found_level board y ≡ Refused x → Wants board f n rows y (Err x)
+  pub wants_refused : (x : Refusal) → found_level board y ≡ Err x → Wants board f n rows y (Err x)
   wants_refused x found =
       record { refusal = λ s T. layout_refused board s y ∙ found_refused board y x _ found; found = λ l e. absurd (no_level_in e) }
 
-  module _ (l : Level) (found : found_level board y ≡ At l) {k : ℕ} (e : k ≡ rank l) where
+  module _ (l : Level) (found : found_level board y ≡ Ok l) {k : ℕ} (e : k ≡ rank l) where
     pub wants_found : {b : Bool} → ListedAll board f n rows k b → b ≡ true → Wants board f n rows y (Ok k)
     unfolding mine
     wants_found listed t =

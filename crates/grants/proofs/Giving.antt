@@ -37,7 +37,7 @@ use Rattle.world.proofs.Spans.{runs_bare}
 use Rattle.world.proofs.Tables.{used_row}
 use Rattle.world.proofs.Writing.{Fronts, Rewritten, memory_filled}
 use Rattle.allocator.specs.declared.Spot.{Spot}
-use Rattle.allocator.specs.Spots.{HeldAt, InRows, Picked, PicksBy, TurnsBy, mark_at, number_at, split_at}
+use Rattle.allocator.specs.Spots.{HeldAt, InRows, Picked, PicksBy, PicksPage, TurnsBy, mark_at, number_at, split_at}
 use Rattle.allocator.proofs.Standing.{sane_table, standing}
 use Rattle.allocator.proofs.TwoPasses.{turned_then}
 use Rattle.allocator.proofs.Turning.{spot_good, spot_index, stands_at, table_held}
@@ -143,11 +143,16 @@ module _ {board : Board} {op : PhysicalFrameAllocator → Allocated} {f g : ℕ 
         → board.page * managed_pages board (regions_of board r.rows) ≤ long
     picked_room h = rw picked_turned.spans h
 
-    pub picked_spot : r.found ≡ true → InRows board r.rows r.spot
-    picked_spot = (P (standing board f rows) (sane_table S)).spot
+    -- the spot that it found, if any
+    module _ {t : Spot} (e : r.spot ≡ Some t) where
+      picked_page : PicksPage board g r.rows t (op (standing board f rows)).page
+      picked_page = rw e at (P (standing board f rows) (sane_table S)).picked
 
-    pub picked_held : r.found ≡ true → HeldAt board g r.rows r.spot
-    picked_held = (P (standing board f rows) (sane_table S)).held
+      pub picked_spot : InRows board r.rows t
+      picked_spot = picked_page.spot
+
+      pub picked_held : HeldAt board g r.rows t
+      picked_held = picked_page.held
 
 -- ---- a grant
 
@@ -161,8 +166,8 @@ same_frame e = cc
 module _ {board : Board} where
   -- the search turns the words ws into vs: it changes their rows, and nothing else of the state
   module _
-      {f g : ℕ → Record} {n : ℕ} {found : Bool} {spot : Spot} (counters : Counters) (ws vs : List ℕ) (l : ℕ) (flags : FrameAllocFlags)
-      (P : PicksBy board (do_alloc everywhere l flags.zeroed) f (rows_in ws) g n (record { rows = rows_in vs; found = found; spot = spot }))
+      {f g : ℕ → Record} {n : ℕ} {o : MayBe Spot} (counters : Counters) (ws vs : List ℕ) (l : ℕ) (flags : FrameAllocFlags)
+      (P : PicksBy board (do_alloc everywhere l flags.zeroed) f (rows_in ws) g n (record { rows = rows_in vs; spot = o }))
     where
       abbrev st : State
       st = state_with counters ws
@@ -175,10 +180,10 @@ module _ {board : Board} where
       holds_none S = record { sane = picked_sane P S; spot = λ t z. absurd (no_frame z); held = λ t z. absurd (no_frame z) }
 
       pub gives_none
-          : (bytes : List ℕ) → found ≡ false → GivesBy board (try_alloc_frame board everywhere l flags) f st bytes g n bytes nothing
+          : (bytes : List ℕ) → o ≡ None → GivesBy board (try_alloc_frame board everywhere l flags) f st bytes g n bytes nothing
       gives_none bytes e s L =
           let p = P s.allocator L.table in
-          let d = p.none_found e in
+          let d = rw e at p.picked in
           rw (try_none board l flags s d)
           (record {
             turned = rw (none_left l flags.zeroed s.allocator d) at p.turned;
@@ -190,7 +195,7 @@ module _ {board : Board} where
           })
 
       -- a frame is found
-      module _ (e : found ≡ true) where
+      module _ {spot : Spot} (e : o ≡ Some spot) where
         module _
             {h : ℕ → Record} {after : Counters} (c : after ≡ count_alloc (size l) flags.kernel counters)
             (T : TurnsBy board (mark_at false flags.kernel (number_at board (rows_in vs) spot)) g (rows_in vs) h n (rows_in vs))
@@ -228,8 +233,9 @@ module _ {board : Board} where
                 let p = P s.allocator L.table in
                 let a = (do_alloc everywhere l flags.zeroed s.allocator).allocator in
                 let q = spot.page in
-                let I = p.spot e in
-                let H = p.held e in
+                let K = rw e at p.picked in
+                let I = K.spot in
+                let H = K.held in
                 let N = p.turned.table.sane in
                 let R = runs_bare L.table.stands (rw p.turned.spans at (held_runs I N H)) in
                 let long = board.page * size (g q).level in
@@ -239,7 +245,7 @@ module _ {board : Board} where
                 = zeros_written s.memory bytes L.fits L.apart L.memory flags.zeroed (g q) (a.frames (number_at board (rows_in vs) spot))
                 (number_at board (rows_in vs) spot) q (table_frame I p.turned.table ∙ held_frame_lem I N H) lies
                 in
-                rw (try_some board l flags s (number_at board (rows_in vs) spot) (p.page e), c, b)
+                rw (try_some board l flags s (number_at board (rows_in vs) spot) K.page, c, b)
                 (record {
                   turned = turned_then p.turned (T a p.turned.table);
                   memory = W.memory;

@@ -29,7 +29,6 @@ ghost use Rattle.grants.specs.Granting.{
 use allocator::Spot;
 use definition::{Board, Counters, FrameAllocFlags, Refusal};
 use exam::{Answer, Reply};
-use level::FoundLevel;
 
 // ---- which refusal a layout meets
 
@@ -45,10 +44,7 @@ fn wanted(
     ensures { WantsIn words.now records.now (record { size = size; align = align; flags = flags }) result }
 {
     let board = words::board_in(words);
-    let level = match level::find_level(board, size, align) {
-        FoundLevel::At(level) => level.index(),
-        FoundLevel::Refused(refusal) => return Err(refusal),
-    };
+    let level = level::find_level(board, size, align)?.index();
     if allocator::is_listed(words, records, level) {
         return Ok(level);
     }
@@ -139,11 +135,7 @@ fn grant(
         (record_at records.new) (pages_in records.new) memory.new (granted_in result counters.new words.new) }
     ensures beside { Beside words.old words.new }
 {
-    let picked = allocator::do_alloc(words, records, level, flags.zeroed);
-    if !picked.found {
-        return None;
-    }
-    let spot = picked.spot;
+    let spot = allocator::do_alloc(words, records, level, flags.zeroed)?;
     let address = address_of(words, spot);
     hand_over(counters, words, records, memory, spot, level, flags);
     Some(Granted { spot, address })

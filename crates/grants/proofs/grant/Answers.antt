@@ -1,6 +1,5 @@
 -- The search leaves a table; where it found a frame, that is held in it, and handing it over makes the grant.
 use native.Mathlib.Omega.{arith}
-use borrow.Author.Tests.{not-true, not-false}
 use Rattle.words.proofs.Words.{board_beside}
 use Rattle.grants.proofs.Giving.{
   finds_some,
@@ -16,36 +15,36 @@ use Rattle.grants.proofs.Giving.{
 }
 use Rattle.grants.proofs.grant.Goals as goal
 
-pub returns-then-not-picked-clause-holds : goal.returns-then-not-picked-clause-holds
-returns-then-not-picked-clause-holds c =
+pub returns-in_err-spot-clause-holds : goal.returns-in_err-spot-clause-holds
+returns-in_err-spot-clause-holds c =
     let a = c.args in
-    let y = c.do_alloc-picked in
+    let y = c.do_alloc in
     let P = rw y.auto.records at y.ensures.picks_in in
-    rw y.auto.records (holds_none a.counters.now a.words.now y.new.words a.level a.flags P c.requires.table_in.1)
+    rw (c.from_residual.ensures, y.auto.records)
+    (holds_none a.counters.now a.words.now y.new.words a.level a.flags P c.requires.table_in.1)
 
-pub returns-then-not-picked-clause-gives_by : goal.returns-then-not-picked-clause-gives_by
-returns-then-not-picked-clause-gives_by c =
+pub returns-in_err-spot-clause-gives_by : goal.returns-in_err-spot-clause-gives_by
+returns-in_err-spot-clause-gives_by c =
     let a = c.args in
-    let y = c.do_alloc-picked in
+    let y = c.do_alloc in
     let P = rw y.auto.records at y.ensures.picks_in in
-    rw y.auto.records
-    (gives_none a.counters.now a.words.now y.new.words a.level a.flags P a.memory.now (not-true y.result.found c.if-not-picked.true))
+    rw (c.from_residual.ensures, y.auto.records)
+    (gives_none a.counters.now a.words.now y.new.words a.level a.flags P a.memory.now c.in_err-spot.was)
 
 pub address_of-address-requires : goal.address_of-address-requires
 address_of-address-requires c =
-    let y = c.do_alloc-picked in
+    let y = c.do_alloc in
     let P = rw y.auto.records at y.ensures.picks_in in
     let S = c.requires.table_in.1 in
-    let found = not-false y.result.found c.if-not-picked.false in
     rw (board_beside y.ensures.rows_beside.beside)
-    (omega (arith, y.auto.words, c.requires.table_in.0), near (picked_spot P S found) (picked_sane P S))
+    (omega (arith, y.auto.words, c.requires.table_in.0), near (picked_spot P S c.in_ok-spot.was) (picked_sane P S))
 
 pub hand_over-requires : goal.hand_over-requires
 hand_over-requires c =
-    let y = c.do_alloc-picked in
+    let y = c.do_alloc in
     let P = rw y.auto.records at y.ensures.picks_in in
     let S = c.requires.table_in.1 in
-    let found = not-false y.result.found c.if-not-picked.false in
+    let found = c.in_ok-spot.was in
     rw (board_beside y.ensures.rows_beside.beside, y.auto.records) record {
       table_in = (omega (arith, y.auto.words, c.requires.table_in.0), picked_sane P S);
       room_in = picked_room P S c.requires.room_in;
@@ -56,12 +55,12 @@ hand_over-requires c =
 pub returns : goal.returns
 returns c =
     let a = c.args in
-    let y = c.do_alloc-picked in
+    let y = c.do_alloc in
     let x = c.address_of-address in
     let z = c.hand_over in
     let P = rw y.auto.records at y.ensures.picks_in in
     let S = c.requires.table_in.1 in
-    let found = not-false y.result.found c.if-not-picked.false in
+    let found = c.in_ok-spot.was in
     let B = y.ensures.rows_beside in
     let same = board_beside B.beside in
     let T = rw (same, z.auto.records, y.auto.records) at z.ensures.turns_in in
