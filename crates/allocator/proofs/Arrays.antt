@@ -28,7 +28,7 @@ use Rattle.allocator.proofs.Turning.{stands_at, used_most}
 
 -- ---- what is left of a list: xs, of which x is the first and ys the rest
 
-pub drop_at : {A : Type 0} (xs : List A) (i : ℕ) (d : A) → i < length xs → drop i xs ≡ get_or xs i d ∷ drop (i + 1) xs
+drop_at : {A : Type 0} (xs : List A) (i : ℕ) (d : A) → i < length xs → drop i xs ≡ get_or xs i d ∷ drop (i + 1) xs
 drop_at xs i d h = rw add-one (drop-cons xs i d h)
 
 module _ {A : Type 0} (test : A → Bool) {xs ys : List A} {x : A} (e : xs ≡ x ∷ ys) where

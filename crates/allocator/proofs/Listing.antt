@@ -7,9 +7,7 @@ use mathlib.Core.Path.{◌≡◌, refl, sym, ap, ◌∙◌}
 use native.Mathlib.Omega.{arith}
 use borrow.Author.Tests.{eq-eqb, ne_eqb}
 use lib.Dec.{eqb}
-use lib.ListN.{get_or, length, drop, drop_of_length-le}
-use Rattle.std.specs.List.{list_any}
-use Rattle.std.specs.Prelude.{nat_eq}
+use lib.ListN.{get_or, length}
 use Rattle.definition.specs.Board.{Board}
 use Rattle.definition.specs.declared.Record.{Record}
 use Rattle.definition.specs.declared.Links.{Links}
@@ -21,7 +19,6 @@ use Rattle.definition.specs.World.{no_links}
 use Rattle.region.specs.Rep.{from_of, state_of}
 use Rattle.world.specs.Stands.{StandsRow, shift}
 use Rattle.allocator.specs.Spots.{lists_some}
-use Rattle.allocator.proofs.Arrays.{drop_at}
 
 -- the list k holds a frame: of a row's lists, and of a region
 abbrev pub counted_at : List Links → ℕ → Bool
@@ -45,14 +42,6 @@ empty_map : (g : ℕ → ℕ) (xs : List ℕ) → any everywhere (map g xs) ≡ 
 unfolding any
 empty_map g [] = sym (ap not (eq-eqb 0 0 refl))
 empty_map g (x ∷ xs) = sym (ap not (ne_eqb (length (x ∷ xs)) 0 (λ e. omega arith)))
-
--- the same of the lists from one on
-pub lists_from
-    : (lists : List Links) (k left : ℕ) → k + left ≡ length lists
-    → list_any (λ (l : Links). not (nat_eq l.count 0)) (drop k lists) ≡ any (counted_at lists) (range k left)
-unfolding any range
-lists_from lists k zero e = rw (drop_of_length-le lists {i = k} (omega arith)) refl
-lists_from lists k (suc left) e = rw (drop_at lists k no_links (omega arith), lists_from lists (k + 1) left (omega arith)) refl
 
 module _ {board : Board} where
   module _ {f : ℕ → Record} {n base : ℕ} {row : Row} {fs : Frames} {r : AllocationRegion} (S : StandsRow board f n base row fs r) where

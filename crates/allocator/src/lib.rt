@@ -93,7 +93,13 @@ fn lists_some(row: Row, level: usize) -> bool
     requires { level < 3 }
     ensures { result ≡ lists_some row level }
 {
-    row.lists[level * 2..].iter().any(|l| l.count != 0)
+    // Not `row.lists[level * 2..].iter().any(..)`: the row is then copied whole, and the test takes 1.7 times as long.
+    for k in level * 2..6 {
+        if row.lists[k].count != 0 {
+            return true;
+        }
+    }
+    false
 }
 
 // free, frame.rs 611, of a held frame.

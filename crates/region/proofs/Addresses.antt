@@ -1,15 +1,12 @@
 -- Addresses of a region's pages, and back, and that what the code computes of them is a number of 64 bits.
-use Prim.Native.Nat.{ℕ, suc, min, ◌+◌, ◌-◌, ◌*◌, ◌/◌, ◌%◌, ◌≤◌, ◌<◌, ◌^◌}
+use Prim.Native.Nat.{ℕ, ◌+◌, ◌-◌, ◌*◌, ◌/◌, ◌≤◌, ◌<◌, ◌^◌}
 use mathlib.Core.Bool.{and-false}
 use mathlib.Core.Option.{none, some}
 use mathlib.Core.Path.{◌≡◌, refl}
-use native.Mathlib.Nat.{div-le_self, lt_of_mul-lt-mul_right, mul-le-mul_right, suc-mul}
+use native.Mathlib.Nat.{div-le_self, mul-le-mul_right}
 use native.Mathlib.Omega.{arith}
 use borrow.Author.Tests.{le-leb, lt-leb, lt-ltb, le-ltb}
 use lib.Dec.{leb}
-use Rattle.std.proofs.lemmas.Grind.{div_ceil_times}
-use Rattle.std.specs.Int.{div_ceil}
-use Rattle.address.proofs.Rounding.{up_no_less, up_near}
 use Rattle.definition.specs.declared.Row.{Row}
 use Rattle.definition.specs.Board.{Board, Fit}
 use Rattle.definition.specs.Allocator.{table_pages}
@@ -28,16 +25,6 @@ module _ (board : Board) where
 
 -- ---- on a fit board
 
--- a quotient rounded up, as std has it and as the definition does
-ceil_is : (a b : ℕ) → 0 < b → div_ceil a b ≡ (a + (b - 1)) / b
-ceil_is a b p =
-    let q = a / b + min 1 (a % b) in
-    let r = (a + (b - 1)) / b in
-    let t = div_ceil_times a b p in
-    let up : q < suc r = lt_of_mul-lt-mul_right b (omega (arith, t, up_no_less a b p, suc-mul r b)) in
-    let down : r < suc q = lt_of_mul-lt-mul_right b (omega (arith, t, up_near a b p, suc-mul q b)) in
-    omega (arith, up, down)
-
 module _ {board : Board} (fit : Fit board) where
   pub page_some : 0 < board.page
   page_some = omega (arith, page_least fit)
@@ -45,9 +32,6 @@ module _ {board : Board} (fit : Fit board) where
   -- the bytes of the tables of so many pages
   pub tables_room : (pages : ℕ) → pages ≤ 2 ^ 32 → board.record_bytes * pages ≤ 2 ^ 45
   tables_room pages h = omega (arith, mul-le-mul_right {m = board.record_bytes} {n = 8192} pages fit.record_most)
-
-  pub tables_ceil : (pages : ℕ) → div_ceil (board.record_bytes * pages) board.page ≡ table_pages board pages
-  tables_ceil pages = ceil_is (board.record_bytes * pages) board.page page_some
 
   pub tables_few : (pages : ℕ) → pages ≤ 2 ^ 32 → table_pages board pages ≤ 2 ^ 46
   tables_few pages h =

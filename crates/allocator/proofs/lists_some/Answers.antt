@@ -1,26 +1,31 @@
--- `lists_some` meets its contract: the lists from the level's dirty one on are those that the definition asks.
-use Rattle.std.proofs.Common.{rules, tests, Bool, ◌≡◌, ◌+◌, ◌-◌, ◌*◌, ◌∙◌, ap, not, nat_eq, drop, length, arith}
-use Rattle.std.specs.List.{list_any}
-use Rattle.std.proofs.lemmas.Grind.{common_steps}
-use Rattle.std.proofs.lemmas.Iterator.{YieldsList-from_slice}
-use Rattle.std.proofs.lemmas.Iterator.Search.{any_from_yields_List}
-use Rattle.definition.specs.declared.Links.{Links}
-use Rattle.allocator.proofs.Listing.{lists_from}
+-- `lists_some` meets its contract. The loop's invariant: a list of the level or above holds a frame exactly if one of those that are left does.
+use mathlib.Core.Bool.{not}
+use mathlib.Core.Path.{refl, sym, ap, ◌∙◌}
+use native.Mathlib.Omega.{arith}
+use borrow.Author.Tests.{eq-eqb, ne_eqb}
+use Rattle.definition.specs.Basics.{any}
+use Rattle.allocator.proofs.Arrays.{any_on, any_off, range_at, range_past}
+use Rattle.allocator.proofs.Listing.{counted_at}
 use Rattle.allocator.proofs.lists_some.Goals as goal
-use Rattle.allocator.proofs.lists_some.Goals.{After-any}
 
--- what is asked of each list
-abbrev counts : Links → Bool
-counts l = not (nat_eq l.count 0)
+pub loop-k-init : goal.loop-k-init
+loop-k-init c = refl
 
-told : (c : After-any) → c.any.result ≡ list_any counts c.iter.result.rest.now
-told c = any_from_yields_List _ _ _ _ c.any.ensures.ran (YieldsList-from_slice c.iter.result.rest.now cc) (λ x b q k. search (rules, tests))
+pub returns-then-row-k-ne0 : goal.returns-then-row-k-ne0
+returns-then-row-k-ne0 c =
+    let l = c.loop-k in
+    let lists = c.args.row.lists in
+    sym (l.invariant ∙ any_off (counted_at lists) (range_at l.k 6 (omega arith)) (ap not (ne_eqb _ 0 c.if-row-k-ne0.true)))
 
-rest_is : (c : After-any) → c.iter.result.rest.now ≡ drop (c.args.level * 2) c.args.row.lists
-rest_is c = grind (arith, common_steps)
+pub loop-k-preserved : goal.loop-k-preserved
+loop-k-preserved c =
+    let l = c.loop-k in
+    let lists = c.args.row.lists in
+    l.invariant ∙ any_on (counted_at lists) (range_at l.k 6 (omega arith)) (ap not (eq-eqb _ 0 c.if-row-k-ne0.false))
 
 pub returns : goal.returns
+unfolding any
 returns c =
-    let all : c.args.level * 2 + (6 - c.args.level * 2) ≡ length c.args.row.lists = omega arith in
-    told (goal.at.returns c).After-any ∙ ap (list_any counts) (rest_is (goal.at.returns c).After-any)
-    ∙ lists_from c.args.row.lists (c.args.level * 2) (6 - c.args.level * 2) all
+    let l = c.loop-k in
+    let lists = c.args.row.lists in
+    sym (l.invariant ∙ ap (any (counted_at lists)) (range_past l.k 6 (omega arith)))
