@@ -15,6 +15,7 @@ use Rattle.definition.proofs.Tests.{and-true}
 use Rattle.scan.specs.Sheet.{placed_at, Audited}
 use Rattle.scan.proofs.Rows.{audited_row}
 use Rattle.words.specs.Words.{board_in, rows_in}
+use Rattle.std.specs.Prelude.{Option}
 use Rattle.audit.specs.declared.Surveyed.{Surveyed}
 use Rattle.audit.specs.Sheet.{row_at, Visited}
 use Rattle.audit.proofs.Onward.{and_off, and_on}
@@ -34,7 +35,7 @@ fit c = c.board_in-board.ensures.1
 -- what is found of the row that was read, on the board that was, is found of the row behind those that were seen
 of_row : (c : After-row_at-row) → let a = c.args in
     let f = record_at a.records.now in
-    (r : Surveyed) → Visited (board c) f (length a.records.now / 16) c.row_at-row.result a.seen r
+    (r : Option Surveyed) → Visited (board c) f (length a.records.now / 16) c.row_at-row.result a.seen r
     → Visited (board_in a.words.now) f (length a.records.now / 16) (row_at (rows_in a.words.now) a.seen.used) a.seen r
 of_row c r v =
     let a = c.args in
@@ -70,7 +71,7 @@ row_as_boot-requires c = fit c
 
 pub returns-then-not-row_as_boot : goal.returns-then-not-row_as_boot
 returns-then-not-row_as_boot c =
-    of_row (goal.at.returns-then-not-row_as_boot c).After-row_at-row _ (visited_torn c.torn_rows.ensures (and_off _ (sym c.row_as_boot.ensures ∙ c.if-not-row_as_boot.true)))
+    of_row (goal.at.returns-then-not-row_as_boot c).After-row_at-row _ (visited_torn (and_off _ (sym c.row_as_boot.ensures ∙ c.if-not-row_as_boot.true)))
 
 pub table_pages-tables-requires : goal.table_pages-tables-requires
 table_pages-tables-requires c =
@@ -92,7 +93,7 @@ returns-then-records-past c =
     let a = c.args in
     let l : length a.records.now / 16 < a.seen.managed + managed_row (board (goal.at.returns-then-records-past c).After-row_at-row) c.row_at-row.result = omega (arith, ends (goal.at.returns-then-records-past c).After-table_pages-tables, c.if-records-past.true) in
     of_row (goal.at.returns-then-records-past c).After-row_at-row _
-    (visited_torn c.torn_rows-then-records-past.ensures
+    (visited_torn
     (and_on _ (is_booted (goal.at.returns-then-records-past c).Else-not-row_as_boot)
     ∙ and_off _ (lt-leb (a.seen.managed + managed_row (board (goal.at.returns-then-records-past c).After-row_at-row) c.row_at-row.result) (length a.records.now / 16) l)))
 
@@ -129,7 +130,7 @@ region c =
 pub returns-then-not-whole : goal.returns-then-not-whole
 returns-then-not-whole c =
     of_row (goal.at.returns-then-not-whole c).After-row_at-row _
-    (visited_torn c.torn_rows-then-not-whole.ensures
+    (visited_torn
     (and_on _ (is_booted (goal.at.returns-then-not-whole c).Else-not-row_as_boot)
     ∙ and_on _ (room (goal.at.returns-then-not-whole c).Else-records-past)
     ∙ sym (region (goal.at.returns-then-not-whole c).After-region_whole-whole).exact
@@ -174,7 +175,7 @@ returns c =
     let k = a.kernel (whole (goal.at.returns c).Else-not-whole) in
     of_row (goal.at.returns c).After-row_at-row _ record {
       exact = sym (and-true (is_booted (goal.at.returns c).Else-not-row_as_boot) (and-true (room (goal.at.returns c).Else-records-past) (sym a.exact ∙ whole (goal.at.returns c).Else-not-whole)));
-      added = λ t. record {
+      added = record {
         used = refl;
         total = refl;
         manages = ends (goal.at.returns c).After-table_pages-tables;
