@@ -1,30 +1,32 @@
--- The regions of the rows that a loop has left: the pages and the overlaps of a first row and of the rest. And when two rows share a page, by the
--- numbers that the code compares.
-use Prim.Native.Nat.{ℕ, ◌+◌, ◌/◌, ◌≤◌, ◌<◌}
-use mathlib.Core.Bool.{true, false}
+-- The regions of the rows that a loop has left: the pages and the overlaps of a first row and of the rest.
+use Prim.Native.Nat.{ℕ, ◌+◌, ◌<◌}
+use mathlib.Core.Bool.{Bool, true, false, ◌||◌}
 use mathlib.Core.List.{List, [], ◌∷◌}
-use mathlib.Core.Path.{◌≡◌, refl, sym, ap, ◌∙◌}
+use mathlib.Core.Path.{◌≡◌, refl, ap, ◌∙◌}
 use native.Mathlib.Omega.{arith}
-use borrow.Author.Tests.{lt-ltb, le-ltb}
-use lib.Dec.{ltb}
 use lib.ListN.{length}
+use Rattle.std.specs.List.{list_any, sum_by}
+use Rattle.std.proofs.lemmas.List.Sums.{sum_by-cons}
 use Rattle.definition.specs.declared.Row.{Row}
 use Rattle.definition.specs.Board.{Board}
-use Rattle.definition.specs.Basics.{any}
+use Rattle.definition.specs.Basics.{any, sum}
 use Rattle.definition.specs.Allocator.{AllocationRegion, total}
 use Rattle.definition.specs.Boot.{shares, overlap}
 use Rattle.definition.specs.World.{bare_region, used_rows}
 use Rattle.definition.specs.Torn.{bare_regions, regions_of}
-use Rattle.audit.proofs.Onward.{and_on, and_off, or_on, or_off, sum_on}
+use Rattle.audit.proofs.Onward.{or_on, or_off, sum_on}
 
 module _ (board : Board) where
-  module _ (r t : Row) {m n : ℕ} (d : m ≡ r.start.0 / board.page) (e : n ≡ t.start.0 / board.page) where
-    pub shares_on : m < n + t.pages → ltb n (m + r.pages) ≡ shares board (bare_region board r) (bare_region board t)
-    shares_on h =
-        rw (d, e) (sym (and_on _ (lt-ltb (r.start.0 / board.page) (t.start.0 / board.page + t.pages) (omega arith))))
+  pub any_regions : (test : AllocationRegion → Bool) (rows : List Row) → list_any (λ (t : Row). test (bare_region board t)) rows ≡ any test (bare_regions board rows)
+  unfolding any bare_regions
+  any_regions test [] = refl
+  any_regions test (row ∷ rows) = ap (λ (t : Bool). test (bare_region board row) || t) (any_regions test rows)
 
-    pub shares_off : n + t.pages ≤ m → false ≡ shares board (bare_region board r) (bare_region board t)
-    shares_off h = sym (and_off _ (le-ltb (r.start.0 / board.page) (t.start.0 / board.page + t.pages) (omega arith)))
+  pub sum_regions : (weight : AllocationRegion → ℕ) (rows : List Row) → sum_by (λ (t : Row). weight (bare_region board t)) rows ≡ sum weight (bare_regions board rows)
+  unfolding sum bare_regions
+  sum_regions weight [] = refl
+  sum_regions weight (row ∷ rows) =
+      sum_by-cons (λ (t : Row). weight (bare_region board t)) row rows ∙ ap (λ (n : ℕ). weight (bare_region board row) + n) (sum_regions weight rows)
 
   module _ {xs ys : List Row} {x : Row} (e : xs ≡ x ∷ ys) where
     pub regions_on : bare_regions board xs ≡ bare_region board x ∷ bare_regions board ys

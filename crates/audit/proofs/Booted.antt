@@ -1,25 +1,25 @@
 -- What the test of a row as boot makes it says in numbers, of one row and of each in use. And when it holds, by the numbers that the code compares: its
 -- end in pages, where the definition counts it in bytes.
 use Prim.Native.Nat.{ℕ, ◌+◌, ◌*◌, ◌/◌, ◌%◌, ◌≤◌, ◌<◌}
-use mathlib.Core.Bool.{Bool, true, false, ◌&&◌}
-use mathlib.Core.List.{List}
-use mathlib.Core.Path.{◌≡◌, refl, ◌∙◌}
+use mathlib.Core.Bool.{Bool, true, false, cond, ◌&&◌}
+use mathlib.Core.List.{List, [], ◌∷◌}
+use mathlib.Core.Path.{◌≡◌, refl, ap, ◌∙◌}
 use native.Mathlib.Omega.{arith}
-use borrow.Author.Tests.{eqb-true, ltb-true, leb-true, eq-eqb, lt-ltb, le-leb}
+use borrow.Author.Tests.{ne_eqb, eqb-true, ltb-true, leb-true, eq-eqb, lt-ltb, le-leb}
 use lib.Dec.{ltb, eqb}
-use lib.ListN.{length}
+use lib.ListN.{length, get_or}
 use Rattle.definition.specs.declared.Row.{Row}
 use Rattle.definition.specs.Board.{Board, Fit}
-use Rattle.definition.specs.Allocator.{table_pages}
-use Rattle.definition.specs.Basics.{all}
+use Rattle.definition.specs.Allocator.{table_pages, total}
+use Rattle.definition.specs.Basics.{all, sum}
 use Rattle.definition.specs.Boot.{highest_address}
 use Rattle.definition.proofs.Bytes.{aligned_is, page_reached, pages_bound}
 use Rattle.definition.proofs.Boards.{page_least}
 use Rattle.definition.specs.World.{used_rows}
-use Rattle.definition.specs.Torn.{row_as_boot}
+use Rattle.definition.specs.Torn.{bare_regions, row_as_boot}
 use Rattle.definition.proofs.Tests.{and_left, and_right}
 use Rattle.audit.specs.Sheet.{row_at}
-use Rattle.audit.proofs.Onward.{all_first, all_drop, and_on}
+use Rattle.audit.proofs.Onward.{drop_at, all_first, all_drop, and_on}
 use Rattle.audit.proofs.Used.{used_at}
 
 module _ (board : Board) where
@@ -77,3 +77,21 @@ module _ (board : Board) where
 module _ (board : Board) where
   pub booted_at : (rows : List Row) (i : ℕ) → all (row_as_boot board) (used_rows rows) ≡ true → i < length (used_rows rows) → Booted board (row_at rows i)
   booted_at rows i e h = booted board (row_at rows i) (used_booted board rows i e h)
+
+  -- each row of a list of such
+  pub booted_in : (rows : List Row) (i : ℕ) (d : Row) → all (row_as_boot board) rows ≡ true → i < length rows → Booted board (get_or rows i d)
+  booted_in rows i d e h = booted board (get_or rows i d) (all_first (row_as_boot board) (drop_at rows i d h) (all_drop (row_as_boot board) rows i e))
+
+  pub few_total : Fit board → (rows : List Row) → all (row_as_boot board) rows ≡ true → total (bare_regions board rows) ≤ length rows * 268435456
+  unfolding all sum bare_regions
+  few_total fit [] e = omega arith
+  few_total fit (row ∷ rows) e =
+      omega (arith, few_pages fit (booted board row (and_left _ _ e)), few_total fit rows (and_right (row_as_boot board row) _ e))
+
+  -- rows that are all such are all in use
+  pub booted_used : (rows : List Row) → all (row_as_boot board) rows ≡ true → used_rows rows ≡ rows
+  unfolding all used_rows
+  booted_used [] e = refl
+  booted_used (row ∷ rows) e =
+      ap (λ (t : Bool). cond t [] (row ∷ used_rows rows)) (ne_eqb row.pages 0 (λ z. omega (arith, (booted board row (and_left _ _ e)).more)))
+      ∙ ap (λ (l : List Row). row ∷ l) (booted_used rows (and_right (row_as_boot board row) _ e))

@@ -3,7 +3,7 @@
 use Prim.Native.Nat.{ℕ, zero, suc, ◌+◌, ◌≤◌, ◌<◌}
 use mathlib.Core.Bool.{Bool, true, false, ◌&&◌, ◌||◌}
 use mathlib.Core.List.{List, [], ◌∷◌}
-use mathlib.Core.Path.{◌≡◌, refl, ap, ◌∙◌}
+use mathlib.Core.Path.{◌≡◌, refl, sym, ap, ◌∙◌}
 use native.Mathlib.Numerals.{add-one}
 use lib.ListN.{length, get_or, drop, drop_of_length-le}
 use lib.Seq.{drop-cons}
@@ -23,6 +23,13 @@ and_on b e = ap (λ (t : Bool). t && b) e
 
 pub and_off : {a : Bool} (b : Bool) → a ≡ false → (a && b) ≡ false
 and_off b e = ap (λ (t : Bool). t && b) e
+
+-- a chain of tests in code: its value where the first is passed, and where it is not
+pub and_then : {v a t : Bool} → a ≡ true → v ≡ t → v ≡ (a && t)
+and_then {t} e h = h ∙ sym (and_on t e)
+
+pub and_else : {v a : Bool} (t : Bool) → a ≡ false → v ≡ a → v ≡ (a && t)
+and_else t e h = h ∙ e ∙ sym (and_off t e)
 
 pub or_on : {a : Bool} (b : Bool) → a ≡ false → (a || b) ≡ b
 or_on b e = ap (λ (t : Bool). t || b) e

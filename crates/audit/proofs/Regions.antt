@@ -26,7 +26,7 @@ use Rattle.audit.proofs.Booted.{Booted, booted_at}
 -- ---- rows such as boot makes
 
 module _ (board : Board) where
-  managed_total : (rs : List AllocationRegion) → managed_pages board rs ≤ total rs
+  pub managed_total : (rs : List AllocationRegion) → managed_pages board rs ≤ total rs
   unfolding sum
   managed_total [] = omega arith
   managed_total (r ∷ rs) = omega (arith, managed_total rs)

@@ -1,11 +1,11 @@
 -- The torn sheet as one test and as a record of its sentences say the same. The audit's tests, in an order of their own, are that one test, whatever the
 -- bytes of the memory and the places of the queue.
-use Prim.Native.Nat.{ℕ, ◌*◌, ◌/◌, ◌≤◌, ◌<◌}
+use Prim.Native.Nat.{ℕ, ◌*◌, ◌/◌}
 use mathlib.Core.Bool.{Bool, true, false, not, ◌&&◌, false≢true}
 use mathlib.Core.List.{List}
-use mathlib.Core.Path.{◌≡◌, refl, sym, ap, ◌∙◌}
+use mathlib.Core.Path.{◌≡◌, refl, sym, ap, ap₂, ◌∙◌}
 use native.Mathlib.Omega.{arith}
-use borrow.Author.Tests.{le-leb, leb-true, not-true, not-false}
+use borrow.Author.Tests.{le-leb, leb-true}
 use lib.Dec.{leb}
 use lib.ListN.{length, drop}
 use Rattle.definition.specs.declared.Row.{Row}
@@ -44,6 +44,7 @@ use Rattle.definition.proofs.Tests.{and_left, and_right, and-true}
 use Rattle.scan.proofs.Members.{refuse}
 use Rattle.audit.specs.declared.Surveyed.{Surveyed}
 use Rattle.audit.specs.Sheet.{whole_regions, survey_test, Found, counts_as, Exact}
+use Rattle.audit.proofs.Onward.{and_on}
 use Rattle.audit.proofs.Regions.{loans_fit}
 
 -- ---- the test and the record
@@ -118,12 +119,14 @@ and_eight : (a b c d e f g h r : Bool)
     → (a && (b && (c && (d && (e && (f && (g && (h && r)))))))) ≡ ((a && (b && (c && d))) && ((e && (f && (g && h))) && r))
 and_eight a b c d e f g h r = and_four a b c d _ ∙ ap (λ (t : Bool). (a && (b && (c && d))) && t) (and_four e f g h r)
 
--- what a test is by the answer of the function that computes it, where the audit stops there and where it goes on
-pub stops : {r t : Bool} → r ≡ t → not r ≡ true → t ≡ false
-stops e n = sym e ∙ not-true _ n
-
-pub goes : {r t : Bool} → r ≡ t → not r ≡ false → t ≡ true
-goes e n = sym e ∙ not-false _ n
+-- the tests that are made behind the survey, in the sheet's order and in the audit's
+in_order : (apart few memory counts rest : Bool)
+    → ((apart && few) && (memory && (counts && rest))) ≡ ((((few && apart) && memory) && counts) && rest)
+in_order true true true counts rest = refl
+in_order true true false counts rest = refl
+in_order true false memory counts rest = refl
+in_order false true memory counts rest = refl
+in_order false false memory counts rest = refl
 
 -- what an audit is given
 pub record Given : Type 0 where
@@ -226,53 +229,54 @@ module _ (board : Board) where
           (sym e
           ∙ and-true {a = unused_test} (and_left unused_test (boot_test && last_test) r) (and-true {a = boot_test} b (and-true {a = records_test} fit w))))
 
-      pub torn_total : 1048576 < total regions_in → Answers false
-      torn_total l =
-          torn (λ t. omega (arith, leb-true (total regions_in) 1048576 (and_right (not (overlap board regions_in)) _ (last_two (and_left _ _ t)))))
-
-      pub torn_apart : not (overlap board regions_in) ≡ false → Answers false
-      torn_apart e = torn (λ t. false≢true (sym e ∙ and_left _ _ (last_two (and_left _ _ t))))
-
-      pub torn_memory : g.memory_len < board.page * managed_pages board regions_in → Answers false
-      unfolding loans_long
-      torn_memory l =
-          torn (λ t.
-          let m = and_right (leb (16 * managed_pages board regions_in) (length g.records)) _ (and_left loans_test _ (and_right rows_test _ t)) in
-          omega (arith, leb-true (board.page * managed_pages board regions_in) g.memory_len m))
-
-      -- where all of these are passed, the counters and the rest decide
-      module _ (s : surveyed ≡ true) (few : total regions_in ≤ 1048576) (apart : not (overlap board regions_in) ≡ true)
-          (memory : board.page * managed_pages board regions_in ≤ g.memory_len) where
-        -- what the survey has passed behind the unused rows
+      -- where the survey has passed, the other tests decide
+      module _ (s : surveyed ≡ true) where
+        -- what it has passed behind the unused rows
         others : (boot_test && (records_test && regions_test)) ≡ true
         others = and_right unused_test _ s
 
-        rows_pass : rows_test ≡ true
-        rows_pass =
-            shape
-            ∙ and-true {a = unused_test}
-            (and_left unused_test (boot_test && (records_test && regions_test)) s)
-            (and-true {a = boot_test} (and_left boot_test _ others) (and-true apart (le-leb (total regions_in) 1048576 few)))
+        rows_left : rows_test ≡ last_test
+        rows_left = shape ∙ and_on _ (and_left unused_test _ s) ∙ and_on _ (and_left boot_test _ others)
 
-        loans_pass : loans_test ≡ true
+        loans_left : loans_test ≡ leb (board.page * managed_pages board regions_in) g.memory_len
         unfolding loans_long
-        loans_pass =
+        loans_left =
             let m = leb-true (managed_pages board regions_in) (length g.records / 16) (and_left records_test _ (and_right boot_test _ others)) in
-            and-true
-            (le-leb (16 * managed_pages board regions_in) (length g.records) (omega arith))
-            (le-leb (board.page * managed_pages board regions_in) g.memory_len memory)
+            and_on _ (le-leb (16 * managed_pages board regions_in) (length g.records) (omega arith))
 
         regions_pass : regions_test ≡ true
         regions_pass = and_right records_test _ (and_right boot_test _ others)
 
+        five_left : five ≡ (last_test && (leb (board.page * managed_pages board regions_in) g.memory_len && (counts_test && rest_test)))
+        five_left =
+            ap (λ (t : Bool). t && (loans_test && (regions_test && (counts_test && rest_test)))) rows_left
+            ∙ ap (λ (t : Bool). last_test && (t && (regions_test && (counts_test && rest_test)))) loans_left
+            ∙ ap (λ (t : Bool). last_test && (leb (board.page * managed_pages board regions_in) g.memory_len && (t && (counts_test && rest_test)))) regions_pass
+
         module _ (seen : Surveyed) (h : Found board records g.rows seen) where
-          found_five : (t : Bool) → counts_as g.counters seen ≡ t → (t && rest_test) ≡ five
-          found_five t d =
-              let c : counts_test ≡ t = sym (rw (h.idle, h.total, h.kernel, h.page)) ∙ d in
-              rw (rows_pass, loans_pass, regions_pass, c)
+          counts_found : counts_as g.counters seen ≡ counts_test
+          counts_found = rw (h.idle, h.total, h.kernel, h.page)
 
-          pub torn_counts : counts_as g.counters seen ≡ false → Answers false
-          torn_counts d = exact false (found_five false d)
+          -- the tests that are made of what the survey found
+          abbrev pub found_tests : Bool
+          found_tests = ((leb seen.total 1048576 && not (overlap board regions_in)) && leb (board.page * seen.managed) g.memory_len) && counts_as g.counters seen
 
-          pub rest_decides : counts_as g.counters seen ≡ true → (r : Bool) → r ≡ rest_test → Answers r
-          rest_decides d r e = exact r (e ∙ found_five true d)
+          pub others_decide : (r : Bool) → r ≡ (found_tests && rest_test) → Answers r
+          others_decide r e =
+              exact r
+              (e
+              ∙ ap
+              (λ (t : ℕ). (((leb t 1048576 && not (overlap board regions_in)) && leb (board.page * seen.managed) g.memory_len) && counts_as g.counters seen) && rest_test)
+              h.total
+              ∙ ap₂
+              (λ (m : ℕ) (t : Bool). (((leb (total regions_in) 1048576 && not (overlap board regions_in)) && leb (board.page * m) g.memory_len) && t) && rest_test)
+              h.manages
+              counts_found
+              ∙ sym
+              (in_order
+              (not (overlap board regions_in))
+              (leb (total regions_in) 1048576)
+              (leb (board.page * managed_pages board regions_in) g.memory_len)
+              counts_test
+              rest_test)
+              ∙ sym five_left)

@@ -8,6 +8,8 @@ use native.Mathlib.Omega.{arith}
 use borrow.Author.Tests.{le-leb, leb-true}
 use lib.Dec.{leb}
 use lib.ListN.{length, drop}
+use Rattle.std.specs.Prelude.{Some, None}
+use Rattle.std.specs.Bool.{then_some}
 use Rattle.definition.specs.declared.Row.{Row}
 use Rattle.definition.specs.Board.{Board, Fit}
 use Rattle.definition.specs.Basics.{all, sum}
@@ -20,7 +22,7 @@ use Rattle.scan.specs.Sheet.{held_row, whole_row, placed_at}
 use Rattle.scan.proofs.Members.{refuse}
 use Rattle.scan.proofs.Rows.{held_rows, whole_rows}
 use Rattle.audit.specs.declared.Surveyed.{Surveyed}
-use Rattle.audit.specs.Sheet.{row_at, whole_regions, Few, row_test, Visited, survey_test, Surveys}
+use Rattle.audit.specs.Sheet.{row_at, whole_regions, Few, row_test, Visited, survey_test, Found, Surveys}
 use Rattle.audit.proofs.Onward.{drop_at, drop_past, all_on, all_first, sum_on}
 use Rattle.audit.proofs.Used.{no_place, used_at, used_on, used_off}
 use Rattle.audit.proofs.Booted.{booted, few_pages, used_booted}
@@ -28,8 +30,8 @@ use Rattle.audit.proofs.Bare.{total_on}
 use Rattle.audit.proofs.Counting.{left_of, left_more, left_none, managed_row, managed_all, idle_row, idle_all}
 
 module _ {board : Board} where
-  pub visited_torn : {f : Records} {n : ℕ} {row : Row} {s r : Surveyed} → r.ok ≡ false → row_test board f n s.managed row ≡ false → Visited board f n row s r
-  visited_torn e d = record { exact = e ∙ sym d; added = λ t. absurd (false≢true (sym e ∙ t)) }
+  pub visited_torn : {f : Records} {n : ℕ} {row : Row} {s : Surveyed} → row_test board f n s.managed row ≡ false → Visited board f n row s None
+  visited_torn d = record { exact = sym d; added = tt }
 
 module _ (board : Board) where
   module _ (f : Records) (n : ℕ) (rows : List Row) where
@@ -37,7 +39,6 @@ module _ (board : Board) where
     used = used_rows rows
 
     pub record Surveying (s : Surveyed) : Type 0 where
-      pub ok : s.ok ≡ true
       pub few : Few s
       pub eight : length rows ≡ 8
       pub high : s.used ≤ 8
@@ -51,10 +52,9 @@ module _ (board : Board) where
       pub idles : left_of (idle_row board) rows 0 + s.page + s.kernel ≡ s.total + left_of (idle_row board) rows s.used
       pub count : length used ≡ s.used + length (used_rows (drop s.used rows))
 
-    pub survey_none : length rows ≡ 8 → Surveying (record { ok = true; used = 0; total = 0; managed = 0; page = 0; kernel = 0 })
+    pub survey_none : length rows ≡ 8 → Surveying (record { used = 0; total = 0; managed = 0; page = 0; kernel = 0 })
     survey_none e =
         record {
-          ok = refl;
           few = record { totals = omega arith; manages = omega arith; holds = omega arith };
           eight = e;
           high = omega arith;
@@ -96,52 +96,49 @@ module _ (board : Board) where
         unfolding placed_from
         next = ap (placed_from board s.managed) first_left
 
-        module _ (r : Surveyed) (seen : Visited board f n (row_at rows s.used) s r) where
-          pub torn_row : r.ok ≡ false → (q : Surveyed) → q.ok ≡ false → Surveys board f n rows q
-          unfolding row whole_regions
-          torn_row e q d =
-              let refused : survey_test board f n rows ≡ true → ⊥ = λ t.
-              let b = and_right (all is_no_row (drop (length used) rows)) _ t in
-              let g = and_right (all (row_as_boot board) used) _ b in
-              let most = leb-true (managed_pages board (regions_of board rows)) n (and_left _ _ g) in
-              let room : s.managed + managed_row board row ≤ n = omega (arith, v.manages, left_more (managed_row board) rows s.used inside) in
-              let w = sym v.whole ∙ whole_rows board f (placed board rows) ∙ and_right (leb (managed_pages board (regions_of board rows)) n) _ g in
-              false≢true
-              (sym e
-              ∙ seen.exact
-              ∙ and-true (used_booted board rows s.used (and_left _ _ b) inside) (and-true (le-leb _ _ room) (all_first (whole_row board f) next w))) in
-              record { exact = d ∙ refuse refused; found = λ t. absurd (false≢true (sym d ∙ t)) }
+        pub torn_row : Visited board f n (row_at rows s.used) s None → Surveys board f n rows None
+        unfolding row whole_regions
+        torn_row seen =
+            let refused : survey_test board f n rows ≡ true → ⊥ = λ t.
+            let b = and_right (all is_no_row (drop (length used) rows)) _ t in
+            let g = and_right (all (row_as_boot board) used) _ b in
+            let most = leb-true (managed_pages board (regions_of board rows)) n (and_left _ _ g) in
+            let room : s.managed + managed_row board row ≤ n = omega (arith, v.manages, left_more (managed_row board) rows s.used inside) in
+            let w = sym v.whole ∙ whole_rows board f (placed board rows) ∙ and_right (leb (managed_pages board (regions_of board rows)) n) _ g in
+            false≢true
+            (seen.exact
+            ∙ and-true (used_booted board rows s.used (and_left _ _ b) inside) (and-true (le-leb _ _ room) (all_first (whole_row board f) next w))) in
+            record { exact = refuse refused; found = tt }
 
-          pub past_row : Fit board → r.ok ≡ true → Surveying r
-          unfolding row
-          past_row fit t =
-              let a = seen.added t in
-              let tests = sym seen.exact ∙ t in
-              let b = booted board row (and_left _ _ tests) in
-              let few = few_pages fit b in
-              let others = and_right (row_as_boot board row) _ tests in
-              let managed-left = left_more (managed_row board) rows s.used inside in
-              let idle-left = left_more (idle_row board) rows s.used inside in
-              record {
-                ok = t;
-                few =
-                    record {
-                      totals = omega (arith, v.few.totals, a.used, a.total, few);
-                      manages = omega (arith, v.few.manages, a.manages, a.total);
-                      holds = omega (arith, v.few.holds, a.manages, a.page, a.kernel, a.pages);
-                    };
-                eight = v.eight;
-                high = omega (arith, a.used);
-                fits = omega (arith, a.manages, leb-true (s.managed + managed_row board row) n (and_left _ _ others));
-                booted = rw a.used (v.booted ∙ all_on (row_as_boot board) first_left (and_left _ _ tests));
-                totals = rw a.used (omega (arith, v.totals, a.total, total_on board first_left));
-                manages = rw a.used (omega (arith, v.manages, a.manages, managed-left));
-                whole = rw (a.used, a.manages) (v.whole ∙ all_on (whole_row board f) next (and_right (leb (s.managed + managed_row board row) n) _ others));
-                pages = rw (a.used, a.manages) (omega (arith, v.pages, a.page, sum_on (held_row board false f) next));
-                kernels = rw (a.used, a.manages) (omega (arith, v.kernels, a.kernel, sum_on (held_row board true f) next));
-                idles = rw a.used (omega (arith, v.idles, a.total, a.page, a.kernel, a.pages, b.tables, idle-left));
-                count = rw a.used counts;
-              }
+        pub past_row : Fit board → (r : Surveyed) → Visited board f n (row_at rows s.used) s (Some r) → Surveying r
+        unfolding row
+        past_row fit r seen =
+            let a = seen.added in
+            let tests = sym seen.exact in
+            let b = booted board row (and_left _ _ tests) in
+            let few = few_pages fit b in
+            let others = and_right (row_as_boot board row) _ tests in
+            let managed-left = left_more (managed_row board) rows s.used inside in
+            let idle-left = left_more (idle_row board) rows s.used inside in
+            record {
+              few =
+                  record {
+                    totals = omega (arith, v.few.totals, a.used, a.total, few);
+                    manages = omega (arith, v.few.manages, a.manages, a.total);
+                    holds = omega (arith, v.few.holds, a.manages, a.page, a.kernel, a.pages);
+                  };
+              eight = v.eight;
+              high = omega (arith, a.used);
+              fits = omega (arith, a.manages, leb-true (s.managed + managed_row board row) n (and_left _ _ others));
+              booted = rw a.used (v.booted ∙ all_on (row_as_boot board) first_left (and_left _ _ tests));
+              totals = rw a.used (omega (arith, v.totals, a.total, total_on board first_left));
+              manages = rw a.used (omega (arith, v.manages, a.manages, managed-left));
+              whole = rw (a.used, a.manages) (v.whole ∙ all_on (whole_row board f) next (and_right (leb (s.managed + managed_row board row) n) _ others));
+              pages = rw (a.used, a.manages) (omega (arith, v.pages, a.page, sum_on (held_row board false f) next));
+              kernels = rw (a.used, a.manages) (omega (arith, v.kernels, a.kernel, sum_on (held_row board true f) next));
+              idles = rw a.used (omega (arith, v.idles, a.total, a.page, a.kernel, a.pages, b.tables, idle-left));
+              count = rw a.used counts;
+            }
 
       -- ---- the end of those in use
 
@@ -181,30 +178,26 @@ module _ (board : Board) where
             ∙ sym (and-true-right _)
             ∙ ap (λ (t : Bool). all is_no_row (drop (length used) rows) && t) (sym passed)
 
-        surveys : (t : Bool) → t ≡ all is_no_row (drop s.used rows)
-            → Surveys board f n rows (record { ok = t; used = s.used; total = s.total; managed = s.managed; page = s.page; kernel = s.kernel })
-        surveys t e =
+        found : Found board f rows s
+        found =
             record {
-              exact = e ∙ rest_decides;
-              found = λ _. record {
-                few = record { totals = v.few.totals; manages = v.few.manages; holds = v.few.holds };
-                used = sym ends;
-                total = omega (arith, v.totals, none_total);
-                manages = manages_all;
-                page = omega (arith, v.pages, none_held false, held_rows board f (placed board rows) false);
-                kernel = omega (arith, v.kernels, none_held true, held_rows board f (placed board rows) true);
-                idle = omega (arith, v.idles, none_left (idle_row board), idle_all board rows);
-              };
+              few = v.few;
+              used = sym ends;
+              total = omega (arith, v.totals, none_total);
+              manages = manages_all;
+              page = omega (arith, v.pages, none_held false, held_rows board f (placed board rows) false);
+              kernel = omega (arith, v.kernels, none_held true, held_rows board f (placed board rows) true);
+              idle = omega (arith, v.idles, none_left (idle_row board), idle_all board rows);
             }
 
-      -- they end at a row that has no pages, or with the last one
-      pub survey_ended : s.used < 8 → (row_at rows s.used).pages ≡ 0 → (t : Bool) → t ≡ all is_no_row (drop s.used rows)
-          → Surveys board f n rows (record { ok = t; used = s.used; total = s.total; managed = s.managed; page = s.page; kernel = s.kernel })
-      survey_ended h z =
-          surveys (omega (arith, v.count, used_off (drop_at rows s.used no_place (omega (arith, v.eight))) z))
+        pub surveys : (t : Bool) → t ≡ all is_no_row (drop s.used rows) → Surveys board f n rows (then_some t s)
+        surveys true e = record { exact = e ∙ rest_decides; found = found }
+        surveys false e = record { exact = e ∙ rest_decides; found = tt }
 
-      pub survey_all : 8 ≤ s.used → Surveys board f n rows s
-      unfolding used_rows all
-      survey_all h =
-          let no_more = drop_past rows s.used (omega (arith, v.eight)) in
-          surveys (omega (arith, v.count, ap (λ (l : List Row). length (used_rows l)) no_more)) s.ok (v.ok ∙ sym (ap (all is_no_row) no_more))
+      -- they end at a row that has no pages, or with the last one
+      pub ends_before : s.used < 8 → (row_at rows s.used).pages ≡ 0 → length used ≡ s.used
+      ends_before h z = omega (arith, v.count, used_off (drop_at rows s.used no_place (omega (arith, v.eight))) z)
+
+      pub ends_last : 8 ≤ s.used → length used ≡ s.used
+      unfolding used_rows
+      ends_last h = omega (arith, v.count, ap (λ (l : List Row). length (used_rows l)) (drop_past rows s.used (omega (arith, v.eight))))

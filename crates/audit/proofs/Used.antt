@@ -6,7 +6,7 @@ use mathlib.Core.List.{List, [], ◌∷◌}
 use mathlib.Core.Path.{◌≡◌, refl, ap, ◌∙◌}
 use native.Mathlib.Omega.{arith}
 use lib.Dec.{eqb}
-use lib.ListN.{length, get_or, drop}
+use lib.ListN.{length, get_or, take, drop}
 use mir.Val.{Val}
 use denote.Laws.{Is}
 use denote.Array.{Array}
@@ -38,7 +38,7 @@ pub used_at : (rows : List Row) (i : ℕ) → i < length (used_rows rows) → dr
 used_at rows i h =
     drop_at (used_rows rows) i no_place h ∙ ap (λ (r : Row). r ∷ drop (i + 1) (used_rows rows)) (used_get rows i h)
 
-used_most : (rows : List Row) → length (used_rows rows) ≤ length rows
+pub used_most : (rows : List Row) → length (used_rows rows) ≤ length rows
 unfolding used_rows
 used_most [] = omega arith
 used_most (r ∷ rs) = go (eqb r.pages 0) (used_most rs)
@@ -46,6 +46,16 @@ used_most (r ∷ rs) = go (eqb r.pages 0) (used_most rs)
     go : (t : Bool) → length (used_rows rs) ≤ length rs → length (cond t [] (r ∷ used_rows rs)) ≤ length (r ∷ rs)
     go true h = omega arith
     go false h = omega arith
+
+-- they are the rows up to their number
+pub used_front : (rows : List Row) → take (length (used_rows rows)) rows ≡ used_rows rows
+unfolding used_rows
+used_front [] = refl
+used_front (r ∷ rs) = go (eqb r.pages 0) (used_front rs)
+  where
+    go : (t : Bool) → take (length (used_rows rs)) rs ≡ used_rows rs → take (length (cond t [] (r ∷ used_rows rs))) (r ∷ rs) ≡ cond t [] (r ∷ used_rows rs)
+    go true h = refl
+    go false h = ap (λ (l : List Row). r ∷ l) h
 
 pub used_eight : (rows : List Row) (vs : List Val) → Is (Array R.the_row 8) rows vs → length (used_rows rows) ≤ 8
 used_eight rows vs p = omega (arith, used_most rows, rows_eight rows vs p)

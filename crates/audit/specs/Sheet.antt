@@ -1,5 +1,5 @@
 -- What the audit is given, as a world of the definition, and what the survey of its rows answers.
-use Rattle.std.specs.Prelude.{ℕ, ◌+◌, ◌-◌, ◌*◌, ◌≤◌, Bool, true, false, ◌&&◌, List, [], ◌≡◌, leb, eqb, get_or, length, drop}
+use Rattle.std.specs.Prelude.{ℕ, ◌+◌, ◌-◌, ◌*◌, ◌≤◌, Bool, true, false, ◌&&◌, List, [], ◌≡◌, leb, eqb, get_or, length, drop, Option, is_some, IfSome}
 use Rattle.definition.specs.declared.Row.{Row}
 use Rattle.definition.specs.declared.Counters.{Counters}
 use Rattle.definition.specs.declared.Pass.{Pass}
@@ -77,9 +77,9 @@ module _ (board : Board) where
     pub pages : listed_pages (placed_at 0 row) + held_row board false f (placed_at s.managed row) + held_row board true f (placed_at s.managed row)
         ≡ managed board (bare_region board row)
 
-  pub record Visited (f : Records) (n : ℕ) (row : Row) (s r : Surveyed) : Type 0 where
-    pub exact : r.ok ≡ row_test f n s.managed row
-    pub added : r.ok ≡ true → Added f row s r
+  pub record Visited (f : Records) (n : ℕ) (row : Row) (s : Surveyed) (r : Option Surveyed) : Type 0 where
+    pub exact : is_some r ≡ row_test f n s.managed row
+    pub added : IfSome r (Added f row s)
 
   -- what the sheet asks of each row by itself
   abbrev pub survey_test : Records → ℕ → List Row → Bool
@@ -97,9 +97,9 @@ module _ (board : Board) where
     pub kernel : r.kernel ≡ held_pages board f true (placed board rows)
     pub idle : r.total - r.page - r.kernel ≡ idle_pages board (placed board rows)
 
-  pub record Surveys (f : Records) (n : ℕ) (rows : List Row) (r : Surveyed) : Type 0 where
-    pub exact : r.ok ≡ survey_test f n rows
-    pub found : r.ok ≡ true → Found f rows r
+  pub record Surveys (f : Records) (n : ℕ) (rows : List Row) (r : Option Surveyed) : Type 0 where
+    pub exact : is_some r ≡ survey_test f n rows
+    pub found : IfSome r (Found f rows)
 
   -- the answer is the sheet's, whatever the bytes of the memory and the places of the queue
   abbrev pub Exact : List Row → Counters → ℕ → Pass → List ℕ → (memory_len queue_len : ℕ) → Bool → Type 0

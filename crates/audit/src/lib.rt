@@ -40,131 +40,99 @@ fn row_as_boot(board: Board, row: Row) -> bool
     requires { Fit board }
     ensures { result ≡ row_as_boot board row }
 {
-    let page = board.page;
     let start = row.start;
     let pages = row.pages;
-    if !start.is_aligned_to(page as u64) {
-        return false;
-    }
-    if pages <= 1 {
-        return false;
-    }
-    let most = HIGHEST_ADDRESS / page;
-    if most < pages {
-        return false;
-    }
-    if most - pages < start.page_number(page) {
-        return false;
-    }
-    region::table_pages(board, pages) < pages
+    let most = HIGHEST_ADDRESS / board.page;
+    start.is_aligned_to(board.page as u64)
+        && 1 < pages
+        && pages <= most
+        && start.page_number(board.page) <= most - pages
+        && region::table_pages(board, pages) < pages
 }
 
-// Two rows share a page.
+// Two rows share a page. Any rows may be asked of, so that no end is counted past 64 bits.
 fn shares(board: Board, r: Row, t: Row) -> bool
-    requires fit { Fit board }
-    requires r_value { (row_as_boot board r ≡ true) × (row_as_boot board t ≡ true) }
+    requires { Fit board }
     ensures { result ≡ shares_def board (bare_region board r) (bare_region board t) }
 {
-    let page = board.page;
     let r_start = r.start;
     let t_start = t.start;
-    let r_first = r_start.page_number(page);
-    let t_first = t_start.page_number(page);
-    if r_first < t_first + t.pages {
-        return t_first < r_first + r.pages;
-    }
-    false
+    let r_first = r_start.page_number(board.page);
+    let t_first = t_start.page_number(board.page);
+    r_first < t_first.saturating_add(t.pages) && t_first < r_first.saturating_add(r.pages)
 }
 
-// The row i shares a page with a used one behind it.
-fn shares_behind(board: Board, rows: [Row; 8], used: usize, i: usize) -> bool
-    requires fit { Fit board }
-    requires used_value { (used ≡ length (used_rows rows)) × (i < used) × (all (row_as_boot board) (used_rows rows) ≡ true) }
-    ensures { result ≡ any (shares_def board (bare_region board (row_at rows i))) (bare_regions board (drop (i + 1) (used_rows rows))) }
+// The row shares a page with one of the others.
+fn shares_any(board: Board, row: Row, others: &[Row]) -> bool
+    requires { Fit board }
+    ensures { result ≡ any (shares_def board (bare_region board row)) (bare_regions board others.now) }
 {
-    let row = rows[i];
-    let mut j = i + 1;
-    while j < used {
-        if shares(board, row, rows[j]) {
+    others.iter().any(|other| shares(board, row, *other))
+}
+
+// Two of the rows share a page.
+pub fn overlaps(board: Board, rows: &[Row]) -> bool
+    requires { Fit board }
+    ensures { result ≡ overlap board (bare_regions board rows.now) }
+{
+    for (i, row) in rows.iter().enumerate() {
+        if shares_any(board, *row, &rows[i + 1..]) {
             return true;
         }
-        j += 1;
     }
     false
 }
 
-pub fn overlaps(board: Board, rows: [Row; 8], used: usize) -> bool
+// The pages of rows in use, tables included.
+pub fn total_pages(board: Board, rows: &[Row]) -> usize
     requires fit { Fit board }
-    requires used_value { (used ≡ length (used_rows rows)) × (all (row_as_boot board) (used_rows rows) ≡ true) }
-    ensures { result ≡ overlap board (regions_of board rows) }
+    requires booted { all (row_as_boot board) rows.now ≡ true }
+    requires few { length rows.now ≤ 8 }
+    ensures { result ≡ total (bare_regions board rows.now) }
 {
-    let mut i: usize = 0;
-    while i < used {
-        if shares_behind(board, rows, used, i) {
-            return true;
-        }
-        i += 1;
-    }
-    false
+    rows.iter().map(|row| row.pages).sum()
 }
 
-// The pages of the rows in use, tables included.
-pub fn total_pages(board: Board, rows: [Row; 8], used: usize) -> usize
-    requires fit { Fit board }
-    requires used_value { (used ≡ length (used_rows rows)) × (all (row_as_boot board) (used_rows rows) ≡ true) }
-    ensures { result ≡ total (regions_of board rows) }
+// Two rows in use share a page.
+fn used_overlap(words: &[u64], used: usize) -> bool
+    requires { Long words.now × (used ≡ length (used_rows (rows_in words.now))) }
+    ensures { result ≡ overlap (board_in words.now) (regions_of (board_in words.now) (rows_in words.now)) }
 {
-    let mut pages: usize = 0;
-    let mut i: usize = 0;
-    while i < used {
-        let row = rows[i];
-        pages += row.pages;
-        i += 1;
-    }
-    pages
+    let rows = words::rows_in(words);
+    overlaps(words::board_in(words), &rows[..used])
 }
 
 // No two rows in use share a page. A single row shares none, and then the rows are not read.
 fn apart(words: &[u64], used: usize) -> bool
-    requires { Long words.now × (used ≡ length (used_rows (rows_in words.now)))
-        × (all (row_as_boot (board_in words.now)) (used_rows (rows_in words.now)) ≡ true) }
+    requires { Long words.now × (used ≡ length (used_rows (rows_in words.now))) }
     ensures { result ≡ not
         (overlap (board_in words.now) (regions_of (board_in words.now) (rows_in words.now))) }
 {
-    if used < 2 {
-        return true;
-    }
-    !overlaps(words::board_in(words), words::rows_in(words), used)
+    used < 2 || !used_overlap(words, used)
 }
 
 // ---- "and the loans long enough"
 
-// The managed pages of the rows in use.
-pub fn managed_pages(board: Board, rows: [Row; 8], used: usize) -> usize
+// The managed pages of rows in use.
+pub fn managed_pages(board: Board, rows: &[Row]) -> usize
     requires fit { Fit board }
-    requires used_value { (used ≡ length (used_rows rows)) × (rows_as_boot board rows ≡ true) }
-    ensures { (result ≡ managed_pages board (regions_of board rows)) × (result ≤ 1048576) }
+    requires booted { all (row_as_boot board) rows.now ≡ true }
+    requires few { total (bare_regions board rows.now) ≤ 1048576 }
+    ensures { (result ≡ managed_pages board (bare_regions board rows.now)) × (result ≤ 1048576) }
 {
-    let mut pages: usize = 0;
-    let mut i: usize = 0;
-    while i < used {
-        let row = rows[i];
-        pages += row.pages - region::table_pages(board, row.pages);
-        i += 1;
-    }
-    pages
+    rows.iter()
+        .map(|row| row.pages - region::table_pages(board, row.pages))
+        .sum()
 }
 
-pub fn loans_long(board: Board, rows: [Row; 8], used: usize, records: usize, memory: usize) -> bool
+pub fn loans_long(board: Board, rows: &[Row], records: usize, memory: usize) -> bool
     requires fit { Fit board }
-    requires used_value { (used ≡ length (used_rows rows)) × (rows_as_boot board rows ≡ true) }
-    ensures { result ≡ loans_long board rows records memory }
+    requires booted { all (row_as_boot board) rows.now ≡ true }
+    requires few { total (bare_regions board rows.now) ≤ 1048576 }
+    ensures { result ≡ loans_long board rows.now records memory }
 {
-    let pages = managed_pages(board, rows, used);
-    if records < 16 * pages {
-        return false;
-    }
-    board.page * pages <= memory
+    let pages = managed_pages(board, rows);
+    16 * pages <= records && board.page * pages <= memory
 }
 
 // ---- the rows and their regions
@@ -173,7 +141,6 @@ pub fn loans_long(board: Board, rows: [Row; 8], used: usize, records: usize, mem
 // hold.
 #[derive(Clone, Copy)]
 struct Surveyed {
-    ok: bool,
     used: usize,
     total: usize,
     managed: usize,
@@ -181,21 +148,8 @@ struct Surveyed {
     kernel: usize,
 }
 
-fn torn_rows() -> Surveyed
-    ensures { result.ok ≡ false }
-{
-    Surveyed {
-        ok: false,
-        used: 0,
-        total: 0,
-        managed: 0,
-        page: 0,
-        kernel: 0,
-    }
-}
-
 // The row in use behind those that were seen: that it is as boot makes it, that the loan has its records, and that its region is whole.
-fn visit(records: &[u8], words: &[u64], seen: Surveyed) -> Surveyed
+fn visit(records: &[u8], words: &[u64], seen: Surveyed) -> Option<Surveyed>
     requires { Few seen × Long words.now × (seen.used < 8) × (seen.used < used_in words.now) }
     ensures { Visited (board_in words.now) (record_at records.now) (pages_in records.now)
         (row_at (rows_in words.now) seen.used) seen result }
@@ -203,15 +157,15 @@ fn visit(records: &[u8], words: &[u64], seen: Surveyed) -> Surveyed
     let board = words::board_in(words);
     let row = words::row_at(words, seen.used);
     if !row_as_boot(board, row) {
-        return torn_rows();
+        return None;
     }
     let start = row.start;
     let tables = region::table_pages(board, row.pages);
     let past = seen.managed + (row.pages - tables);
     if records.len() / 16 < past {
-        return torn_rows();
+        return None;
     }
-    let Some(held) = scan::region_whole(
+    let held = scan::region_whole(
         records,
         start.page_number(board.page) + tables,
         seen.managed,
@@ -219,44 +173,33 @@ fn visit(records: &[u8], words: &[u64], seen: Surveyed) -> Surveyed
         row,
         words,
         seen.used,
-    ) else {
-        return torn_rows();
-    };
-    Surveyed {
-        ok: true,
+    )?;
+    Some(Surveyed {
         used: seen.used + 1,
         total: seen.total + row.pages,
         managed: past,
         page: seen.page + held.page,
         kernel: seen.kernel + held.kernel,
-    }
+    })
 }
 
 // The rows in use, each looked at once, and behind them the unused ones, all zeros.
-fn survey(records: &[u8], words: &[u64]) -> Surveyed
+fn survey(records: &[u8], words: &[u64]) -> Option<Surveyed>
     requires { Long words.now }
     ensures { Surveys (board_in words.now) (record_at records.now) (pages_in records.now)
         (rows_in words.now) result }
 {
     let mut seen = Surveyed {
-        ok: true,
         used: 0,
         total: 0,
         managed: 0,
         page: 0,
         kernel: 0,
     };
-    while seen.used < 8 {
-        if words::pages_at(words, seen.used) == 0 {
-            seen.ok = words::is_no_rows(words, seen.used);
-            return seen;
-        }
-        seen = visit(records, words, seen);
-        if !seen.ok {
-            return torn_rows();
-        }
+    while seen.used < 8 && words::pages_at(words, seen.used) != 0 {
+        seen = visit(records, words, seen)?;
     }
-    seen
+    words::is_no_rows(words, seen.used).then_some(seen)
 }
 
 // ---- "idle, total, kernel and page counts equal those of the rows and records"
@@ -266,16 +209,10 @@ fn counted(counters: Counters, seen: Surveyed) -> bool
     requires { seen.page + seen.kernel ≤ seen.total }
     ensures { result ≡ counts_as counters seen }
 {
-    if counters.idle != seen.total - seen.page - seen.kernel {
-        return false;
-    }
-    if counters.total != seen.total {
-        return false;
-    }
-    if counters.kernel_used != seen.kernel {
-        return false;
-    }
-    counters.page_data == seen.page
+    counters.idle == seen.total - seen.page - seen.kernel
+        && counters.total == seen.total
+        && counters.kernel_used == seen.kernel
+        && counters.page_data == seen.page
 }
 
 // ---- "`waiting` is 0; the queue's count is within its loan; pass rounds are at most 1,001 and freed at most 100 × rounds"
@@ -284,23 +221,14 @@ fn pass_within(board: Board, pass: Pass) -> bool
     requires { Fit board }
     ensures { result ≡ pass_within board pass }
 {
-    if board.max_rounds + 1 < pass.rounds {
-        return false;
-    }
-    pass.freed <= board.per_round * pass.rounds
+    pass.rounds <= board.max_rounds + 1 && pass.freed <= board.per_round * pass.rounds
 }
 
 fn within(board: Board, counters: Counters, queued: usize, room: usize, pass: Pass) -> bool
     requires { Fit board }
     ensures { result ≡ none_waiting counters && (queue_within queued room && pass_within board pass) }
 {
-    if counters.waiting != 0 {
-        return false;
-    }
-    if room < queued {
-        return false;
-    }
-    pass_within(board, pass)
+    counters.waiting == 0 && queued <= room && pass_within(board, pass)
 }
 
 // ---- the sheet
@@ -319,27 +247,18 @@ pub fn audit(
         (pass_in words.now) records.now memory_len queue_len result }
 {
     let board = words::board_in(words);
-    let seen = survey(records, words);
-    if !seen.ok {
+    let Some(seen) = survey(records, words) else {
         return false;
-    }
-    if 1048576 < seen.total {
-        return false;
-    }
-    if !apart(words, seen.used) {
-        return false;
-    }
-    if memory_len < board.page * seen.managed {
-        return false;
-    }
-    if !counted(counters, seen) {
-        return false;
-    }
-    within(
-        board,
-        counters,
-        words::queued_in(words),
-        queue_len,
-        words::pass_in(words),
-    )
+    };
+    seen.total <= 1048576
+        && apart(words, seen.used)
+        && board.page * seen.managed <= memory_len
+        && counted(counters, seen)
+        && within(
+            board,
+            counters,
+            words::queued_in(words),
+            queue_len,
+            words::pass_in(words),
+        )
 }

@@ -3,12 +3,15 @@
 use Prim.Native.Nat.{ℕ, zero, suc, ◌+◌, ◌-◌, ◌≤◌, ◌<◌}
 use mathlib.Core.Bool.{Bool, true, false, not, cond, ◌||◌, false≢true}
 use mathlib.Core.List.{List, [], ◌∷◌, ◌++◌, append-nil}
-use mathlib.Core.Path.{◌≡◌, refl, sym, ap, ap₂, ◌∙◌, subst}
+use mathlib.Core.Path.{◌≡◌, refl, sym, ap, ap₂, ◌∙◌}
 use native.Mathlib.Numerals.{add-one}
 use native.Mathlib.Omega.{arith}
 use borrow.Author.Tests.{eq-eqb, le-leb, ne_eqb}
 use lib.ListN.{length, get_or, take, drop, set, replicate, length-append, length-replicate}
-use lib.Seq.{append_snoc, drop-append_seam, set-append_seam, get_or-take, take-suc, take_all, length-take-le}
+use lib.Seq.{append_snoc, take-append_seam, drop-append_seam, set-append_seam, take-suc, take_all, length-take-le}
+use Rattle.std.specs.Prelude.{Option, Some, None}
+use Rattle.std.proofs.lemmas.Option.{same_Some}
+use Rattle.std.specs.List.{list_any}
 use mir.Val.{Val}
 use denote.Laws.{Is}
 use denote.Array.{Array}
@@ -23,13 +26,12 @@ use Rattle.definition.specs.Boot.{ends_far, kept_regions, most_pages, overlap}
 use Rattle.definition.specs.World.{no_row, used_rows}
 use Rattle.definition.specs.Torn.{bare_regions, is_no_row, regions_of, row_as_boot, rows_as_boot, six_lists}
 use Rattle.definition.proofs.Tests.{and_left, and_right, and-true}
-use Rattle.audit.proofs.Booted.{booted}
-use Rattle.audit.proofs.Onward.{drop_at}
+use Rattle.audit.proofs.Booted.{booted, booted_used}
 use Rattle.definition.specs.Board.{Fit}
 use Rattle.world.specs.Stands.{row_at}
 use Rattle.boot.specs.declared.Kept.{Kept}
 use Rattle.boot.specs.Booting.{Keeps, RowsKept, Mapped, eight, kept_row, kept_rows, row_of}
-use Rattle.boot.proofs.Entries.{kept_booted, kept_region, paged_kept, unpaged_not}
+use Rattle.boot.proofs.Entries.{kept_booted, kept_region}
 
 pub neither : (a b : Bool) → (a || b) ≡ false → (a ≡ false) × (b ≡ false)
 neither true b e = absurd (false≢true (sym e))
@@ -44,16 +46,6 @@ mapped_all map count ms M h = sym M.front ∙ take_all 8 ms (omega (arith, M.lon
 -- the array has eight
 pub map_eight : (map : List MemoryRegion) (vs : List Val) → Is (Array M.the_row 8) map vs → length map ≡ 8
 map_eight map vs p = p.1.0.1
-
-pub taken_long : (map : List MemoryRegion) (count : ℕ) → count ≤ length map → length (take count map) ≡ count
-taken_long map count h = length-take-le count map h
-
-pub taken_at
-    : (map : List MemoryRegion) (count i : ℕ) (d : MemoryRegion) → i < count → count ≤ length map
-    → drop i (take count map) ≡ get_or map i d ∷ drop (i + 1) (take count map)
-taken_at map count i d h k =
-    drop_at (take count map) i d (omega (arith, taken_long map count k))
-    ∙ ap (λ (m : MemoryRegion). m ∷ drop (i + 1) (take count map)) (get_or-take count map i d h)
 
 -- what a place past the end reads as
 abbrev pub no_entry : MemoryRegion
@@ -99,40 +91,19 @@ eight_next xs r h =
     ∙ sym (append_snoc xs r (replicate (8 - suc (length xs)) no_row))
     ∙ ap (λ (k : ℕ). (xs ++ (r ∷ [])) ++ replicate (8 - k) no_row) (sym e)
 
-module _ (board : Board) where
-  -- the rows after one entry more, which stands for a row or an unused one
-  pub record Grown (xs : List MemoryRegion) (m : MemoryRegion) : Type 0 where
-    pub rows : set (eight (kept_rows board xs)) (length (kept_rows board xs)) (row_of board m) ≡ eight (kept_rows board (xs ++ (m ∷ [])))
-    pub more : ((row_of board m).pages ≡ 0 → ⊥) → length (kept_rows board (xs ++ (m ∷ []))) ≡ length (kept_rows board xs) + 1
-    pub same : (row_of board m).pages ≡ 0 → length (kept_rows board (xs ++ (m ∷ []))) ≡ length (kept_rows board xs)
+-- what one entry keeps
+kept_one : (t : Bool) (k r : Row) → Some r ≡ cond t (Some k) None → cond t (k ∷ []) [] ≡ r ∷ []
+kept_one true k r e = ap (λ (x : Row). x ∷ []) (sym (same_Some _ _ e))
+kept_one false k r e = cc
 
-module _ (xs : List Row) (k : Row) where
-  grown_rows : length xs < 8 → (t : Bool) → set (eight xs) (length xs) (cond t k no_row) ≡ eight (xs ++ cond t (k ∷ []) [])
-  grown_rows h true = eight_next xs k h
-  grown_rows h false = eight_set xs no_row h ∙ sym (eight_split xs h) ∙ ap eight (sym (append-nil xs))
-
-  grown_more : (t : Bool) → t ≡ true → length (xs ++ cond t (k ∷ []) []) ≡ length xs + 1
-  grown_more true e = length-append xs (k ∷ [])
-  grown_more false e = absurd (false≢true e)
-
-  grown_same : (t : Bool) → t ≡ false → length (xs ++ cond t (k ∷ []) []) ≡ length xs
-  grown_same true e = absurd (false≢true (sym e))
-  grown_same false e = ap length (append-nil xs)
-
-module _ {board : Board} where
-  pub grown : (xs : List MemoryRegion) (m : MemoryRegion) → length (kept_rows board xs) < 8 → Grown board xs m
-  unfolding kept_rows
-  grown xs m h =
-      record {
-        rows = grown_rows (kept_rows board xs) (kept_row board m) h (is_kept board m) ∙ ap eight (sym (kept_append board xs (m ∷ [])));
-        more = λ p. ap length (kept_append board xs (m ∷ [])) ∙ grown_more (kept_rows board xs) (kept_row board m) (is_kept board m) (paged_kept board m p);
-        same = λ p. ap length (kept_append board xs (m ∷ [])) ∙ grown_same (kept_rows board xs) (kept_row board m) (is_kept board m) (unpaged_not board m p);
-      }
+kept_none : (t : Bool) (k : Row) → ◌≡◌ {A = Option Row} None (cond t (Some k) None) → cond t (k ∷ []) [] ≡ []
+kept_none true k e = cc
+kept_none false k e = refl
 
 -- a turn of the loop, at the entry i
 module _
-    (board : Board) (map : List MemoryRegion) (i : ℕ) (d : MemoryRegion) {rows : List Row} {used : ℕ} {r : Row} (h : i < length map) (few : i < 8)
-    (R : rows ≡ eight (kept_rows board (take i map))) (U : used ≡ length (kept_rows board (take i map))) (e : r ≡ row_of board (get_or map i d))
+    (board : Board) (map : List MemoryRegion) (i : ℕ) (d : MemoryRegion) {rows : List Row} {used : ℕ} (h : i < length map) (few : i < 8)
+    (R : rows ≡ eight (kept_rows board (take i map))) (U : used ≡ length (kept_rows board (take i map)))
   where
     next : take (i + 1) map ≡ take i map ++ (get_or map i d ∷ [])
     next = rw add-one (take-suc map i d h)
@@ -140,29 +111,47 @@ module _
     pub turn_fits : used < 8
     turn_fits = omega (arith, kept_most board (take i map), length-take-le i map (omega arith))
 
-    G : Grown board (take i map) (get_or map i d)
-    G = grown (take i map) (get_or map i d) (omega (arith, turn_fits))
+    -- the rows kept after it
+    after : kept_rows board (take (i + 1) map) ≡ kept_rows board (take i map) ++ kept_rows board (get_or map i d ∷ [])
+    after = ap (kept_rows board) next ∙ kept_append board (take i map) (get_or map i d ∷ [])
 
-    pub turn_rows : set rows used r ≡ eight (kept_rows board (take (i + 1) map))
-    turn_rows = rw (R, U, e, next) G.rows
+    -- the entry is kept, and its row is r
+    module _ (r : Row) (e : Some r ≡ row_of board (get_or map i d)) where
+      grown : kept_rows board (take (i + 1) map) ≡ kept_rows board (take i map) ++ (r ∷ [])
+      unfolding kept_rows
+      grown = after ∙ ap (λ (l : List Row). kept_rows board (take i map) ++ l) (kept_one (is_kept board (get_or map i d)) _ _ e)
 
-    pub turn_more : (r.pages ≡ 0 → ⊥) → used + 1 ≡ length (kept_rows board (take (i + 1) map))
-    turn_more p = rw (U, next) (sym (G.more (subst (λ (x : Row). x.pages ≡ 0 → ⊥) e p)))
+      pub turn_rows : set rows used r ≡ eight (kept_rows board (take (i + 1) map))
+      turn_rows = rw (R, U, grown) (eight_next (kept_rows board (take i map)) r (omega (arith, turn_fits)))
 
-    pub turn_same : r.pages ≡ 0 → used ≡ length (kept_rows board (take (i + 1) map))
-    turn_same p = rw (U, next) (sym (G.same (subst (λ (x : Row). x.pages ≡ 0) e p)))
+      pub turn_more : used + 1 ≡ length (kept_rows board (take (i + 1) map))
+      turn_more = rw (U, grown) (sym (length-append (kept_rows board (take i map)) (r ∷ [])))
 
-any_none : {A : Type 0} (test : A → Bool) (d : A) (xs : List A) (i : ℕ) → any test xs ≡ false → i < length xs → test (get_or xs i d) ≡ false
+    -- it is not
+    module _ (e : None ≡ row_of board (get_or map i d)) where
+      same : kept_rows board (take (i + 1) map) ≡ kept_rows board (take i map)
+      unfolding kept_rows
+      same =
+          after
+          ∙ ap (λ (l : List Row). kept_rows board (take i map) ++ l) (kept_none (is_kept board (get_or map i d)) _ e)
+          ∙ append-nil (kept_rows board (take i map))
+
+      pub turn_rows_same : rows ≡ eight (kept_rows board (take (i + 1) map))
+      turn_rows_same = rw (R, same) refl
+
+      pub turn_same : used ≡ length (kept_rows board (take (i + 1) map))
+      turn_same = rw (U, same) refl
+
+pub any_is : {A : Type 0} (test : A → Bool) (xs : List A) → list_any test xs ≡ any test xs
+unfolding any
+any_is test [] = refl
+any_is test (x ∷ xs) = ap (λ (t : Bool). test x || t) (any_is test xs)
+
+pub any_none : {A : Type 0} (test : A → Bool) (d : A) (xs : List A) (i : ℕ) → any test xs ≡ false → i < length xs → test (get_or xs i d) ≡ false
 unfolding any
 any_none test d [] i e h = absurd (omega arith)
 any_none test d (x ∷ xs) zero e h = (neither (test x) _ e).0
 any_none test d (x ∷ xs) (suc i) e h = any_none test d xs i (neither (test x) _ e).1 (omega arith)
-
-pub near_at
-    : (map : List MemoryRegion) (count i : ℕ) (d : MemoryRegion) → any ends_far (take count map) ≡ false → i < count → count ≤ length map
-    → ends_far (get_or map i d) ≡ false
-near_at map count i d e h k =
-    rw (get_or-take count map i d h) at (any_none ends_far d (take count map) i e (omega (arith, taken_long map count k)))
 
 -- ---- the rows as boot makes them
 
@@ -208,6 +197,10 @@ pub eight_unused : (xs : List Row) → drop (length xs) (eight xs) ≡ replicate
 unfolding eight
 eight_unused xs = drop-append_seam xs (replicate (8 - length xs) no_row)
 
+pub eight_front : (xs : List Row) → take (length xs) (eight xs) ≡ xs
+unfolding eight
+eight_front xs = take-append_seam xs (replicate (8 - length xs) no_row)
+
 pub eight_long : (xs : List Row) → length xs ≤ 8 → length (eight xs) ≡ 8
 unfolding eight
 eight_long xs h = length-append xs (replicate (8 - length xs) no_row) ∙ omega (arith, length-replicate (8 - length xs) no_row)
@@ -252,6 +245,10 @@ module _ {board : Board} (fit : Fit board) (ms : List MemoryRegion) (near : any 
   pub kept_spans : regions_of board (eight (kept_rows board ms)) ≡ kept_regions board ms
   kept_spans = ap (bare_regions board) kept_used ∙ kept_regions_lem fit ms
 
+  -- the regions of the rows alone
+  pub kept_alone : regions_of board (kept_rows board ms) ≡ kept_regions board ms
+  kept_alone = ap (bare_regions board) (booted_used board (kept_rows board ms) (all_booted fit ms near)) ∙ kept_regions_lem fit ms
+
   kept_six : all six_lists (eight (kept_rows board ms)) ≡ true
   unfolding eight
   kept_six = six_before (kept_rows board ms) (8 - length (kept_rows board ms)) (six_kept board ms)
@@ -267,6 +264,12 @@ module _ {board : Board} (fit : Fit board) (ms : List MemoryRegion) (near : any 
       (and-true kept_six
       (and-true (none_left (8 - length (kept_rows board ms)))
       (and-true (all_booted fit ms near) (and-true (ap not o) (le-leb (total (kept_regions board ms)) most_pages h))))))
+
+  pub kept_front : (r : Kept) → Keeps board ms r → take r.used r.rows ≡ kept_rows board ms
+  kept_front r K = rw (K.rows, K.used) (eight_front (kept_rows board ms))
+
+  pub kept_few : length ms ≤ 8 → (r : Kept) → Keeps board ms r → r.used ≤ 8
+  kept_few few r K = omega (arith, K.used, kept_most board ms)
 
   pub kept_ready : (r : Kept) → Keeps board ms r → RowsKept board r.rows r.used
   kept_ready r K =

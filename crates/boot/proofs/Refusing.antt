@@ -7,6 +7,7 @@ use native.Mathlib.Omega.{arith}
 use lib.ListN.{length, take}
 use lib.Seq.{length-take-le, take_all}
 use Rattle.definition.specs.declared.MemoryRegion.{MemoryRegion}
+use Rattle.definition.specs.declared.Row.{Row}
 use Rattle.definition.specs.Board.{Board}
 use Rattle.definition.specs.Basics.{any}
 use Rattle.definition.specs.Boot.{boot_sheet, ends_far, kept_regions}
@@ -22,7 +23,7 @@ use Rattle.definition.specs.declared.Refusal.TheVariants.{LongMap, FarAddress}
 use Rattle.exam.specs.Promise.{refusal_in}
 use Rattle.boot.specs.declared.Kept.{Kept}
 use Rattle.boot.specs.Booting.{Admits, Keeps, KeptOf, Mapped, Ready, RowsKept, eight, kept_rows, rows_admitted}
-use Rattle.boot.proofs.KeptRows.{kept_ready, kept_spans, kept_used, kept_whole, mapped_all}
+use Rattle.boot.proofs.KeptRows.{kept_alone, kept_front, kept_ready, kept_spans, kept_used, kept_whole, mapped_all}
 use Rattle.boot.proofs.Sheet.{Admitted, admitted, far_map, long_map, near_map}
 
 module _ {map : List MemoryRegion} {count : ℕ} {ms : List MemoryRegion} (M : Mapped map count ms) where
@@ -52,6 +53,14 @@ module _ {map : List MemoryRegion} {count : ℕ} {ms : List MemoryRegion} (M : M
 
         pub given_rows : (records memory : ℕ) → refusal_in (rows_admitted board r.rows records memory) ≡ first_met (boot_sheet board ms records memory)
         given_rows records memory = sym (near_map board ms records memory (omega (arith, M.long)) (given_near near) r.rows given_spans)
+
+        -- of the rows alone
+        pub given_used
+            : (records memory : ℕ) → refusal_in (rows_admitted board (take r.used r.rows) records memory) ≡ first_met (boot_sheet board ms records memory)
+        given_used records memory =
+            ap (λ (rows : List Row). refusal_in (rows_admitted board rows records memory))
+            (kept_front fit (take count map) near r K ∙ ap (kept_rows board) all_given)
+            ∙ sym (near_map board ms records memory (omega (arith, M.long)) (given_near near) (kept_rows board ms) (kept_alone fit ms (given_near near)))
 
 -- ---- a map that is not refused
 

@@ -1,6 +1,6 @@
 -- What a boot is given and what it promises: the map, of which a caller hands over the first eight entries and their number; the rows of the entries that are
 -- kept; the refusals; the layout; and `BootsAll`, that what it leaves and answers is definition's `boot_call` of the map.
-use Rattle.std.specs.Prelude.{ℕ, ◌-◌, ◌*◌, ◌≤◌, true, false, cond, List, [], ◌∷◌, ◌++◌, Result, Ok, Err, ⊤, ◌≡◌, ltb, length, take, drop, replicate}
+use Rattle.std.specs.Prelude.{ℕ, ◌-◌, ◌*◌, ◌≤◌, true, false, cond, List, [], ◌∷◌, ◌++◌, Option, Some, None, Result, Ok, Err, ⊤, ◌≡◌, ltb, length, take, drop, replicate}
 use Rattle.std.proofs.Math.Option.{none}
 use Rattle.definition.specs.declared.MemoryRegion.{MemoryRegion}
 use Rattle.definition.specs.declared.Record.{Record}
@@ -40,8 +40,9 @@ module _ (board : Board) where
   abbrev pub kept_row : MemoryRegion → Row
   kept_row m = empty_row (record { 0 = start_page board m * board.page }) (nr_pages board m)
 
-  abbrev pub row_of : MemoryRegion → Row
-  row_of m = cond (is_kept board m) (kept_row m) no_row
+  -- none of an entry that is not kept
+  abbrev pub row_of : MemoryRegion → Option Row
+  row_of m = cond (is_kept board m) (Some (kept_row m)) None
 
   unfoldable pub kept_rows : List MemoryRegion → List Row
   kept_rows [] = []
@@ -70,6 +71,7 @@ module _ (board : Board) where
     pub few : count ≤ 8
     pub near : any ends_far (take count map) ≡ false
     pub keeps : Keeps board (take count map) k
+    pub room : k.used ≤ 8
 
   -- the sheet's refusal, whatever stands past the eighth entry, or the rows that are kept
   pub record Admits (map : List MemoryRegion) (count records memory : ℕ) (x : Result Kept Refusal) : Type 0 where

@@ -2,18 +2,18 @@
 // as it was. Numbers of a map are any of 64 bits, so an entry is rounded to pages only once no usable one ends past 2^40.
 #![tactic(auto)]
 
-ghost use Rattle.std.specs.Prelude.{false, ◌≡◌, ◌≤◌, length, take, Ok};
+ghost use Rattle.std.specs.Prelude.{true, false, ◌≡◌, ◌≤◌, length};
 ghost use Rattle.definition.specs.Board.{Fit};
 ghost use Rattle.definition.specs.Allocator.{is_usable};
-ghost use Rattle.definition.specs.Basics.{any};
+ghost use Rattle.definition.specs.Basics.{all, any};
 ghost use Rattle.definition.specs.Boot.{counters_at_boot, ends_far};
+ghost use Rattle.definition.specs.Torn.{row_as_boot};
 ghost use Rattle.definition.specs.World.{record_at};
 ghost use Rattle.record.specs.Records.{pages_in};
 ghost use Rattle.words.specs.Words.{Long};
 ghost use Rattle.exam.specs.Promise.{state_with, world_of};
 ghost use Rattle.boot.specs.Booting.{
   Keeps,
-  RowsKept,
   Admits,
   Ready,
   Lays,
@@ -32,70 +32,42 @@ use exam::{Answer, Reply};
 fn is_usable(kind: MemoryRegionKind) -> bool
     ensures { result ≡ is_usable kind }
 {
-    match kind {
-        MemoryRegionKind::UsableRam => true,
-        MemoryRegionKind::Reserved => false,
-        MemoryRegionKind::BootloaderReserved => false,
-    }
+    matches!(kind, MemoryRegionKind::UsableRam)
 }
 
-// A usable entry ends past 2^40. Neither its start nor its length need be small, so that they are not added.
+// A usable entry ends past 2^40. Neither its start nor its length need be small, so that their sum stops at the largest number.
 fn ends_far(entry: MemoryRegion) -> bool
     ensures { result ≡ ends_far entry }
 {
-    let kind = entry.kind;
-    if !is_usable(kind) {
-        return false;
-    }
     let start = entry.start;
-    let begin = start.raw();
-    if 1099511627776 < begin {
-        return true;
-    }
-    1099511627776 - begin < (entry.length as u64)
+    is_usable(entry.kind) && 1099511627776 < start.raw().saturating_add(entry.length as u64)
 }
 
-fn any_far(map: [MemoryRegion; 8], count: usize) -> bool
-    requires { count ≤ 8 }
-    ensures { result ≡ any ends_far (take count map) }
+fn any_far(map: &[MemoryRegion]) -> bool
+    ensures { result ≡ any ends_far map.now }
 {
-    let mut i: usize = 0;
-    while i < count {
-        if ends_far(map[i]) {
-            return true;
-        }
-        i += 1;
-    }
-    false
+    map.iter().any(|entry| ends_far(*entry))
 }
 
-// AllocationRegion::new, frame.rs 277, up to its frames: the row of an entry that is kept, else an unused one. One page or less is not
-// kept (281), and neither are pages of which their own tables leave none (286): with large records that is so of any number of pages.
-fn keep(board: Board, entry: MemoryRegion) -> Row
+// AllocationRegion::new, frame.rs 277, up to its frames: the row of an entry that is kept. One page or less is not kept (281), and neither
+// are pages of which their own tables leave none (286): with large records that is so of any number of pages.
+fn keep(board: Board, entry: MemoryRegion) -> Option<Row>
     requires fit { Fit board }
     requires value { ends_far entry ≡ false }
     ensures { result ≡ row_of board entry }
 {
-    let kind = entry.kind;
-    if !is_usable(kind) {
-        return region::empty_row(PhysAddr::new(0), 0);
+    if !is_usable(entry.kind) {
+        return None;
     }
     let page = board.page as u64;
     let begin = entry.start;
     let start = begin.align_up(page);
     let gap = start.raw() - begin.raw();
-    let length = entry.length as u64;
-    if length < gap {
-        return region::empty_row(PhysAddr::new(0), 0);
+    let pages = ((entry.length as u64).saturating_sub(gap) / page) as usize;
+    if pages <= 1 || pages <= region::table_pages(board, pages) {
+        return None;
     }
-    let pages = ((length - gap) / page) as usize;
-    if pages <= 1 {
-        return region::empty_row(PhysAddr::new(0), 0);
-    }
-    if pages <= region::table_pages(board, pages) {
-        return region::empty_row(PhysAddr::new(0), 0);
-    }
-    region::empty_row(start, pages)
+    Some(region::empty_row(start, pages))
 }
 
 // The rows of the entries that a map keeps, and how many they are.
@@ -105,23 +77,20 @@ pub struct Kept {
     pub used: usize,
 }
 
-// An entry that is not kept writes an unused row, which the next one that is kept overwrites.
-fn kept_rows(board: Board, map: [MemoryRegion; 8], count: usize) -> Kept
+fn kept_rows(board: Board, map: &[MemoryRegion]) -> Kept
     requires fit { Fit board }
-    requires count_bound { (count ≤ 8) × (any ends_far (take count map) ≡ false) }
-    ensures { Keeps board (take count map) result }
+    requires few { length map.now ≤ 8 }
+    requires near { any ends_far map.now ≡ false }
+    ensures keeps { Keeps board map.now result }
+    ensures room { result.used ≤ 8 }
 {
-    let none = region::empty_row(PhysAddr::new(0), 0);
-    let mut rows = [none; 8];
+    let mut rows = [region::empty_row(PhysAddr::new(0), 0); 8];
     let mut used: usize = 0;
-    let mut i: usize = 0;
-    while i < count {
-        let row = keep(board, map[i]);
-        rows[used] = row;
-        if row.pages != 0 {
+    for entry in map {
+        if let Some(row) = keep(board, *entry) {
+            rows[used] = row;
             used += 1;
         }
-        i += 1;
     }
     Kept { rows, used }
 }
@@ -129,19 +98,19 @@ fn kept_rows(board: Board, map: [MemoryRegion; 8], count: usize) -> Kept
 // ---- the refusals
 
 // 3, 4 and 5, of the rows that are kept.
-#[tactic(auto, unfolding(crate::specs::Booting::rows_admitted))]
-fn admit_rows(board: Board, rows: [Row; 8], used: usize, records: usize, memory: usize) -> Result<(), Refusal>
+fn admit_rows(board: Board, rows: &[Row], records: usize, memory: usize) -> Result<(), Refusal>
     requires fit { Fit board }
-    requires rows_kept { RowsKept board rows used }
-    ensures { result ≡ rows_admitted board rows records memory }
+    requires booted { all (row_as_boot board) rows.now ≡ true }
+    requires few { length rows.now ≤ 8 }
+    ensures { result ≡ rows_admitted board rows.now records memory }
 {
-    if audit::overlaps(board, rows, used) {
+    if audit::overlaps(board, rows) {
         return Err(Refusal::Overlap);
     }
-    if 1048576 < audit::total_pages(board, rows, used) {
+    if 1048576 < audit::total_pages(board, rows) {
         return Err(Refusal::TooManyPages);
     }
-    if !audit::loans_long(board, rows, used, records, memory) {
+    if !audit::loans_long(board, rows, records, memory) {
         return Err(Refusal::ShortLoan);
     }
     Ok(())
@@ -161,11 +130,12 @@ pub fn admit_map(
     if 8 < count {
         return Err(Refusal::LongMap);
     }
-    if any_far(map, count) {
+    let entries = &map[..count];
+    if any_far(entries) {
         return Err(Refusal::FarAddress);
     }
-    let kept = kept_rows(board, map, count);
-    admit_rows(board, kept.rows, kept.used, records, memory)?;
+    let kept = kept_rows(board, entries);
+    admit_rows(board, &kept.rows[..kept.used], records, memory)?;
     Ok(kept)
 }
 
@@ -180,13 +150,11 @@ fn lay_out(board: Board, records: &mut [u8], rows: [Row; 8], used: usize) -> [Ro
 {
     let mut next = rows;
     let mut base: usize = 0;
-    let mut i: usize = 0;
-    while i < used {
+    for i in 0..used {
         let row = rows[i];
         let laid = region::new(board, records, base, row.start, row.pages);
         next[i] = laid;
         base += row.pages - region::table_pages(board, row.pages);
-        i += 1;
     }
     next
 }
@@ -228,16 +196,15 @@ pub fn boot(
     ensures boots_over { BootsOver words.old words.new result }
 {
     let kept = admit_map(board, map, count, records.len(), memory.len())?;
-    let rows = kept.rows;
-    let used = kept.used;
-    let pages = audit::total_pages(board, rows, used);
-    let managed = audit::managed_pages(board, rows, used);
-    let laid = lay_out(board, records, rows, used);
+    let rows = &kept.rows[..kept.used];
+    let pages = audit::total_pages(board, rows);
+    let managed = audit::managed_pages(board, rows);
+    let laid = lay_out(board, records, kept.rows, kept.used);
     let pass = Pass {
         rounds: 0,
         freed: 0,
     };
-    words::put_kept(words, used as u32, laid, 0, pass);
+    words::put_kept(words, kept.used as u32, laid, 0, pass);
     *counters = started(pages);
     Ok(Reply {
         address: 0,

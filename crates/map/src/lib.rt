@@ -48,19 +48,17 @@ pub fn entered(g: Gathered, i: usize, entry: MemoryRegion) -> Gathered
 pub fn at_most_eight(n: usize) -> usize
     ensures { (result ≤ n) × (result ≤ 8) × (result < 8 → result ≡ n) }
 {
-    if n < 8 { n } else { 8 }
+    n.min(8)
 }
 
 // Each of the first eight entries is handed over by value; past them nothing is read.
 fn gather(map: &[MemoryRegion]) -> Gathered
     ensures { result ≡ gathered map.now }
 {
-    let n = at_most_eight(map.len());
+    let first = &map[..at_most_eight(map.len())];
     let mut g = nothing(map.len());
-    let mut i = 0;
-    while i < n {
-        g = entered(g, i, map[i]);
-        i += 1;
+    for (i, entry) in first.iter().enumerate() {
+        g = entered(g, i, *entry);
     }
     g
 }
@@ -80,8 +78,9 @@ fn boot_gathered(
         (world_of (state_with counters.new words.new) records.new memory.now queue.now) result
         × BootsOver words.old words.new result }
 {
-    let map = g.map;
-    boot::boot(board, counters, words, map, g.count, records, memory, queue)
+    boot::boot(
+        board, counters, words, g.map, g.count, records, memory, queue,
+    )
 }
 
 // init, frame.rs 707, over a lent list of region entries of any length. The memory's bytes stay. Nothing of the words is read.

@@ -1,35 +1,29 @@
--- `audit` meets its contract. Its tests together are the sheet, as `Sheets` says, and what each has passed is what the next requires.
-use Prim.Native.Nat.{◌*◌, ◌/◌, ◌≤◌}
-use mathlib.Core.Bool.{true, not}
-use mathlib.Core.Path.{ap, ◌≡◌, sym, ◌∙◌}
-use native.Mathlib.Nat.{mul-le-mul}
-use native.Mathlib.Omega.{arith}
-use borrow.Author.Tests.{not-true, not-false}
-use lib.ListN.{length, drop}
+-- `audit` meets its contract. Its tests together are the sheet, as `Sheets` says.
+use Prim.Native.Nat.{◌*◌}
+use mathlib.Core.Bool.{Bool, not, ◌&&◌}
+use mathlib.Core.Path.{◌≡◌, sym, ap, ◌∙◌}
+use borrow.Author.Tests.{le-leb, lt-leb}
+use lib.Dec.{leb}
 use Rattle.definition.specs.Board.{Board}
-use Rattle.definition.proofs.Boards.{page_most}
-use Rattle.definition.specs.Basics.{all}
-use Rattle.definition.specs.Allocator.{total}
-use Rattle.definition.specs.Boot.{managed_pages, overlap}
-use Rattle.definition.specs.World.{record_at, used_rows}
-use Rattle.definition.specs.Torn.{is_no_row, regions_of}
-use Rattle.definition.proofs.Tests.{and_left, and_right}
+use Rattle.definition.specs.Boot.{overlap}
+use Rattle.definition.specs.Torn.{regions_of}
 use Rattle.words.specs.Words.{board_in, rows_in, queued_in, pass_in}
-use Rattle.audit.specs.Sheet.{survey_test, Found, counts_as}
+use Rattle.audit.specs.Sheet.{counts_as}
 use Rattle.audit.proofs.Arrays.{words_shaped}
-use Rattle.audit.proofs.Sheets.{
-  stops,
-  goes,
-  Given,
-  torn_survey,
-  torn_total,
-  torn_apart,
-  torn_memory,
-  torn_counts,
-  rest_decides,
-}
+use Rattle.audit.proofs.Onward.{and_then, and_else}
+use Rattle.audit.proofs.Sheets.{Given, torn_survey, others_decide}
 use Rattle.audit.proofs.audit.Goals as goal
-use Rattle.audit.proofs.audit.Goals.{Else-memory_len-board, Else-not-seen, Start}
+use Rattle.audit.proofs.audit.Goals.{
+  Start,
+  In-Some,
+  Joined-board-seen,
+  then-seen-le1048576,
+  else-seen-le1048576,
+  then-apart,
+  else-apart,
+  then-board-seen,
+  else-board-seen,
+}
 
 abbrev given : Start → Given
 given s =
@@ -46,76 +40,56 @@ given s =
 abbrev board : Start → Board
 board s = board_in s.args.words.now
 
-pub returns-then-not-seen : goal.returns-then-not-seen
-returns-then-not-seen c =
-    torn_survey (board (goal.at.returns-then-not-seen c).Start) (given (goal.at.returns-then-not-seen c).Start) (words_shaped (board (goal.at.returns-then-not-seen c).Start) c.args.words.now) (sym c.survey-seen.ensures.exact ∙ not-true _ c.if-not-seen.true)
+pub returns-in_default : goal.returns-in_default
+returns-in_default c =
+    let s = (goal.at.returns-in_default c).Start in
+    torn_survey (board s) (given s) (words_shaped (board s) c.args.words.now) (sym c.in_default.ensures.exact)
 
--- the survey has passed, and found what there is
-surveyed : (c : Else-not-seen) → let a = c.args in
-    survey_test (board_in a.words.now) (record_at a.records.now) (length a.records.now / 16) (rows_in a.words.now) ≡ true
-surveyed c = sym c.survey-seen.ensures.exact ∙ not-false _ c.if-not-seen.false
+few : (c : Joined-board-seen) → let rows = rows_in c.args.words.now in
+    c.if-seen-le1048576.value ≡ (leb c.in-Some.seen.total 1048576 && not (overlap (board_in c.args.words.now) (regions_of (board_in c.args.words.now) rows)))
+few c =
+    elim c.if-seen-le1048576.branch [
+      | then-seen-le1048576 w ↦ and_then (le-leb c.in-Some.seen.total 1048576 w.if-seen-le1048576.true) (w.value-is ∙ w.apart.ensures)
+      | else-seen-le1048576 w ↦ and_else _ (lt-leb c.in-Some.seen.total 1048576 w.if-seen-le1048576.false) w.value-is
+    ]
 
-found : (c : Else-not-seen) → let a = c.args in
-    Found (board_in a.words.now) (record_at a.records.now) (rows_in a.words.now) c.survey-seen.result
-found c = c.survey-seen.ensures.found (not-false _ c.if-not-seen.false)
+memory : (c : Joined-board-seen) → c.if-apart.value ≡ (c.if-seen-le1048576.value && leb ((board_in c.args.words.now).page * c.in-Some.seen.managed) c.args.memory_len)
+memory c =
+    elim c.if-apart.branch [
+      | then-apart w ↦ and_then w.if-apart.true (w.value-is ∙ ap (λ (b : Board). leb (b.page * c.in-Some.seen.managed) c.args.memory_len) c.board_in-board.ensures.0)
+      | else-apart w ↦ and_else _ w.if-apart.false w.value-is
+    ]
 
-pub returns-then-seen-gt1048576 : goal.returns-then-seen-gt1048576
-returns-then-seen-gt1048576 c =
-    torn_total (board (goal.at.returns-then-seen-gt1048576 c).Start) (given (goal.at.returns-then-seen-gt1048576 c).Start) (words_shaped (board (goal.at.returns-then-seen-gt1048576 c).Start) c.args.words.now) (omega (arith, c.if-seen-gt1048576.true, (found (goal.at.returns-then-seen-gt1048576 c).Else-not-seen).total))
+counts : (c : Joined-board-seen) → c.if-board-seen.value ≡ (c.if-apart.value && counts_as c.args.counters c.in-Some.seen)
+counts c =
+    elim c.if-board-seen.branch [
+      | then-board-seen w ↦ and_then w.if-board-seen.true (w.value-is ∙ w.counted.ensures)
+      | else-board-seen w ↦ and_else _ w.if-board-seen.false w.value-is
+    ]
 
-pub apart-requires : goal.apart-requires
-apart-requires c =
-    let rows = rows_in c.args.words.now in (
-      c.requires,
-      (found (goal.at.apart-requires c).Else-not-seen).used,
-      and_left _ _ (and_right (all is_no_row (drop (length (used_rows rows)) rows)) _ (surveyed (goal.at.apart-requires c).Else-not-seen)),
-    )
+-- the tests up to that of the counters
+tests : (c : Joined-board-seen) → let seen = c.in-Some.seen in
+    let b = board_in c.args.words.now in
+    c.if-board-seen.value
+    ≡ (((leb seen.total 1048576 && not (overlap b (regions_of b (rows_in c.args.words.now)))) && leb (b.page * seen.managed) c.args.memory_len)
+    && counts_as c.args.counters seen)
+tests c =
+    let seen = c.in-Some.seen in
+    let b = board_in c.args.words.now in
+    counts c ∙ ap (λ (t : Bool). t && counts_as c.args.counters seen) (memory c ∙ ap (λ (t : Bool). t && leb (b.page * seen.managed) c.args.memory_len) (few c))
 
-pub returns-then-not-apart : goal.returns-then-not-apart
-returns-then-not-apart c =
-    torn_apart (board (goal.at.returns-then-not-apart c).Start) (given (goal.at.returns-then-not-apart c).Start) (words_shaped (board (goal.at.returns-then-not-apart c).Start) c.args.words.now) (stops c.apart.ensures (ap not c.if-not-apart.true))
+pub returns-then-counted : goal.returns-then-counted
+returns-then-counted c =
+    let s = (goal.at.returns-then-counted c).Start in
+    let e = tests (goal.at.returns-then-counted c).Joined-board-seen in
+    let surveyed = c.in-Some.ensures in
+    others_decide (board s) (given s) (words_shaped (board s) c.args.words.now) (sym surveyed.exact) c.in-Some.seen surveyed.found c.within.result
+    (and_then (sym e ∙ c.if-counted.true) (rw (c.board_in-board.ensures.0, c.queued_in.ensures, c.pass_in.ensures) at c.within.ensures))
 
-pub overflow_mul-board : goal.overflow_mul-board
-overflow_mul-board c =
-    let few : c.survey-seen.result.managed ≤ 1048576 = omega (arith, (found (goal.at.overflow_mul-board c).Else-not-seen).few.manages, c.if-seen-gt1048576.false) in
-    omega (arith, mul-le-mul (page_most c.board_in-board.ensures.1) few)
-
-pub returns-then-memory_len-board : goal.returns-then-memory_len-board
-returns-then-memory_len-board c =
-    torn_memory (board (goal.at.returns-then-memory_len-board c).Start) (given (goal.at.returns-then-memory_len-board c).Start) (words_shaped (board (goal.at.returns-then-memory_len-board c).Start) c.args.words.now)
-    (rw (c.board_in-board.ensures.0, (found (goal.at.returns-then-memory_len-board c).Else-not-seen).manages) at c.if-memory_len-board.true)
-
-pub counted-requires : goal.counted-requires
-counted-requires c =
-    let h = (found (goal.at.counted-requires c).Else-not-seen).few in
-    omega (arith, h.manages, h.holds)
-
--- few pages, none shared, and memory for those managed
-passed : (c : Else-memory_len-board) →
-    let rs = regions_of (board (goal.at.Else-memory_len-board c).Start) (rows_in c.args.words.now) in
-    (total rs ≤ 1048576) × (not (overlap (board (goal.at.Else-memory_len-board c).Start) rs) ≡ true) × ((board (goal.at.Else-memory_len-board c).Start).page * managed_pages (board (goal.at.Else-memory_len-board c).Start) rs ≤ c.args.memory_len)
-passed c =
-    let h = found (goal.at.Else-memory_len-board c).Else-not-seen in (
-      omega (arith, h.total, c.if-seen-gt1048576.false),
-      goes c.apart.ensures (ap not c.if-not-apart.false),
-      rw (c.board_in-board.ensures.0, h.manages) at c.if-memory_len-board.false,
-    )
-
-pub returns-then-not-counted : goal.returns-then-not-counted
-returns-then-not-counted c =
-    let p = passed (goal.at.returns-then-not-counted c).Else-memory_len-board in
-    let seen = c.survey-seen.result in
-    let t = stops {t = counts_as c.args.counters seen} c.counted.ensures (ap not c.if-not-counted.true) in
-    torn_counts (board (goal.at.returns-then-not-counted c).Start) (given (goal.at.returns-then-not-counted c).Start) (words_shaped (board (goal.at.returns-then-not-counted c).Start) c.args.words.now) (surveyed (goal.at.returns-then-not-counted c).Else-not-seen) p.0 p.1 p.2 seen (found (goal.at.returns-then-not-counted c).Else-not-seen) t
-
-pub within-requires : goal.within-requires
-within-requires c =
-    c.board_in-board.ensures.1
-
-pub returns : goal.returns
-returns c =
-    let p = passed (goal.at.returns c).Else-memory_len-board in
-    let seen = c.survey-seen.result in
-    let t = goes {t = counts_as c.args.counters seen} c.counted.ensures (ap not c.if-not-counted.false) in
-    rest_decides (board (goal.at.returns c).Start) (given (goal.at.returns c).Start) (words_shaped (board (goal.at.returns c).Start) c.args.words.now) (surveyed (goal.at.returns c).Else-not-seen) p.0 p.1 p.2 seen (found (goal.at.returns c).Else-not-seen) t c.within.result
-    (rw (c.board_in-board.ensures.0, c.queued_in.ensures, c.pass_in.ensures) at c.within.ensures)
+pub returns-else-counted : goal.returns-else-counted
+returns-else-counted c =
+    let s = (goal.at.returns-else-counted c).Start in
+    let e = tests (goal.at.returns-else-counted c).Joined-board-seen in
+    let surveyed = c.in-Some.ensures in
+    others_decide (board s) (given s) (words_shaped (board s) c.args.words.now) (sym surveyed.exact) c.in-Some.seen surveyed.found c.if-board-seen.value
+    (and_else _ (sym e ∙ c.if-counted.false) e)

@@ -1,57 +1,47 @@
--- `managed_pages` meets its contract. The loop's invariant: the pages passed, with those of the rows left, are all, which are at most 2^20.
-use Prim.Native.Nat.{◌+◌}
-use mathlib.Core.Path.{◌≡◌}
+-- `managed_pages` meets its contract. The tables of a row are fewer than its pages, and all pages together are few.
+use Prim.Native.Nat.{◌<◌}
+use mathlib.Core.Path.{sym, ◌∙◌, subst}
 use native.Mathlib.Omega.{arith}
 use borrow.Author.Rules.{rules}
-use Rattle.definition.specs.Boot.{managed_pages}
-use Rattle.definition.specs.Torn.{regions_of}
-use Rattle.audit.specs.Sheet.{row_at}
-use Rattle.audit.proofs.Booted.{few_pages}
-use Rattle.audit.proofs.Counting.{left_of, left_more, left_none, managed_row, managed_all}
-use Rattle.audit.proofs.Regions.{managed_most, Turn, turn}
+use Rattle.std.specs.List.{sum_by}
+use Rattle.std.proofs.lemmas.Iterator.{YieldsList-from_slice, YieldsList-from_map}
+use Rattle.std.proofs.lemmas.Iterator.Adapters.{serves_from_places}
+use Rattle.std.proofs.lemmas.Iterator.Consumers.{sum_by_from_yields_List, fits_by_from_yields_list}
+use Rattle.definition.specs.declared.Row.{Row}
+use Rattle.definition.specs.Allocator.{managed}
+use Rattle.definition.specs.World.{bare_region}
+use Rattle.audit.proofs.Booted.{Booted, booted_in, few_pages}
+use Rattle.audit.proofs.Bare.{sum_regions}
+use Rattle.audit.proofs.Regions.{managed_total}
+use Rattle.definition.specs.Torn.{bare_regions}
 use Rattle.audit.proofs.managed_pages.Goals as goal
-use Rattle.audit.proofs.managed_pages.Goals.{In-loop-i}
 
-pub loop-i-init : goal.loop-i-init
-loop-i-init c = (search rules, omega (arith, managed_all c.args.board c.args.rows))
+pub sum-requires-clause-can : goal.sum-requires-clause-can
+sum-requires-clause-can c =
+    let a = c.args in
+    let fit = c.requires.fit in (
+      tt,
+      serves_from_places (YieldsList-from_slice a.rows.now (cc)) (λ x q r. search rules)
+          (λ x k h e.
+          let b : Booted a.board x.now = subst (Booted a.board) (sym e) (booted_in a.board a.rows.now k x.now c.requires.booted h) in
+          let few = few_pages fit b in
+          let t = b.tables in
+          search rules),
+    )
 
--- the row of a turn
-row : (c : In-loop-i) →
-    Turn c.args.board c.args.rows c.requires.used_value.1 c.loop-i.i
-row c =
-    turn c.args.board c.args.rows c.requires.used_value.1 c.args.used c.loop-i.i _ c.well_formed.1.0 c.requires.used_value.0 c.loop-i-test.true
-
--- the pages passed, its own and those of the rows behind it are all
-sums : (c : In-loop-i) → let a = c.args in
-    let k = c.loop-i in
-    k.pages + managed_row a.board (row_at a.rows k.i) + left_of (managed_row a.board) a.rows (k.i + 1) ≡ managed_pages a.board (regions_of a.board a.rows)
-sums c = let a = c.args in omega (arith, left_more (managed_row a.board) a.rows c.loop-i.i (row c).here)
-
-pub offset_bounds-rows-i : goal.offset_bounds-rows-i
-offset_bounds-rows-i c = let t = row c in omega arith
-
-pub bounds-rows-i : goal.bounds-rows-i
-bounds-rows-i c = let t = row c in omega arith
-
-pub table_pages-requires : goal.table_pages-requires
-table_pages-requires c =
-    let t = row (goal.at.table_pages-requires c).In-loop-i in record {
-      fit = c.requires.fit;
-      pages_bound = omega (arith, few_pages c.requires.fit t.booted);
-    }
-
-pub overflow_sub-pages : goal.overflow_sub-pages
-overflow_sub-pages c = let t = row (goal.at.overflow_sub-pages c).In-loop-i in omega (arith, c.table_pages.ensures)
-
-pub overflow_add-pages : goal.overflow_add-pages
-overflow_add-pages c =
-    omega (arith, c.table_pages.ensures, sums (goal.at.overflow_add-pages c).In-loop-i, managed_most c.args.board c.args.rows c.requires.used_value.1)
-
-pub loop-i-preserved : goal.loop-i-preserved
-loop-i-preserved c = (search rules, omega (arith, c.table_pages.ensures, sums (goal.at.loop-i-preserved c).In-loop-i))
+pub sum-requires-clause-fits : goal.sum-requires-clause-fits
+sum-requires-clause-fits c =
+    let a = c.args in
+    let few : sum_by (λ (row : Row). managed a.board (bare_region a.board row)) a.rows.now < 18446744073709551616 =
+    omega (arith, sum_regions a.board (managed a.board) a.rows.now, managed_total a.board (bare_regions a.board a.rows.now), c.requires.few) in
+    fits_by_from_yields_list _ _ c.map.result _
+    (YieldsList-from_map _ (λ (row : Row). managed a.board (bare_region a.board row)) (YieldsList-from_slice a.rows.now (cc)) c.map.ensures.closure (λ x r q k. search rules))
+    few
 
 pub returns : goal.returns
 returns c =
-    let m = managed_most c.args.board c.args.rows c.requires.used_value.1 in
-    let n = left_none (managed_row c.args.board) c.args.rows c.loop-i.i (omega arith) in
-    (omega arith, omega arith)
+    let a = c.args in
+    let e = sum_by_from_yields_List _ _ c.map.result c.sum.result c.sum.ensures.ran
+    (YieldsList-from_map _ (λ (row : Row). managed a.board (bare_region a.board row)) (YieldsList-from_slice a.rows.now (cc)) c.map.ensures.closure (λ x r q k. search rules))
+    ∙ sum_regions a.board (managed a.board) a.rows.now in
+    (e, omega (arith, e, managed_total a.board (bare_regions a.board a.rows.now), c.requires.few))

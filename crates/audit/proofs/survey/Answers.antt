@@ -2,59 +2,57 @@
 use Prim.Native.Nat.{◌/◌}
 use mathlib.Core.Path.{◌≡◌, sym, ◌∙◌}
 use native.Mathlib.Omega.{arith}
-use borrow.Author.Tests.{not-false, not-true}
 use lib.ListN.{length}
-use Rattle.definition.specs.World.{record_at}
+use Rattle.definition.specs.World.{record_at, used_rows}
 use Rattle.words.specs.Words.{board_in, rows_in}
 use Rattle.words.proofs.Words.{fit_in}
 use Rattle.words.proofs.Places.{in_use}
 use Rattle.audit.specs.Sheet.{row_at}
 use Rattle.audit.proofs.Arrays.{words_eight}
-use Rattle.audit.proofs.Surveying.{survey_none, torn_row, past_row, survey_ended, survey_all}
+use Rattle.audit.proofs.Surveying.{survey_none, torn_row, past_row, ends_before, ends_last, surveys}
 use Rattle.audit.proofs.survey.Goals as goal
-use Rattle.audit.proofs.survey.Goals.{Else-pages_at-eq0}
+use Rattle.audit.proofs.survey.Goals.{Then-pages_at-ne0, then-loop-seen-test+else-pages_at-ne0, else-loop-seen-test}
 
 pub loop-seen-init : goal.loop-seen-init
 loop-seen-init c =
     let a = c.args in
     survey_none (board_in a.words.now) (record_at a.records.now) (length a.records.now / 16) (rows_in a.words.now) (words_eight a.words.now)
 
-pub returns-then-pages_at-eq0 : goal.returns-then-pages_at-eq0
-returns-then-pages_at-eq0 c =
-    let a = c.args in
-    survey_ended (board_in a.words.now) (record_at a.records.now) (length a.records.now / 16) (rows_in a.words.now) c.loop-seen.seen c.loop-seen.invariant (omega arith)
-    (sym c.pages_at.ensures ∙ c.if-pages_at-eq0.true) c.is_no_rows.result c.is_no_rows.ensures
-
 -- the row has pages
-has_pages : (c : Else-pages_at-eq0) →
-    (row_at (rows_in c.args.words.now) c.loop-seen.seen.used).pages ≡ 0 → ⊥
-has_pages c = rw c.pages_at.ensures at c.if-pages_at-eq0.false
+has_pages : (c : Then-pages_at-ne0) → (row_at (rows_in c.args.words.now) c.loop-seen.seen.used).pages ≡ 0 → ⊥
+has_pages c = rw c.pages_at.ensures at c.if-pages_at-ne0.true
 
-pub visit-seen-requires : goal.visit-seen-requires
-visit-seen-requires c =
-    let a = c.args in
-    (c.loop-seen.invariant.few, omega arith, omega arith, in_use a.words.now c.loop-seen.seen.used (omega arith) (has_pages c))
+pub visit-requires : goal.visit-requires
+visit-requires c =
+    (c.loop-seen.invariant.few, c.requires, c.loop-seen-test.true, in_use c.args.words.now c.loop-seen.seen.used c.loop-seen-test.true (has_pages c))
 
-pub returns-then-not-seen : goal.returns-then-not-seen
-returns-then-not-seen c =
+pub returns-in_err-seen : goal.returns-in_err-seen
+returns-in_err-seen c =
     let a = c.args in
-    torn_row (board_in a.words.now) (record_at a.records.now) (length a.records.now / 16) (rows_in a.words.now) c.loop-seen.seen c.loop-seen.invariant (omega arith)
-    (has_pages (goal.at.returns-then-not-seen c).Else-pages_at-eq0) c.visit-seen.result c.visit-seen.ensures
-    (not-true _ c.if-not-seen.true) c.torn_rows.result c.torn_rows.ensures
+    rw c.from_residual.ensures
+    (torn_row (board_in a.words.now) (record_at a.records.now) (length a.records.now / 16) (rows_in a.words.now) c.loop-seen.seen c.loop-seen.invariant
+    c.loop-seen-test.true (has_pages (goal.at.returns-in_err-seen c).Then-pages_at-ne0) c.in_err-seen.ensures)
 
 pub loop-seen-smaller : goal.loop-seen-smaller
-loop-seen-smaller c =
-    let v = c.visit-seen in
-    omega (arith, (v.ensures.added (not-false _ c.if-not-seen.false)).used)
+loop-seen-smaller c = omega (arith, c.in_ok-seen.ensures.added.used)
 
 pub loop-seen-preserved : goal.loop-seen-preserved
 loop-seen-preserved c =
     let a = c.args in
-    past_row (board_in a.words.now) (record_at a.records.now) (length a.records.now / 16) (rows_in a.words.now) c.loop-seen.seen c.loop-seen.invariant (omega arith)
-    (has_pages (goal.at.loop-seen-preserved c).Else-pages_at-eq0) c.visit-seen.result c.visit-seen.ensures
-    (fit_in a.words.now) (not-false _ c.if-not-seen.false)
+    past_row (board_in a.words.now) (record_at a.records.now) (length a.records.now / 16) (rows_in a.words.now) c.loop-seen.seen c.loop-seen.invariant
+    c.loop-seen-test.true (has_pages (goal.at.loop-seen-preserved c).Then-pages_at-ne0) (fit_in a.words.now) c.in_ok-seen.seen c.in_ok-seen.ensures
 
 pub returns : goal.returns
 returns c =
     let a = c.args in
-    survey_all (board_in a.words.now) (record_at a.records.now) (length a.records.now / 16) (rows_in a.words.now) c.loop-seen.seen c.loop-seen.invariant (omega arith)
+    let b = board_in a.words.now in
+    let f = record_at a.records.now in
+    let n = length a.records.now / 16 in
+    let rows = rows_in a.words.now in
+    let s = c.loop-seen.seen in
+    let v = c.loop-seen.invariant in
+    let ends : length (used_rows rows) ≡ s.used = elim c.loop-seen-test.branch [
+      | then-loop-seen-test+else-pages_at-ne0 w ↦ ends_before b f n rows s v w.loop-seen-test.true (sym w.pages_at.ensures ∙ w.if-pages_at-ne0.false)
+      | else-loop-seen-test w ↦ ends_last b f n rows s v w.loop-seen-test.false
+    ] in
+    rw c.then_some.ensures (surveys b f n rows s v ends c.is_no_rows.result c.is_no_rows.ensures)

@@ -1,37 +1,28 @@
--- `total_pages` meets its contract. The loop's invariant: the pages counted and those of the rows that are left are all, and each row passed has
--- at most 2^28, since it ends by 2^40.
-use mathlib.Core.Path.{ap}
+-- `total_pages` meets its contract. Each of the few rows has at most 2^28 pages, since it ends by 2^40.
+use Prim.Native.Nat.{◌<◌}
+use mathlib.Core.Path.{◌∙◌}
 use native.Mathlib.Omega.{arith}
-use Rattle.definition.specs.Basics.{sum}
-use Rattle.definition.specs.Allocator.{total}
-use Rattle.definition.specs.World.{used_rows}
-use Rattle.definition.specs.Torn.{bare_regions}
-use Rattle.audit.proofs.Onward.{drop_past}
-use Rattle.audit.proofs.Used.{used_eight, used_at}
-use Rattle.audit.proofs.Booted.{booted_at, few_pages}
-use Rattle.audit.proofs.Bare.{total_on}
+use borrow.Author.Rules.{rules}
+use Rattle.std.specs.List.{sum_by}
+use Rattle.std.proofs.lemmas.Iterator.{YieldsList-from_slice, YieldsList-from_map}
+use Rattle.std.proofs.lemmas.Iterator.Consumers.{sum_by_from_yields_List, fits_by_from_yields_list}
+use Rattle.definition.specs.declared.Row.{Row}
+use Rattle.definition.specs.Allocator.{AllocationRegion}
+use Rattle.audit.proofs.Booted.{few_total}
+use Rattle.audit.proofs.Bare.{sum_regions}
 use Rattle.audit.proofs.total_pages.Goals as goal
 
-pub loop-i-init : goal.loop-i-init
-loop-i-init c = let h = used_eight c.args.rows _ c.well_formed.1.0 in (omega arith, omega arith, omega arith, λ board. omega arith)
-
-pub overflow_add-pages : goal.overflow_add-pages
-overflow_add-pages c =
-    let l = c.loop-i in
-    let b = few_pages c.requires.fit (booted_at c.args.board c.args.rows l.i c.requires.used_value.1 (omega arith)) in
-    omega arith
-
-pub loop-i-preserved : goal.loop-i-preserved
-loop-i-preserved c =
-    let l = c.loop-i in
-    let b = few_pages c.requires.fit (booted_at c.args.board c.args.rows l.i c.requires.used_value.1 (omega arith)) in
-    (l.invariant.0, omega arith, omega arith, λ board. omega (arith, l.invariant.3 board, total_on board (used_at c.args.rows l.i (omega arith))))
+pub sum-requires-clause-fits : goal.sum-requires-clause-fits
+sum-requires-clause-fits c =
+    let a = c.args in
+    let few : sum_by (λ (row : Row). row.pages) a.rows.now < 18446744073709551616 = omega (arith, sum_regions a.board (λ (r : AllocationRegion). r.pages) a.rows.now, few_total a.board c.requires.fit a.rows.now c.requires.booted, c.requires.few) in
+    fits_by_from_yields_list _ _ c.map.result _
+    (YieldsList-from_map _ (λ (row : Row). row.pages) (YieldsList-from_slice a.rows.now (cc)) c.map.ensures.closure (λ x r q k. search rules))
+    few
 
 pub returns : goal.returns
-unfolding sum bare_regions
 returns c =
     let a = c.args in
-    let rows = a.rows in
-    let l = c.loop-i in
-    let z = ap (λ rs. total (bare_regions a.board rs)) (drop_past (used_rows rows) l.i (omega arith)) in
-    omega (arith, z, l.invariant.3 a.board)
+    sum_by_from_yields_List _ _ c.map.result _ c.sum.ensures.ran
+    (YieldsList-from_map _ (λ (row : Row). row.pages) (YieldsList-from_slice a.rows.now (cc)) c.map.ensures.closure (λ x r q k. search rules))
+    ∙ sum_regions a.board (λ (r : AllocationRegion). r.pages) a.rows.now

@@ -12,7 +12,7 @@ use Rattle.definition.proofs.Boards.{page_least}
 use Rattle.definition.specs.World.{record_at}
 use Rattle.definition.specs.Torn.{row_as_boot}
 use Rattle.definition.proofs.Tests.{and-true}
-use Rattle.std.proofs.Common.{Option, Some, None}
+use Rattle.std.specs.Prelude.{Option, Some, None}
 use Rattle.scan.specs.declared.HeldPages.{HeldPages}
 use Rattle.scan.specs.Sheet.{placed_at, AuditedAt, WholeRow, Audited}
 use Rattle.scan.proofs.Rows.{audited_row}
@@ -24,7 +24,7 @@ use Rattle.audit.proofs.Booted.{Booted, booted, few_pages}
 use Rattle.audit.proofs.Counting.{managed_row}
 use Rattle.audit.proofs.Surveying.{visited_torn}
 use Rattle.audit.proofs.visit.Goals as goal
-use Rattle.audit.proofs.visit.Goals.{After-region_whole, After-row_at-row, After-table_pages-tables, Else-not-row_as_boot, Else-records-past, In-Some}
+use Rattle.audit.proofs.visit.Goals.{After-region_whole, After-row_at-row, After-table_pages-tables, Else-not-row_as_boot, Else-records-past, In_ok-held}
 
 -- the board that was read
 abbrev board : After-row_at-row → Board
@@ -36,7 +36,7 @@ fit c = c.board_in-board.ensures.1
 -- what is found of the row that was read, on the board that was, is found of the row behind those that were seen
 of_row : (c : After-row_at-row) → let a = c.args in
     let f = record_at a.records.now in
-    (r : Surveyed) → Visited (board c) f (length a.records.now / 16) c.row_at-row.result a.seen r
+    (r : Option Surveyed) → Visited (board c) f (length a.records.now / 16) c.row_at-row.result a.seen r
     → Visited (board_in a.words.now) f (length a.records.now / 16) (row_at (rows_in a.words.now) a.seen.used) a.seen r
 of_row c r v =
     let a = c.args in
@@ -72,7 +72,7 @@ row_as_boot-requires c = fit c
 
 pub returns-then-not-row_as_boot : goal.returns-then-not-row_as_boot
 returns-then-not-row_as_boot c =
-    of_row (goal.at.returns-then-not-row_as_boot c).After-row_at-row _ (visited_torn c.torn_rows.ensures (and_off _ (sym c.row_as_boot.ensures ∙ c.if-not-row_as_boot.true)))
+    of_row (goal.at.returns-then-not-row_as_boot c).After-row_at-row _ (visited_torn (and_off _ (sym c.row_as_boot.ensures ∙ c.if-not-row_as_boot.true)))
 
 pub table_pages-tables-requires : goal.table_pages-tables-requires
 table_pages-tables-requires c =
@@ -94,7 +94,7 @@ returns-then-records-past c =
     let a = c.args in
     let l : length a.records.now / 16 < a.seen.managed + managed_row (board (goal.at.returns-then-records-past c).After-row_at-row) c.row_at-row.result = omega (arith, ends (goal.at.returns-then-records-past c).After-table_pages-tables, c.if-records-past.true) in
     of_row (goal.at.returns-then-records-past c).After-row_at-row _
-    (visited_torn c.torn_rows-then-records-past.ensures
+    (visited_torn
     (and_on _ (is_booted (goal.at.returns-then-records-past c).Else-not-row_as_boot)
     ∙ and_off _ (lt-leb (a.seen.managed + managed_row (board (goal.at.returns-then-records-past c).After-row_at-row) c.row_at-row.result) (length a.records.now / 16) l)))
 
@@ -132,28 +132,28 @@ region c r h =
     (c.page_number.result + c.table_pages-tables.result) (a.seen.managed + (c.row_at-row.result.pages - c.table_pages-tables.result)) r
     (rw (c.page_number.ensures, c.table_pages-tables.ensures)) (ends (goal.at.After-region_whole c).After-table_pages-tables) h
 
-pub returns-in_default : goal.returns-in_default
-returns-in_default c =
-    of_row (goal.at.returns-in_default c).After-row_at-row _
-    (visited_torn c.torn_rows-in_default.ensures
-    (and_on _ (is_booted (goal.at.returns-in_default c).Else-not-row_as_boot)
-    ∙ and_on _ (room (goal.at.returns-in_default c).Else-records-past)
-    ∙ region (goal.at.returns-in_default c).After-region_whole None c.in_default.ensures))
+pub returns-in_err-held : goal.returns-in_err-held
+returns-in_err-held c =
+    rw c.from_residual.ensures (of_row (goal.at.returns-in_err-held c).After-row_at-row _
+    (visited_torn
+    (and_on _ (is_booted (goal.at.returns-in_err-held c).Else-not-row_as_boot)
+    ∙ and_on _ (room (goal.at.returns-in_err-held c).Else-records-past)
+    ∙ region (goal.at.returns-in_err-held c).After-region_whole None c.in_err-held.ensures)))
 
 -- the region is whole, and its pages are those held and those listed
-whole : (c : In-Some) →
+whole : (c : In_ok-held) →
     let a = c.args in
-    WholeRow (board (goal.at.In-Some c).After-row_at-row) (record_at a.records.now) (placed_at a.seen.managed c.row_at-row.result) c.in-Some.held
-whole c = region (goal.at.In-Some c).After-region_whole (Some c.in-Some.held) c.in-Some.ensures
+    WholeRow (board (goal.at.In_ok-held c).After-row_at-row) (record_at a.records.now) (placed_at a.seen.managed c.row_at-row.result) c.in_ok-held.held
+whole c = region (goal.at.In_ok-held c).After-region_whole (Some c.in_ok-held.held) c.in_ok-held.ensures
 
 -- the sums stay small
-small : (c : In-Some) →
+small : (c : In_ok-held) →
     let a = c.args in
     (a.seen.total + c.row_at-row.result.pages < 4294967296)
-    × (a.seen.page + c.in-Some.held.page < 4294967296)
-    × (a.seen.kernel + c.in-Some.held.kernel < 4294967296)
+    × (a.seen.page + c.in_ok-held.held.page < 4294967296)
+    × (a.seen.kernel + c.in_ok-held.held.kernel < 4294967296)
 small c =
-    let pages = few_pages (fit (goal.at.In-Some c).After-row_at-row) (numbers (goal.at.In-Some c).Else-not-row_as_boot) in
+    let pages = few_pages (fit (goal.at.In_ok-held c).After-row_at-row) (numbers (goal.at.In_ok-held c).Else-not-row_as_boot) in
     let p = (whole c).pages in
     let few = c.requires.0 in (
       omega (arith, few.totals, c.requires.2, pages),
@@ -166,20 +166,20 @@ overflow_add-result c =
     omega (arith, c.requires.2)
 
 pub overflow_add-result-2 : goal.overflow_add-result-2
-overflow_add-result-2 c = let h = small (goal.at.overflow_add-result-2 c).In-Some in omega arith
+overflow_add-result-2 c = let h = small (goal.at.overflow_add-result-2 c).In_ok-held in omega arith
 
 pub overflow_add-result-3 : goal.overflow_add-result-3
-overflow_add-result-3 c = let h = small (goal.at.overflow_add-result-3 c).In-Some in omega arith
+overflow_add-result-3 c = let h = small (goal.at.overflow_add-result-3 c).In_ok-held in omega arith
 
 pub overflow_add-result-4 : goal.overflow_add-result-4
-overflow_add-result-4 c = let h = small (goal.at.overflow_add-result-4 c).In-Some in omega arith
+overflow_add-result-4 c = let h = small (goal.at.overflow_add-result-4 c).In_ok-held in omega arith
 
 pub returns : goal.returns
 returns c =
-    let w = whole (goal.at.returns c).In-Some in
+    let w = whole (goal.at.returns c).In_ok-held in
     of_row (goal.at.returns c).After-row_at-row _ record {
       exact = sym (and-true (is_booted (goal.at.returns c).Else-not-row_as_boot) (and-true (room (goal.at.returns c).Else-records-past) w.whole));
-      added = λ t. record {
+      added = record {
         used = refl;
         total = refl;
         manages = ends (goal.at.returns c).After-table_pages-tables;

@@ -1,13 +1,18 @@
 -- `admit_map` meets its contract: a long map is refused by its length alone, and a shorter one is in the array, all of it.
 use Prim.Native.Nat.{ℕ}
+use mathlib.Core.Bool.{false}
 use mathlib.Core.Path.{◌≡◌, sym, ap, ◌∙◌}
 use native.Mathlib.Omega.{arith}
 use lib.ListN.{take}
+use Rattle.std.proofs.lemmas.List.{length-take}
 use Rattle.std.proofs.lemmas.Result.{err_from_is_err_and}
+use Rattle.definition.specs.Basics.{any}
+use Rattle.definition.specs.Boot.{ends_far}
 use Rattle.exam.specs.Promise.{refusal_in}
-use Rattle.boot.proofs.Refusing.{given_far, given_long, given_rows}
-use Rattle.boot.proofs.KeptRows.{kept_ready}
+use Rattle.boot.proofs.Refusing.{given_far, given_long, given_used}
+use Rattle.boot.proofs.KeptRows.{all_booted, kept_front, kept_most}
 use Rattle.boot.proofs.admit_map.Goals as goal
+use Rattle.boot.proofs.admit_map.Goals.{Else-any_far}
 
 pub returns-then-count-gt8 : goal.returns-then-count-gt8
 returns-then-count-gt8 c =
@@ -24,40 +29,48 @@ returns-then-any_far c =
       kept = λ k e. absurd (let n : ◌≡◌ {A = ℕ} 0 1 = cc in omega arith);
     }
 
+near : (c : Else-any_far) → any ends_far (take c.args.count c.args.map) ≡ false
+near c = sym c.any_far.ensures ∙ c.if-any_far.false
+
 pub kept_rows-kept-requires : goal.kept_rows-kept-requires
 kept_rows-kept-requires c =
     record {
       fit = c.requires;
-      count_bound = (omega arith, sym c.any_far.ensures ∙ c.if-any_far.false);
+      few = omega (arith, length-take c.args.count c.args.map, c.if-count-gt8.false);
+      near = near (goal.at.kept_rows-kept-requires c).Else-any_far;
     }
 
 pub admit_rows-requires : goal.admit_rows-requires
 admit_rows-requires c =
-    let near = sym c.any_far.ensures ∙ c.if-any_far.false in
+    let n = near (goal.at.admit_rows-requires c).Else-any_far in
+    let ms = take c.args.count c.args.map in
+    let k = c.kept_rows-kept in
+    let e = kept_front c.requires ms n k.result k.ensures.keeps in
     record {
       fit = c.requires;
-      rows_kept = kept_ready c.requires (take c.args.count c.args.map) near c.kept_rows-kept.result c.kept_rows-kept.ensures;
+      booted = rw e (all_booted c.requires ms n);
+      few = rw e (omega (arith, kept_most c.args.board ms, length-take c.args.count c.args.map, c.if-count-gt8.false));
     }
 
 pub returns-in_err-admit_rows : goal.returns-in_err-admit_rows
 returns-in_err-admit_rows c =
     let a = c.args in
     let k = c.kept_rows-kept in
-    let near = sym c.any_far.ensures ∙ c.if-any_far.false in
+    let n = near (goal.at.returns-in_err-admit_rows c).Else-any_far in
     let p = err_from_is_err_and c.from_residual.result c.from_residual.ensures.1 in
     rw (p.1, p.2) record {
-      refusal = λ ms M. ap refusal_in c.in_err-admit_rows.ensures ∙ given_rows M (omega arith) k.result k.ensures c.requires near a.records a.memory;
-      kept = λ x e. absurd (let n : ◌≡◌ {A = ℕ} 0 1 = cc in omega arith);
+      refusal = λ ms M. ap refusal_in c.in_err-admit_rows.ensures ∙ given_used M (omega arith) k.result k.ensures.keeps c.requires n a.records a.memory;
+      kept = λ x e. absurd (let z : ◌≡◌ {A = ℕ} 0 1 = cc in omega arith);
     }
 
 pub returns : goal.returns
 returns c =
     let a = c.args in
     let k = c.kept_rows-kept in
-    let near = sym c.any_far.ensures ∙ c.if-any_far.false in
+    let n = near (goal.at.returns c).Else-any_far in
     record {
-      refusal = λ ms M. ap refusal_in c.in_ok-admit_rows.ensures ∙ given_rows M (omega arith) k.result k.ensures c.requires near a.records a.memory;
+      refusal = λ ms M. ap refusal_in c.in_ok-admit_rows.ensures ∙ given_used M (omega arith) k.result k.ensures.keeps c.requires n a.records a.memory;
       kept = λ x e.
           let same : k.result ≡ x = cc in
-          rw (← same) record { few = omega arith; near = near; keeps = k.ensures };
+          rw (← same) record { few = omega arith; near = n; keeps = k.ensures.keeps; room = k.ensures.room };
     }

@@ -1,74 +1,67 @@
 -- `kept_rows` meets its contract. The loop's invariant: the rows are those of the entries passed, with unused ones behind them.
 use Prim.Native.Nat.{◌<◌}
-use mathlib.Core.Path.{◌≡◌, refl, ap, ◌∙◌}
+use mathlib.Core.Path.{refl, ap, ◌∙◌}
 use native.Mathlib.Omega.{arith}
-use lib.ListN.{replicate}
+use lib.ListN.{take, replicate}
+use Rattle.std.proofs.lemmas.List.{length-take}
 use Rattle.definition.specs.declared.Row.{Row}
+use Rattle.definition.specs.Boot.{ends_far}
 use Rattle.boot.specs.Booting.{eight, kept_rows}
 use Rattle.boot.proofs.Entries.{row_at_lem}
-use Rattle.boot.proofs.KeptRows.{map_eight, near_at, no_entry, turn_fits, turn_more, turn_rows, turn_same}
+use Rattle.boot.proofs.KeptRows.{any_none, kept_most, no_entry, turn_fits, turn_more, turn_rows, turn_rows_same, turn_same}
 use Rattle.boot.proofs.kept_rows.Goals as goal
-use Rattle.boot.proofs.kept_rows.Goals.{After-keep-row}
+use Rattle.boot.proofs.kept_rows.Goals.{After-keep, in-Some, in_default}
 
-pub loop-i-init : goal.loop-i-init
+pub loop-entry-init : goal.loop-entry-init
 unfolding kept_rows eight
-loop-i-init c =
-    record {
-      long = map_eight c.args.map _ c.well_formed.1.0;
-      some = omega arith;
-      kept = ap (λ (r : Row). replicate 8 r) (c.empty_row-none.ensures ∙ row_at_lem c.new.ensures refl);
-      many = refl;
-    }
+loop-entry-init c =
+    record { kept = ap (λ (r : Row). replicate 8 r) (c.empty_row-rows.ensures ∙ row_at_lem c.new.ensures refl); many = refl }
 
-pub offset_bounds-map-i : goal.offset_bounds-map-i
-offset_bounds-map-i c = omega arith
+pub keep-requires-clause-value : goal.keep-requires-clause-value
+keep-requires-clause-value c =
+    any_none ends_far no_entry c.args.map.now c.loop-entry.entry-index c.requires.near c.loop-entry-test.true
 
-pub bounds-map-i : goal.bounds-map-i
-bounds-map-i c = omega arith
-
-pub keep-row-requires : goal.keep-row-requires
-keep-row-requires c =
-    record {
-      fit = c.requires.fit;
-      value = near_at c.args.map c.args.count c.loop-i.i no_entry c.requires.count_bound.1 (omega arith) (omega arith);
-    }
-
--- the place of a turn's row
-fits : (c : After-keep-row) → c.loop-i.used < 8
+-- there is a place for the turn's row
+fits : (c : After-keep) → c.loop-entry.used < 8
 fits c =
-    turn_fits c.args.board c.args.map c.loop-i.i no_entry (omega arith) (omega arith) c.loop-i.invariant.kept c.loop-i.invariant.many c.keep-row.ensures
+    let i = c.loop-entry.invariant in
+    turn_fits c.args.board c.args.map.now c.loop-entry.entry-index no_entry c.loop-entry-test.true (omega (arith, c.loop-entry-test.true, c.requires.few))
+    i.kept i.many
 
 pub offset_bounds-rows-used : goal.offset_bounds-rows-used
-offset_bounds-rows-used c = omega (arith, fits c)
+offset_bounds-rows-used c = omega (arith, fits (goal.at.offset_bounds-rows-used c).After-keep)
 
 pub bounds-rows-used : goal.bounds-rows-used
-bounds-rows-used c = fits c
+bounds-rows-used c = fits (goal.at.bounds-rows-used c).After-keep
 
 pub overflow_add-used : goal.overflow_add-used
-overflow_add-used c = omega (arith, fits (goal.at.overflow_add-used c).After-keep-row)
+overflow_add-used c = omega (arith, fits (goal.at.overflow_add-used c).After-keep)
 
-pub overflow_add-i : goal.overflow_add-i
-overflow_add-i c = omega arith
+pub loop-entry-preserved : goal.loop-entry-preserved
+loop-entry-preserved c =
+    let b = c.args.board in
+    let map = c.args.map.now in
+    let k = c.loop-entry.entry-index in
+    let i = c.loop-entry.invariant in
+    let h = c.loop-entry-test.true in
+    let few : k < 8 = omega (arith, h, c.requires.few) in
+    elim c.match-keep.branch [
+      | in-Some w ↦
+          let e = w.in-Some.ensures in
+          record {
+            kept = w.rows-is ∙ turn_rows b map k no_entry h few i.kept i.many w.in-Some.row e;
+            many = w.used-is ∙ turn_more b map k no_entry h few i.kept i.many w.in-Some.row e;
+          }
+      | in_default w ↦
+          let e = w.in_default.ensures in
+          record {
+            kept = w.rows-is ∙ turn_rows_same b map k no_entry h few i.kept i.many e;
+            many = w.used-is ∙ turn_same b map k no_entry h few i.kept i.many e;
+          }
+    ]
 
-pub loop-i-smaller : goal.loop-i-smaller
-loop-i-smaller c = omega arith
-
-pub loop-i-preserved : goal.loop-i-preserved
-loop-i-preserved c =
-    record {
-      long = c.loop-i.invariant.long;
-      some = omega arith;
-      kept = turn_rows c.args.board c.args.map c.loop-i.i no_entry (omega arith) (omega arith) c.loop-i.invariant.kept c.loop-i.invariant.many c.keep-row.ensures;
-      many =
-          elim c.if-row-ne0.branch [
-            | goal.then-row-ne0 w ↦ w.used-is
-                ∙ turn_more c.args.board c.args.map c.loop-i.i no_entry (omega arith) (omega arith) c.loop-i.invariant.kept c.loop-i.invariant.many c.keep-row.ensures w.if-row-ne0.true
-            | goal.else-row-ne0 w ↦ w.used-is
-                ∙ turn_same c.args.board c.args.map c.loop-i.i no_entry (omega arith) (omega arith) c.loop-i.invariant.kept c.loop-i.invariant.many c.keep-row.ensures w.if-row-ne0.false
-          ];
-    }
-
-pub returns : goal.returns
-returns c =
-    let e : c.loop-i.i ≡ c.args.count = omega arith in
-    record { rows = rw (← e) c.loop-i.invariant.kept; used = rw (← e) c.loop-i.invariant.many }
+pub returns-clause-room : goal.returns-clause-room
+returns-clause-room c =
+    let map = c.args.map.now in
+    let i = c.loop-entry.entry-index in
+    omega (arith, c.loop-entry.invariant.many, kept_most c.args.board (take i map), length-take i map, c.requires.few)

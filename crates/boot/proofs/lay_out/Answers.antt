@@ -15,7 +15,6 @@ loop-i-init c =
     record {
       long = refl;
       few = used_eight c.args.rows _ c.well_formed.1.1.0;
-      some = omega arith;
       laid = laid_none c.args.rows c.args.used (pages_in c.args.records.now) c.requires.ready (record_at c.args.records.now);
     }
 
@@ -62,12 +61,6 @@ pub overflow_add-base : goal.overflow_add-base
 unfolding managed
 overflow_add-base c = omega (arith, (turn (goal.at.overflow_add-base c).In-loop-i).end, c.table_pages.ensures)
 
-pub overflow_add-i : goal.overflow_add-i
-overflow_add-i c = omega (arith, place (goal.at.overflow_add-i c).In-loop-i)
-
-pub loop-i-smaller : goal.loop-i-smaller
-loop-i-smaller c = omega (arith, c.loop-i-test.true)
-
 pub loop-i-preserved : goal.loop-i-preserved
 unfolding managed
 loop-i-preserved c =
@@ -75,7 +68,6 @@ loop-i-preserved c =
     record {
       long = omega (arith, d.auto.records, c.loop-i.invariant.long);
       few = c.loop-i.invariant.few;
-      some = omega (arith, c.loop-i-test.true);
       laid =
           rw c.table_pages.ensures
           (laid_on c.args.rows c.args.used (pages_in c.args.records.now) c.requires.ready c.loop-i.invariant.laid c.loop-i-test.true
