@@ -115,45 +115,55 @@ module _ (board : Board) where
   unfolding perform
   find_performed s a = refl
 
-module _ {board : Board} {w : World} {s : Store} (H : Whole board w s) {a : ℕ} {x : Result Seen Refusal}
-    (L : Looks board (record_at w.records) (pages_in w.records) w.rows a 0 0 x)
+pub found_held
+    : {board : Board} {f : ℕ → Record} {n : ℕ} {rows : List Row} {a : ℕ} {r : Seen} → Looks board f n rows a 0 0 (Ok r)
+    → HeldSeen board f rows r
+found_held {r = r} L = (L.found r refl).held
+
+module _ {board : Board} {w : World} {s : Store} (H : Whole board w s) {a : ℕ} {e : Refusal}
+    (L : Looks board (record_at w.records) (pages_in w.records) w.rows a 0 0 (Err e))
   where
-    pub split_refused : (e : Refusal) → x ≡ Err e → Made board (step board s (Split a)) w w (Err e)
-    split_refused = looked_refused H L (Split a) (one_frame board s a 0 0)
+    pub split_refused : Made board (step board s (Split a)) w w (Err e)
+    split_refused = looked_refused H L (Split a) (one_frame board s a 0 0) e refl
 
-    pub free_refused : (e : Refusal) → x ≡ Err e → Made board (step board s (Free a)) w w (Err e)
-    free_refused = looked_refused H L (Free a) (one_frame board s a 0 0)
+    pub free_refused : Made board (step board s (Free a)) w w (Err e)
+    free_refused = looked_refused H L (Free a) (one_frame board s a 0 0) e refl
 
-    module _ (r : Seen) (k : x ≡ Ok r) (bs : List ℕ) (e : length bs ≡ length w.records) (small : (i : ℕ) → get_or bs i 0 < 256) where
-      abbrev p : ℕ
-      p = a / board.page
+module _ {board : Board} {w : World} {s : Store} (H : Whole board w s) {a : ℕ} {r : Seen}
+    (L : Looks board (record_at w.records) (pages_in w.records) w.rows a 0 0 (Ok r))
+    (bs : List ℕ) (e : length bs ≡ length w.records) (small : (i : ℕ) → get_or bs i 0 < 256)
+  where
+    abbrev p : ℕ
+    p = a / board.page
 
-      pub split_made
-          : TurnsBy board (split_at (number_at board w.rows r.spot)) (record_at w.records) w.rows (record_at bs) (pages_in bs) w.rows
-          → Made board (step board s (Split a)) w (turned_into w w.rows w.counters bs) (Ok (reply a (bytes_if board r)))
-      split_made T =
-          rw (← looked_bytes H L r k)
-          (turned_made H bs e (Split a) (split_at p s.allocator) w.counters w.rows a (frame_bytes board s p)
-          (one_frame board s a 0 0 ∙ looked_free H L r k)
-          (split_performed board s a ∙ ap (λ (t : Store). done t a (frame_bytes board s p)) (split_store_lem s p H.stands.counters))
-          (rw (looked_number H L r k) at (T s.allocator (table_as_long H bs e)))
-          small)
+    pub split_made
+        : TurnsBy board (split_at (number_at board w.rows r.spot)) (record_at w.records) w.rows (record_at bs) (pages_in bs) w.rows
+        → Made board (step board s (Split a)) w (turned_into w w.rows w.counters bs) (Ok (reply a (bytes_if board r)))
+    split_made T =
+        rw (← looked_bytes H L r refl)
+        (turned_made H bs e (Split a) (split_at p s.allocator) w.counters w.rows a (frame_bytes board s p)
+        (one_frame board s a 0 0 ∙ looked_free H L r refl)
+        (split_performed board s a ∙ ap (λ (t : Store). done t a (frame_bytes board s p)) (split_store_lem s p H.stands.counters))
+        (rw (looked_number H L r refl) at (T s.allocator (table_as_long H bs e)))
+        small)
 
-      pub free_made
-          : (rows : List Row) (k2 : Counters)
-          → TurnsBy board (free_at board (number_at board w.rows r.spot)) (record_at w.records) w.rows (record_at bs) (pages_in bs) rows
-          → k2 ≡ count_free (size r.level) (eqb (r.marks / 8 % 2) 1) w.counters
-          → Made board (step board s (Free a)) w (turned_into w rows k2 bs) (Ok (reply a (bytes_if board r)))
-      free_made rows k2 T counted =
-          let c = ap (count_free (size r.level) (eqb (r.marks / 8 % 2) 1)) H.stands.counters ∙ sym counted in
-          let freed =
-          free_store s p (looked_page H L r k) (L.found r k).held ∙ ap (with_counters (with_allocator s (free_at board p s.allocator))) c in
-          rw (← looked_bytes H L r k)
-          (turned_made H bs e (Free a) (free_at board p s.allocator) k2 rows a (frame_bytes board s p)
-          (one_frame board s a 0 0 ∙ looked_free H L r k)
-          (free_performed board s a ∙ ap (λ (t : Store). done t a (frame_bytes board s p)) freed)
-          (rw (looked_number H L r k) at (T s.allocator (table_as_long H bs e)))
-          small)
+    pub free_made
+        : (rows : List Row) (k : Counters)
+        → TurnsBy board (free_at board (number_at board w.rows r.spot)) (record_at w.records) w.rows (record_at bs) (pages_in bs) rows
+        → k ≡ count_free (size r.level) (eqb (r.marks / 8 % 2) 1) w.counters
+        → Made board (step board s (Free a)) w (turned_into w rows k bs) (Ok (reply a (bytes_if board r)))
+    free_made rows k T counted =
+        let c = ap (count_free (size r.level) (eqb (r.marks / 8 % 2) 1)) H.stands.counters ∙ sym counted in
+        let freed =
+        free_store s p (looked_page H L r refl) (L.found r refl).held
+        ∙ ap (with_counters (with_allocator s (free_at board p s.allocator))) c
+        in
+        rw (← looked_bytes H L r refl)
+        (turned_made H bs e (Free a) (free_at board p s.allocator) k rows a (frame_bytes board s p)
+        (one_frame board s a 0 0 ∙ looked_free H L r refl)
+        (free_performed board s a ∙ ap (λ (t : Store). done t a (frame_bytes board s p)) freed)
+        (rw (looked_number H L r refl) at (T s.allocator (table_as_long H bs e)))
+        small)
 
 -- ---- a lookup
 

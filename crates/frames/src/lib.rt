@@ -35,6 +35,7 @@ pub fn find(words: &[u64], records: &[u8], pa: PhysAddr) -> Answer
 // ---- split
 
 // split_frame: a held frame becomes 512 held ones.
+#[tactic(auto, using(crate::proofs::Promised::found_held))]
 pub fn split(words: &[u64], records: &mut [u8], pa: PhysAddr) -> Answer
     requires { TableIn words.now records.old }
     ensures { Marks (Split pa.0) words.now records.old records.new result }
@@ -50,6 +51,7 @@ pub fn split(words: &[u64], records: &mut [u8], pa: PhysAddr) -> Answer
 // ---- free
 
 // free_frame, but for its tests: the held frame that was seen goes back on its list, and its pages are idle.
+#[tactic(auto, using(level::proofs::Sizes::size_most))]
 pub fn release(counters: &mut Counters, words: &mut [u64], records: &mut [u8], seen: Seen)
     requires table_in { TableIn words.old records.old }
     requires held_seen { HeldSeen (board_in words.old) (record_at records.old) (rows_in words.old) seen × (counters.old.idle < 2 ^ 63) }
@@ -65,6 +67,7 @@ pub fn release(counters: &mut Counters, words: &mut [u64], records: &mut [u8], s
 }
 
 // free_frame, tracker.rs 41.
+#[tactic(auto, using(crate::proofs::Promised::found_held))]
 pub fn free(counters: &mut Counters, words: &mut [u64], records: &mut [u8], pa: PhysAddr) -> Answer
     requires table_in { TableIn words.old records.old }
     requires few { Few counters.old }

@@ -121,14 +121,18 @@ module _ {board : Board} where
 
 -- ---- a frame that was looked at, and nothing refused
 
-module _ (ws rs : List ℕ) {a off len : ℕ} {r : Seen} (T : TableIn ws rs) (L : LooksIn ws rs a off len (Ok r)) where
-  pub looked_held : HeldSeen (board_in ws) (record_at rs) (rows_in ws) r
-  looked_held = (L.found r refl).held
+pub looked_held
+    : (ws rs : List ℕ) {a off len : ℕ} {r : Seen} → LooksIn ws rs a off len (Ok r) → HeldSeen (board_in ws) (record_at rs) (rows_in ws) r
+looked_held ws rs {r = r} L = (L.found r refl).held
 
-  -- the range, and the whole frame, end within a memory that has room for every managed page
-  pub looked_ends : (m : List ℕ) → RoomIn ws m → (board_in ws).page * r.spot.page + off + len ≤ length m
-  looked_ends m room = omega (arith, held_ends looked_held T.1 off len (L.found r refl).range, room)
+-- the range, and the whole frame, end within a memory that has room for every managed page
+module _ (ws rs : List ℕ) {a off len : ℕ} {r : Seen} (T : TableIn ws rs) (L : LooksIn ws rs a off len (Ok r))
+    (m : List ℕ) (room : RoomIn ws m)
+  where
+    pub looked_ends : (board_in ws).page * r.spot.page + off + len ≤ length m
+    looked_ends = let F = L.found r refl in omega (arith, held_ends F.held T.1 off len F.range, room)
 
-  pub looked_last : (m : List ℕ) → RoomIn ws m → (board_in ws).page * r.spot.page + bytes_if (board_in ws) r ≤ length m
-  looked_last m room =
-      omega (arith, held_ends looked_held T.1 0 (bytes_if (board_in ws) r) (omega (arith, held_size looked_held)), room)
+    pub looked_last : (board_in ws).page * r.spot.page + bytes_if (board_in ws) r ≤ length m
+    looked_last =
+        let H = looked_held ws rs L in
+        omega (arith, held_ends H T.1 0 (bytes_if (board_in ws) r) (omega (arith, held_size H)), room)

@@ -1,5 +1,4 @@
 -- Free, by what `look` found: the refusal of the frame, or the table and the counters that `release` leaves.
-use native.Mathlib.Omega.{arith}
 use Rattle.std.proofs.lemmas.Result.{err_from_is_err_and}
 use Rattle.words.specs.Words.{rows_in}
 use Rattle.exam.proofs.Making.{bytes_small}
@@ -9,18 +8,7 @@ use Rattle.frames.proofs.free.Goals as goal
 pub returns-in_err-seen-clause-turns : goal.returns-in_err-seen-clause-turns
 returns-in_err-seen-clause-turns c m q s H =
     let p = err_from_is_err_and c.from_residual.result c.from_residual.ensures.1 in
-    let x = c.in_err-seen in
-    rw (p.1, p.2) (free_refused H c.look.ensures x.field-0.0 x.was)
-
-pub frame_bytes-bytes-requires-clause-level_known : goal.frame_bytes-bytes-requires-clause-level_known
-frame_bytes-bytes-requires-clause-level_known c d = (c.look.ensures.found c.in_ok-seen.seen c.in_ok-seen.was).held.leveled
-
-pub release-requires : goal.release-requires
-release-requires c =
-    record {
-      table_in = c.requires.table_in;
-      held_seen = ((c.look.ensures.found c.in_ok-seen.seen c.in_ok-seen.was).held, omega (arith, c.requires.few.idle));
-    }
+    rw (p.1, p.2) (free_refused H c.in_err-seen.ensures)
 
 pub returns : goal.returns
 returns c =
@@ -29,7 +17,7 @@ returns c =
     record {
       turns = λ m q s H.
           rw (c.frame_bytes-bytes.ensures, c.raw.ensures, c.board_in.ensures.0, R.queued, R.pass)
-          (free_made H c.look.ensures c.in_ok-seen.seen c.in_ok-seen.was y.new.records y.auto.records
+          (free_made H c.in_ok-seen.ensures y.new.records y.auto.records
           (bytes_small y.new.records c.type_inv.records)
           (rows_in y.new.words) y.new.counters R.turned R.counters);
       beside = y.ensures.beside;

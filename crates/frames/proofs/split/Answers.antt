@@ -7,20 +7,11 @@ use Rattle.frames.proofs.split.Goals as goal
 pub returns-in_err-held : goal.returns-in_err-held
 returns-in_err-held c k m q s H =
     let p = err_from_is_err_and c.from_residual.result c.from_residual.ensures.1 in
-    let x = c.in_err-held in
-    rw (p.1, p.2) (split_refused H c.look.ensures x.field-0.0 x.was)
-
-pub split_frame-requires-clause-held_in : goal.split_frame-requires-clause-held_in
-split_frame-requires-clause-held_in c =
-    let h = (c.look.ensures.found c.in_ok-held.held c.in_ok-held.was).held in
-    (h.inside, h.held)
-
-pub frame_bytes-requires-clause-level_known : goal.frame_bytes-requires-clause-level_known
-frame_bytes-requires-clause-level_known c d = (c.look.ensures.found c.in_ok-held.held c.in_ok-held.was).held.leveled
+    rw (p.1, p.2) (split_refused H c.in_err-held.ensures)
 
 pub returns : goal.returns
 returns c k m q s H =
     let y = c.split_frame in
     rw (c.frame_bytes.ensures, c.raw.ensures, c.board_in.ensures.0)
-    (split_made H c.look.ensures c.in_ok-held.held c.in_ok-held.was y.new.records y.auto.records
+    (split_made H c.in_ok-held.ensures y.new.records y.auto.records
     (bytes_small y.new.records c.type_inv.records) y.ensures)
