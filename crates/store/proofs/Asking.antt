@@ -24,7 +24,7 @@ use Rattle.lines.specs.declared.Ask.TheVariants.{
 }
 use Rattle.lines.specs.Reading.{call_of}
 use Rattle.service.specs.Serving.{Lent, ServesWith}
-use Rattle.store.specs.Lending.{numbers_of}
+use Rattle.store.specs.Lending.{five_in, numbers_of}
 
 five_numbers : (a : Ask) (f : ℕ → ℕ) → call_of a (λ i. get_or (f 0 ∷ f 1 ∷ f 2 ∷ f 3 ∷ f 4 ∷ []) i 0) ≡ call_of a f
 five_numbers Alloc f = refl
@@ -44,7 +44,7 @@ five_numbers Back f = refl
 five_numbers Low f = refl
 
 pub serves_five : (a : Ask) (ns xs : List ℕ) (k : Counters) (l : Lent) {k' : Counters} {l' : Lent} {r : ℕ}
-    → xs ≡ numbers_of ns 0 ∷ numbers_of ns 1 ∷ numbers_of ns 2 ∷ numbers_of ns 3 ∷ numbers_of ns 4 ∷ []
+    → xs ≡ five_in ns
     → ServesWith (call_of a (λ i. get_or xs i 0)) k l k' l' r
     → ServesWith (call_of a (numbers_of ns)) k l k' l' r
 serves_five a ns xs k l {k'} {l'} {r} x S =

@@ -82,6 +82,10 @@ ask_of n =
 abbrev pub numbers_of : List ℕ → ℕ → ℕ
 numbers_of ns i = get_or ns i 0
 
+-- as many as any call takes
+abbrev pub five_in : List ℕ → List ℕ
+five_in ns = numbers_of ns 0 ∷ numbers_of ns 1 ∷ numbers_of ns 2 ∷ numbers_of ns 3 ∷ numbers_of ns 4 ∷ []
+
 -- a map lent as numbers has three for each entry
 abbrev pub entry_in : List ℕ → ℕ → Entry
 entry_in ns i = record { start = numbers_of ns (3 * i); length = numbers_of ns (3 * i + 1); kind = numbers_of ns (3 * i + 2) }

@@ -35,6 +35,7 @@ ghost use Rattle.store.specs.Lending.{
   Boots,
   ask_of,
   numbers_of,
+  five_in,
   entry_in,
   entries_of,
   BootsFrom,
@@ -640,6 +641,19 @@ fn number_at(numbers: &[u64], i: usize) -> u64
     numbers.get(i).copied().unwrap_or(0)
 }
 
+// As many as any call takes.
+fn five_in(numbers: &[u64]) -> [u64; 5]
+    ensures { result ≡ five_in numbers.now }
+{
+    [
+        number_at(numbers, 0),
+        number_at(numbers, 1),
+        number_at(numbers, 2),
+        number_at(numbers, 3),
+        number_at(numbers, 4),
+    ]
+}
+
 fn entry_in(numbers: &[u64], i: usize) -> Entry
     requires { i < 8 }
     ensures { result ≡ entry_in numbers.now i }
@@ -707,23 +721,18 @@ fn call(
         (loans_of words.new records.new memory.new queue.new answer.new)
         bytes.new (code_def result) }
 {
-    let five = [
-        number_at(n, 0),
-        number_at(n, 1),
-        number_at(n, 2),
-        number_at(n, 3),
-        number_at(n, 4),
-    ];
-    let pa = PhysAddr(five[0]);
+    let pa = PhysAddr(number_at(n, 0));
+    let offset = number_at(n, 1);
+    let len = number_at(n, 2);
     match Asked::try_from(op)? {
-        Asked::Known(ask) => {
-            service::serve_with(counters, words, records, memory, queue, answer, ask, five)
-        }
+        Asked::Known(ask) => service::serve_with(
+            counters, words, records, memory, queue, answer, ask, five_in(n),
+        ),
         Asked::Write => service::serve_write_with(
-            *counters, words, records, memory, queue, answer, pa, five[1], bytes,
+            *counters, words, records, memory, queue, answer, pa, offset, bytes,
         ),
         Asked::Read => service::serve_read_with(
-            *counters, words, records, memory, queue, answer, pa, five[1], five[2],
+            *counters, words, records, memory, queue, answer, pa, offset, len,
         ),
         Asked::Stats => {
             service::serve_stats_with(*counters, words, records, memory, queue, answer, bytes)

@@ -7,7 +7,7 @@ use lib.ListN.{length, take}
 use Rattle.map.specs.declared.Gathered.{Gathered}
 use Rattle.store.specs.Lending.{region_of, entries_of}
 use Rattle.map.proofs.Gathering.{gathered_count, gathered_front}
-use Rattle.store.proofs.boot_counted.Goals as goal
+use Rattle.store.proofs.boot_numbers.Goals as goal
 
 pub returns-then-n-ne0 : goal.returns-then-n-ne0
 returns-then-n-ne0 c = rw (ne_eqb (length c.args.n.now % 3) 0 c.if-n-ne0.true) refl
