@@ -5,12 +5,17 @@ use mathlib.Core.Path.{◌≡◌, refl, sym, ap, ◌∙◌}
 use native.Mathlib.Omega.{arith}
 use native.Mathlib.Nat.{zero-add}
 use lib.ListN.{length, take, drop, length-take, length-drop}
-use lib.Seq.{paste, length-take-le, take-take, drop-append-le, drop-drop}
+use lib.Seq.{paste, take-add, length-take-le, take-take, drop-append-le, drop-drop}
 use Rattle.std.proofs.lemmas.List.{take-append-drop, drop-take}
 use Rattle.record.specs.Records.{with_bytes}
 
 part_length : (m : List ℕ) (from n : ℕ) → from + n ≤ length m → length (take n (drop from m)) ≡ n
 part_length m from n h = simp (length-take, length-drop) (omega arith)
+
+-- bytes written where they are
+pub stays_written : (m : List ℕ) (from n : ℕ) → from + n ≤ length m → m ≡ with_bytes m from (take n (drop from m))
+unfolding with_bytes
+stays_written m from n h = rw (part_length m from n h, ← take-add from n m) (sym (take-append-drop (from + n) m))
 
 module _ (m : List ℕ) (to from n : ℕ) where
   -- n bytes of the upper side, written in the lower one

@@ -32,7 +32,7 @@ pub fn copy(memory: &mut [u8], to: usize, from: usize, len: usize)
     } else if from + len <= to {
         let (low, high) = memory.split_at_mut(to);
         write(high, 0, &low[from..from + len]);
-    } else {
+    } else if to != from {
         // Not this alone: its loop moves 32 bytes a turn, and 4 KiB from one frame to another would take up to 1.9 times a memmove.
         memory.copy_within(from..from + len, to);
     }

@@ -285,12 +285,15 @@ fn kind_at(records: &[u8], page: usize) -> u64
     kind(number(records, page, MARKS), number(records, page, LEVEL))
 }
 
-// Whether a page is an unheld frame of one page, with ZEROED and KERNEL or without.
+// Whether a page is an unheld frame of one page, with ZEROED and KERNEL or without: no bits but those of the named marks, of which
+// ADMITTED is set and ALLOCATED is not.
 pub fn is_free_page(records: &[u8], page: usize) -> bool
     requires { page < pages_in records.now }
     ensures { result ≡ free_page (record_at records.now page) }
 {
-    matches!(kind_at(records, page), 1 | 5 | 9 | 13)
+    // Not `matches!(kind, 1 | 5 | 9 | 13)`: LLVM makes one mask of this and a rotation of that, and the audit takes 1.4 times as long.
+    let kind = kind_at(records, page);
+    kind < 16 && kind % 4 == 1
 }
 
 // That of the unheld frames of a level, with ZEROED or without, but for KERNEL.
