@@ -8,15 +8,6 @@ use Rattle.region.proofs.organize.Goals as goal
 pub loop-at-init : goal.loop-at-init
 loop-at-init c = record { some = omega arith; same = refl; laid = laid_none _ _ c.requires.sound_row c.requires.count_value.0 c.requires.blank }
 
-pub overflow_add-from : goal.overflow_add-from
-overflow_add-from c = omega arith
-
-pub overflow_sub-count : goal.overflow_sub-count
-overflow_sub-count c = omega arith
-
-pub overflow_add-first : goal.overflow_add-first
-overflow_add-first c = omega (arith, c.requires.sound_row.fits, c.requires.sound_row.small, c.requires.count_value.0, c.loop-at-test.true)
-
 pub push-r-requires : goal.push-r-requires
 push-r-requires c =
     let k = c.loop-at in
@@ -53,9 +44,6 @@ loop-at-preserved c =
       same = omega (arith, d.auto.records, k.invariant.same);
       laid = laid_step k.invariant.laid c.loop-at-test.true b.result B d.ensures;
     })
-
-pub shape_of-records : goal.shape_of-records
-shape_of-records c = omega arith
 
 pub returns : goal.returns
 returns c =

@@ -17,12 +17,6 @@ use Rattle.region.proofs.split.Goals.{After-loop-i, At-loop-i, In-loop-i}
 pub marks-requires : goal.marks-requires
 marks-requires c = omega (arith, (page_inside c.requires.2 true).high, c.requires.1.1.fits)
 
-pub pages_at-step-requires : goal.pages_at-step-requires
-pages_at-step-requires c = omega (arith, c.requires.2.small)
-
-pub slot-k-requires : goal.slot-k-requires
-slot-k-requires c = omega (arith, c.requires.2.small)
-
 pub loop-i-init : goal.loop-i-init
 unfolding children
 loop-i-init c =
@@ -44,12 +38,6 @@ child_fits : (c : In-loop-i) → c.args.page + c.loop-i.i * c.pages_at-step.resu
 child_fits c =
     subst (λ (m : ℕ). c.args.page + c.loop-i.i * m < 2 ^ 32) (sym c.pages_at-step.ensures)
     (omega (arith, (child_inside c.requires.2 c.is_zeroed-zeroed.result c.loop-i.i (omega arith)).high, c.requires.1.1.small))
-
-pub overflow_mul-i : goal.overflow_mul-i
-overflow_mul-i c = omega (arith, child_fits (goal.at.overflow_mul-i c).In-loop-i)
-
-pub overflow_add-page : goal.overflow_add-page
-overflow_add-page c = omega (arith, child_fits (goal.at.overflow_add-page c).In-loop-i)
 
 -- the child is out of the list that it is pushed on
 out
@@ -96,12 +84,6 @@ admit-all-requires c =
     let z = out_asks c.args.level c.is_zeroed-zeroed.result false (c.loop-i.invariant.became c.requires.0 c.requires.1.1 c.requires.2) (a_list (goal.at.admit-all-requires c).At-loop-i) (page_inside c.requires.2 c.is_zeroed-zeroed.result) (rw e (page_out c.requires.2 c.is_zeroed-zeroed.result))
     (omega (arith, c.requires.2.small)) in
     record { sound = z.0; level_bound = z.1.0; out = z.1.1.0; page_bound = z.1.1.1 }
-
-pub shape_of-records : goal.shape_of-records
-shape_of-records c = omega arith
-
-pub shape_of-words : goal.shape_of-words
-shape_of-words c = omega arith
 
 pub returns : goal.returns
 returns c =

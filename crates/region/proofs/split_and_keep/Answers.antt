@@ -86,9 +86,6 @@ loop-i-preserved c =
       stored = rw add-one (rw (k.invariant.stored) at d.ensures.records ∙ many_next k.i _ c.args.page c.pages_at-step.result _);
     }
 
-pub shape_of-records : goal.shape_of-records
-shape_of-records c = omega (arith, c.loop-i.invariant.same)
-
 pub returns : goal.returns
 returns c =
     let F = held_frame_lem c.requires.held in
