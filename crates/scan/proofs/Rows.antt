@@ -105,8 +105,10 @@ module _ (board : Board) where
         ≡ (tiled board f xs && (held_alone board f xs && (lists_walk board f xs && unheld_listed board f xs)))
     whole_rows =
         all_both (tiled_row board f) (λ x. alone_row board f x && (walks_row board f x && listed_row board f x)) xs
-        ∙ ap (λ (t : Bool). all (tiled_row board f) xs && t) (all_both (alone_row board f) (λ x. walks_row board f x && listed_row board f x) xs)
-        ∙ ap (λ (t : Bool). all (tiled_row board f) xs && (all (alone_row board f) xs && t)) (all_both (walks_row board f) (listed_row board f) xs)
+        ∙ ap (λ (t : Bool). all (tiled_row board f) xs && t)
+        (all_both (alone_row board f) (λ x. walks_row board f x && listed_row board f x) xs)
+        ∙ ap (λ (t : Bool). all (tiled_row board f) xs && (all (alone_row board f) xs && t))
+        (all_both (walks_row board f) (listed_row board f) xs)
         ∙ rw (tiled_rows, alone_rows, walks_rows, listed_rows)
 
 -- ---- what a scan and the lists' test say of a region, by its numbers
@@ -170,7 +172,8 @@ module _ (f : Records) (row : Row) (from base past : ℕ) where
       listed_full : listed_at f lists base past ≡ true → pages ≡ past - base - held.page - held.kernel
       listed_full l =
           listed_six (placed_at base row)
-          ∙ same_six (λ k. (get_or lists k no_links).count) (λ k. unheld_at k f base past) (listed_counts f from base past is_tiled lists w l)
+          ∙ same_six (λ k. (get_or lists k no_links).count) (λ k. unheld_at k f base past)
+          (listed_counts f from base past is_tiled lists w l)
           ∙ unheld_pages
 
     pub torn_pages : (pages ≡ past - base - held.page - held.kernel → ⊥) → whole_at f lists from base past ≡ false
@@ -224,7 +227,8 @@ module _ (board : Board) where
 
     lists_at : all (list_at f x.base end x.row.lists) (range 0 6) ≡ walks_row board f x
     lists_at =
-        ap (λ (t : ℕ → Bool). all t (range 0 6)) (fun_ext (λ k. walks_at_lem k (links_at x k).count 0 (links_at x k).front (links_at x k).back))
+        ap (λ (t : ℕ → Bool). all t (range 0 6))
+        (fun_ext (λ k. walks_at_lem k (links_at x k).count 0 (links_at x k).front (links_at x k).back))
 
     whole_at_lem : whole_at f x.row.lists start x.base end ≡ whole_row board f x
     unfolding whole_at
