@@ -1,6 +1,30 @@
--- The walk of a list from both ends. What lies between the ends is tested alike whether the next node is taken off the front or off the back, on any
--- records: rings and numbers of no page too.
-use Rattle.std.proofs.Common.{◌≡◌, ℕ, zero, suc, ◌-◌, ◌<◌, Bool, true, false, ◌&&◌, eqb, List, get_or, Some, None, sym, refl, ap, ◌∙◌, arith, eq-eqb, ne_eqb, eqb-true}
+-- The walk of a list from both ends. What lies between the ends is tested alike whether the next node is taken off the front or off the
+-- back, on any records: rings and numbers of no page too.
+use Rattle.std.proofs.Common.{
+  ◌≡◌,
+  ℕ,
+  zero,
+  suc,
+  ◌-◌,
+  ◌<◌,
+  Bool,
+  true,
+  false,
+  ◌&&◌,
+  eqb,
+  List,
+  get_or,
+  Some,
+  None,
+  sym,
+  refl,
+  ap,
+  ◌∙◌,
+  arith,
+  eq-eqb,
+  ne_eqb,
+  eqb-true,
+}
 use mathlib.Core.Bool.{and-false, and_comm}
 use native.Mathlib.Decide.{ℕ_discrete}
 use Rattle.definition.specs.declared.Links.{Links}
@@ -97,7 +121,8 @@ module _ (f : Records) (base past k : ℕ) where
 
     -- a node off each end
     pub both_step : (n prev at next last p q : ℕ) → 1 < n → Some p ≡ page_on f base past kind at → Some q ≡ page_on f base past kind last
-        → between n prev at next last ≡ (eqb (f p).earlier prev && (eqb (f q).later next && between (n - 2) at (f p).later last (f q).earlier))
+        → between n prev at next last
+        ≡ (eqb (f p).earlier prev && (eqb (f q).later next && between (n - 2) at (f p).later last (f q).earlier))
     both_step n prev at next last p q l g h =
         let two : n - 1 - 1 ≡ n - 2 = omega arith in
         front_step n prev at next last p (omega arith) g

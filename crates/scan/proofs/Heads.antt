@@ -1,9 +1,9 @@
--- The heads of a region: what the test of one says, how stepping from one leads to the next, and that each page of a tiled region is a head or inside of
--- one.
-use Rattle.std.proofs.Common.{◌≡◌, ℕ, zero, suc, ◌+◌, ◌-◌, ◌%◌, ◌<◌, ◌≤◌, Bool, true, false, cond, ◌&&◌, eqb, ltb, leb, ◌⊎◌, List, [], ◌∷◌, Some, None, sym, refl, ap, ◌∙◌, subst, inl, inr, ⊎_elim, arith, ltb-true, lt-ltb, eq-eqb, eqb-true, le-leb, leb-true}
-use native.Mathlib.Nat.{mod-one}
+-- The heads of a region: what the test of one says, how stepping from one leads to the next, and that each page of a tiled region is a head
+-- or inside of one.
+use Rattle.std.proofs.Common.{◌≡◌, ℕ, zero, suc, ◌+◌, ◌-◌, ◌%◌, ◌<◌, ◌≤◌, Bool, true, false, cond, ◌&&◌, eqb, ltb, leb, ◌⊎◌, List, [], ◌∷◌, Some, None, sym, refl, ap, ◌∙◌, subst, inl, inr, ⊎_elim, arith, ltb-true, lt-ltb, eqb-true, le-leb, leb-true}
 use native.Mathlib.Decide.{ℕ_discrete, dec_le, dec_lt}
 use borrow.Author.Tests.{lt-leb}
+use Rattle.std.proofs.lemmas.Bool.Decides.{nat_tests}
 use Rattle.definition.specs.declared.Record.{Record}
 use Rattle.definition.specs.Basics.{all, range}
 use Rattle.definition.specs.Frame.{size, levels}
@@ -43,35 +43,15 @@ module _ (f : Records) (from base past h : ℕ) where
         inside = λ q l k. range_in (λ q. is_blank (f q)) (h + 1) (size (level_in (f h).level) - 1) e q (omega arith) (omega arith);
       }
 
-  -- once all else is tested, the zeros inside are what is left
-  pub head_rest : admitted_bit (f h).marks ≡ 1 → (f h).marks < named_marks → level_in (f h).level < levels → (from + (h - base)) % size (level_in (f h).level) ≡ 0 → h + size (level_in (f h).level) ≤ past
-      → head_at f from base past h ≡ all (λ q. is_blank (f q)) (range (h + 1) (size (level_in (f h).level) - 1))
-  unfolding head_at
-  head_rest a k l g e =
-      rw (
-        eq-eqb (admitted_bit (f h).marks) 1 a,
-        lt-ltb (f h).marks named_marks k,
-        lt-ltb (level_in (f h).level) levels l,
-        eq-eqb ((from + (h - base)) % size (level_in (f h).level)) 0 g,
-        le-leb (h + size (level_in (f h).level)) past e,
-      )
-
   -- a frame of one page has nothing inside
-  pub head_small : admitted_bit (f h).marks ≡ 1 → (f h).marks < named_marks → level_in (f h).level ≡ 0 → h < past → head_at f from base past h ≡ true
-  unfolding all range
+  pub head_small : admitted_bit (f h).marks ≡ 1 → (f h).marks < named_marks → level_in (f h).level ≡ 0 → h < past
+      → head_at f from base past h ≡ true
+  unfolding head_at all range
   head_small a k z l =
       let one : size (level_in (f h).level) ≡ 1 = ap size z in
-      head_rest a k (omega arith) (rw one (mod-one (from + (h - base)))) (omega arith) ∙ rw one
+      rw one (grind (arith, nat_tests))
 
   -- ---- its pages
-
-  pub pages_none : false ≡ head_at f from base past h → None ≡ head_pages f from base past h
-  unfolding head_pages
-  pages_none e = rw (← e)
-
-  pub pages_some : head_at f from base past h ≡ true → Some (size (level_in (f h).level)) ≡ head_pages f from base past h
-  unfolding head_pages
-  pages_some e = rw e
 
   -- by what was read: the marks m and the level l of p pages
   pub head_read : (m l p : ℕ) → m ≡ (f h).marks → l ≡ level_in (f h).level → p ≡ size l
@@ -93,13 +73,21 @@ module _ (f : Records) (from base past h : ℕ) where
       go true d = cc
       go false d = refl
 
-  pub some_pages : (p : ℕ) → Some p ≡ head_pages f from base past h → (head_at f from base past h ≡ true) × (p ≡ size (level_in (f h).level))
+  pub some_pages : (p : ℕ) → Some p ≡ head_pages f from base past h
+      → (head_at f from base past h ≡ true) × (p ≡ size (level_in (f h).level))
   unfolding head_pages
   some_pages p e = go (head_at f from base past h) e
     where
       go : (t : Bool) → Some p ≡ cond t (Some (size (level_in (f h).level))) None → (t ≡ true) × (p ≡ size (level_in (f h).level))
       go true d = (refl, cc)
       go false d = absurd (cc)
+
+  -- they are of the region
+  pub pages_within : (p : ℕ) → Some p ≡ head_pages f from base past h → (0 < p) × (h + p ≤ past)
+  pages_within p e =
+      let q = some_pages p e in
+      let d = head_facts q.0 in
+      (omega (arith, q.1, size_positive (level_in (f h).level)), omega (arith, q.1, d.fits))
 
 pub pages_small : (r : Record) → level_in r.level < levels → pages_of_record r ≡ size (level_in r.level)
 pages_small r l = rw (lt-ltb (level_in r.level) levels l)

@@ -1,30 +1,15 @@
--- Runs of unheld frames of one page; and that the marks and the level of a record as one number tell the frames on a list from all others where no page of the
--- region has a mark bit but those named.
-use Rattle.std.proofs.Common.{◌≡◌, ℕ, ◌+◌, ◌-◌, ◌/◌, ◌%◌, ◌<◌, ◌≤◌, Bool, true, false, cond, eqb, ltb, Some, None, refl, sym, ◌∙◌, arith, ltb-true, lt-ltb, eq-eqb, ne_eqb, le-leb, leb-true}
-use native.Mathlib.Decide.{ℕ_discrete, dec_lt}
+-- The marks and the level of a record as one number tell the frames on a list from all others where no page of the region has a mark bit
+-- but those named.
+use Rattle.std.proofs.Common.{◌≡◌, ℕ, ◌-◌, ◌/◌, ◌%◌, ◌<◌, ◌≤◌, Bool, true, false, cond, eqb, ltb, Some, None, refl, sym, ◌∙◌, arith, ltb-true, lt-ltb, eq-eqb, ne_eqb, le-leb, leb-true}
+use native.Mathlib.Decide.{ℕ_discrete}
 use Rattle.definition.specs.Basics.{bit}
 use Rattle.definition.specs.World.{level_in}
 use Rattle.definition.specs.Torn.{Records}
 use Rattle.definition.proofs.Tests.{same_test, and_left, and_right}
-use Rattle.record.specs.Records.{of_kind, free_page}
+use Rattle.record.specs.Records.{of_kind}
 use Rattle.record.proofs.Decoding.{by_kind, to_kind}
-use Rattle.scan.specs.Sheet.{Free, Marked, kind_on, on_kind, page_on, on_at, node_at, back_node_at}
+use Rattle.scan.specs.Sheet.{Marked, kind_on, on_kind, page_on, on_at, node_at, back_node_at}
 use Rattle.scan.proofs.Nodes.{on_facts, on_test, node_on}
-
--- ---- unheld frames of one page
-
--- a run of them, with the run behind it
-pub free_then : (f : Records) (first at past : ℕ) → Free f first at → Free f at past → Free f first past
-free_then f first at past h t q low high = go (dec_lt q at)
-  where
-    go : Dec (q < at) → free_page (f q) ≡ true
-    go (yes l) = h q low l
-    go (no l) = t q (omega arith) high
-
--- and with the page behind it
-pub free_more : (f : Records) (first at past : ℕ) → Free f first at → free_page (f at) ≡ true → past ≡ at + 1 → Free f first past
-free_more f first at past h t e =
-    free_then f first at past h (λ q low high. let same : q ≡ at = omega arith in rw same t)
 
 -- ---- the frames on a list
 
@@ -48,12 +33,6 @@ module _ (f : Records) (base past : ℕ) where
   kind_in n at l h = rw (lt-ltb base at l, le-leb at past h)
 
   -- the page that a number names, and where it names none
-  pub page_some : (n at : ℕ) → on_kind f base past n at ≡ true → Some (at - 1) ≡ page_on f base past n at
-  page_some n at e = rw e
-
-  pub page_none : (n at : ℕ) → on_kind f base past n at ≡ false → None ≡ page_on f base past n at
-  page_none n at e = rw e
-
   none_page : (n at : ℕ) → None ≡ page_on f base past n at → on_kind f base past n at ≡ false
   none_page n at e = go (on_kind f base past n at) e
     where
@@ -82,7 +61,8 @@ module _ (f : Records) (base past : ℕ) where
         let p = kind_place (kind_on k) at t in
         let s = marked (at - 1) (omega arith) (omega arith) in
         let d = by_kind (f (at - 1)) s (k / 2) (eqb (k % 2) 1) (sym (kind_in (kind_on k) at p.0 p.1) ∙ t) in
-        on_test f base past k at (record { low = p.0; high = p.1; admitted = d.0; unheld = d.1; class = omega (arith, d.2, d.3, odd_bit k) }))
+        on_test f base past k at
+        (record { low = p.0; high = p.1; admitted = d.0; unheld = d.1; class = omega (arith, d.2, d.3, odd_bit k) }))
         (λ t.
         let d = on_facts f base past k at t in
         let s = marked (at - 1) (omega arith) (omega arith) in

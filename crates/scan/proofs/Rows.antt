@@ -1,5 +1,30 @@
 -- What the tests of a region say of its sheet, by its numbers; that sheet as a placed row's, and a placed row's in the sheet of the world.
-use Rattle.std.proofs.Common.{◌≡◌, ℕ, zero, suc, ◌+◌, ◌-◌, ◌*◌, ◌<◌, ◌≤◌, Bool, true, false, ◌&&◌, List, get_or, Option, Some, None, sym, refl, ap, ◌∙◌, arith, lit<}
+use Rattle.std.proofs.Common.{
+  ◌≡◌,
+  ℕ,
+  zero,
+  suc,
+  ◌+◌,
+  ◌-◌,
+  ◌*◌,
+  ◌<◌,
+  ◌≤◌,
+  Bool,
+  true,
+  false,
+  ◌&&◌,
+  List,
+  get_or,
+  Option,
+  Some,
+  None,
+  sym,
+  refl,
+  ap,
+  ◌∙◌,
+  arith,
+  lit<,
+}
 use mathlib.Core.Bool.{false≢true}
 use mathlib.Core.Path.{fun_ext}
 use Rattle.definition.specs.declared.Links.{Links}
@@ -8,7 +33,20 @@ use Rattle.definition.specs.Board.{Board}
 use Rattle.definition.specs.Basics.{all, sum, range}
 use Rattle.definition.specs.Allocator.{first}
 use Rattle.definition.specs.World.{no_links, bare_region}
-use Rattle.definition.specs.Torn.{Placed, Records, past as past_of, is_node, walks, links_at, listed_pages, tiled, held_alone, lists_walk, unheld_listed, held_pages}
+use Rattle.definition.specs.Torn.{
+  Placed,
+  Records,
+  past as past_of,
+  is_node,
+  walks,
+  links_at,
+  listed_pages,
+  tiled,
+  held_alone,
+  lists_walk,
+  unheld_listed,
+  held_pages,
+}
 use Rattle.definition.proofs.Tests.{and_left, and_right, and-true, range_in}
 use Rattle.scan.specs.declared.HeldPages.{HeldPages}
 use Rattle.scan.specs.Sheet.{
@@ -63,11 +101,14 @@ module _ (board : Board) where
     held_rows kernel = refl
 
     -- the four clauses together
-    pub whole_rows : all (whole_row board f) xs ≡ (tiled board f xs && (held_alone board f xs && (lists_walk board f xs && unheld_listed board f xs)))
+    pub whole_rows : all (whole_row board f) xs
+        ≡ (tiled board f xs && (held_alone board f xs && (lists_walk board f xs && unheld_listed board f xs)))
     whole_rows =
         all_both (tiled_row board f) (λ x. alone_row board f x && (walks_row board f x && listed_row board f x)) xs
-        ∙ ap (λ (t : Bool). all (tiled_row board f) xs && t) (all_both (alone_row board f) (λ x. walks_row board f x && listed_row board f x) xs)
-        ∙ ap (λ (t : Bool). all (tiled_row board f) xs && (all (alone_row board f) xs && t)) (all_both (walks_row board f) (listed_row board f) xs)
+        ∙ ap (λ (t : Bool). all (tiled_row board f) xs && t)
+        (all_both (alone_row board f) (λ x. walks_row board f x && listed_row board f x) xs)
+        ∙ ap (λ (t : Bool). all (tiled_row board f) xs && (all (alone_row board f) xs && t))
+        (all_both (walks_row board f) (listed_row board f) xs)
         ∙ rw (tiled_rows, alone_rows, walks_rows, listed_rows)
 
 -- ---- what a scan and the lists' test say of a region, by its numbers
@@ -131,7 +172,8 @@ module _ (f : Records) (row : Row) (from base past : ℕ) where
       listed_full : listed_at f lists base past ≡ true → pages ≡ past - base - held.page - held.kernel
       listed_full l =
           listed_six (placed_at base row)
-          ∙ same_six (λ k. (get_or lists k no_links).count) (λ k. unheld_at k f base past) (listed_counts f from base past is_tiled lists w l)
+          ∙ same_six (λ k. (get_or lists k no_links).count) (λ k. unheld_at k f base past)
+          (listed_counts f from base past is_tiled lists w l)
           ∙ unheld_pages
 
     pub torn_pages : (pages ≡ past - base - held.page - held.kernel → ⊥) → whole_at f lists from base past ≡ false
@@ -185,14 +227,16 @@ module _ (board : Board) where
 
     lists_at : all (list_at f x.base end x.row.lists) (range 0 6) ≡ walks_row board f x
     lists_at =
-        ap (λ (t : ℕ → Bool). all t (range 0 6)) (fun_ext (λ k. walks_at_lem k (links_at x k).count 0 (links_at x k).front (links_at x k).back))
+        ap (λ (t : ℕ → Bool). all t (range 0 6))
+        (fun_ext (λ k. walks_at_lem k (links_at x k).count 0 (links_at x k).front (links_at x k).back))
 
     whole_at_lem : whole_at f x.row.lists start x.base end ≡ whole_row board f x
     unfolding whole_at
     whole_at_lem = rw (tiled_at_lem, alone_at_lem, lists_at, listed_at_lem)
 
     -- what is found of a region by its numbers, of the row that it is of
-    pub audited_row : (from past : ℕ) (r : Option HeldPages) → from ≡ start → past ≡ end → AuditedAt f x.row from x.base past r → Audited board f x r
+    pub audited_row : (from past : ℕ) (r : Option HeldPages) → from ≡ start → past ≡ end → AuditedAt f x.row from x.base past r
+        → Audited board f x r
     audited_row from past None d e t = sym whole_at_lem ∙ rw (← d, ← e) t
     audited_row from past (Some held) d e t =
         record {

@@ -1,5 +1,5 @@
--- The scan's invariant and its turns: what is left from a page on decides as the whole does, and the pages held so far with those of what is left are the
--- whole's.
+-- The scan's invariant and its turns: what is left from a page on decides as the whole does, and the pages held so far with those of what
+-- is left are the whole's.
 use Rattle.std.proofs.Common.{◌≡◌, ℕ, zero, suc, ◌+◌, ◌-◌, ◌<◌, ◌≤◌, Bool, true, false, ◌&&◌, List, sym, refl, ap, ◌∙◌, arith, ne_eqb}
 use Rattle.definition.specs.Basics.{all, sum}
 use Rattle.definition.specs.Frame.{size}
@@ -39,13 +39,15 @@ module _ (f : Records) (from base past : ℕ) where
   unfolding all
   tests_step at s l e = ap (all good) (heads_step f past at s l e)
 
-  held_step : (kernel : Bool) (at s : ℕ) → at < past → s ≡ pages_of_record (f at) → held_left kernel at ≡ held_as kernel (f at) + held_left kernel (at + s)
+  held_step : (kernel : Bool) (at s : ℕ) → at < past → s ≡ pages_of_record (f at)
+      → held_left kernel at ≡ held_as kernel (f at) + held_left kernel (at + s)
   unfolding sum
   held_step kernel at s l e = ap (sum (λ h. held_as kernel (f h))) (heads_step f past at s l e)
 
   -- a head that passed, of s pages
-  pub scan_turn : (page kernel at s p k : ℕ) → Scanning page kernel at → at < past → good at ≡ true → s ≡ pages_of_record (f at) → at + s ≤ past
-      → p ≡ page + held_as false (f at) → k ≡ kernel + held_as true (f at) → held_as false (f at) + held_as true (f at) ≤ s → Scanning p k (at + s)
+  pub scan_turn : (page kernel at s p k : ℕ) → Scanning page kernel at → at < past → good at ≡ true → s ≡ pages_of_record (f at)
+      → at + s ≤ past → p ≡ page + held_as false (f at) → k ≡ kernel + held_as true (f at) → held_as false (f at) + held_as true (f at) ≤ s
+      → Scanning p k (at + s)
   scan_turn page kernel at s p k i l g e fits ep ek most =
       record {
         low = omega arith;
@@ -82,7 +84,8 @@ module _ (f : Records) (from base past : ℕ) where
   unfolding tiled_at alone_at
   apart = all_both (head_at f from base past) (λ h. alone_if_held (f h)) (left base)
 
-  pub scan_bad : (page kernel at : ℕ) → Scanning page kernel at → at < past → good at ≡ false → (tiled_at f from base past && alone_at f base past) ≡ false
+  pub scan_bad : (page kernel at : ℕ) → Scanning page kernel at → at < past → good at ≡ false
+      → (tiled_at f from base past && alone_at f base past) ≡ false
   scan_bad page kernel at i l g = sym apart ∙ i.tests ∙ tests_step at (pages_of_record (f at)) l refl ∙ rw g
 
   module _ (page kernel at : ℕ) (i : Scanning page kernel at) (l : past ≤ at) where

@@ -1,6 +1,36 @@
--- The torn sheet of one region. The code gets the region by numbers: `from` is the page frame number of its first managed page, `base` that page's number in
--- the records, `past` the number behind its last. Each clause of `Torn` over the rows is `all` over the clause of a placed row, the last part here.
-use Rattle.std.specs.Prelude.{◌≡◌, ℕ, zero, suc, ◌+◌, ◌-◌, ◌*◌, ◌/◌, ◌%◌, ◌<◌, ◌≤◌, Bool, true, false, cond, not, ◌&&◌, ◌||◌, List, get_or, ◌==◌, nat_le, nat_lt, slice_index_or, Option, Some, None, MatchOption}
+-- The torn sheet of one region. The code gets the region by numbers: `from` is the page frame number of its first managed page, `base` that
+-- page's number in the records, `past` the number behind its last. Each clause of `Torn` over the rows is `all` over the clause of a placed
+-- row, the last part here.
+use Rattle.std.specs.Prelude.{
+  ◌≡◌,
+  ℕ,
+  zero,
+  suc,
+  ◌+◌,
+  ◌-◌,
+  ◌*◌,
+  ◌/◌,
+  ◌%◌,
+  ◌<◌,
+  ◌≤◌,
+  Bool,
+  true,
+  false,
+  cond,
+  not,
+  ◌&&◌,
+  ◌||◌,
+  List,
+  get_or,
+  ◌==◌,
+  nat_le,
+  nat_lt,
+  slice_index_or,
+  Option,
+  Some,
+  None,
+  MatchOption,
+}
 use Rattle.definition.specs.declared.Record.{Record}
 use Rattle.definition.specs.declared.Links.{Links}
 use Rattle.definition.specs.declared.Row.{Row}
@@ -74,8 +104,8 @@ Marked f base past = (q : ℕ) → base ≤ q → q < past → (f q).marks < nam
 abbrev pub kind_on : ℕ → ℕ
 kind_on k = free_kind (k / 2) (k % 2 == 1)
 
--- the number `at` names a page of the region with such a record, with KERNEL or without: of kind_on k it says what `on_at` says of k, where no page has
--- other mark bits
+-- the number `at` names a page of the region with such a record, with KERNEL or without: of kind_on k it says what `on_at` says of k, where
+-- no page has other mark bits
 unfoldable pub on_kind : Records → (base past kind at : ℕ) → Bool
 on_kind f base past kind at = nat_lt base at && (nat_le at past && of_kind kind (f (at - 1)))
 
@@ -113,7 +143,8 @@ abbrev pub level_at : Records → (base past : ℕ) → List Links → ℕ → B
 level_at f base past lists level = list_at f base past lists (2 * level) && list_at f base past lists (2 * level + 1)
 
 unfoldable pub listed_at : Records → List Links → (base past : ℕ) → Bool
-listed_at f lists base past = all (λ h. is_held_record (f h) || member h (pages_of f (slice_index_or lists (class_of (f h)) no_links))) (heads_of f base past)
+listed_at f lists base past =
+    all (λ h. is_held_record (f h) || member h (pages_of f (slice_index_or lists (class_of (f h)) no_links))) (heads_of f base past)
 
 -- ---- what the functions answer
 

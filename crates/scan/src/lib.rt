@@ -66,8 +66,10 @@ fn is_alone(records: &[u8], h: usize) -> bool
 }
 
 impl<'a> Region<'a> {
-    // "ADMITTED, aligned heads of level 0 to 2 with no mark bits but those named, .. zeros inside": the pages of such a head. A frame of one
-    // page is aligned and has nothing inside, and is told apart by a branch of its own, so that the step to the next head waits for no load.
+    // "ADMITTED, aligned heads of level 0 to 2 with no mark bits but those named, .. zeros inside": the pages of such a head. A frame of
+    // one page is aligned and has nothing inside, and is told apart by a branch of its own, so that the step to the next head waits for
+    // no load.
+    #[tactic(auto, using(level::proofs::Sizes::size_positive))]
     fn head_pages(&self, h: usize) -> Option<usize>
         requires { (self.now.base ≤ h) × (h < self.now.past) }
         ensures { result ≡ head_pages (record_at self.now.records.now) self.now.from self.now.base self.now.past h }
@@ -94,8 +96,8 @@ impl<'a> Region<'a> {
         }
     }
 
-    // A page up to which there are only unheld frames of one page. They come in long runs: four are looked at in a step, and where less than
-    // four are left it stops.
+    // A page up to which there are only unheld frames of one page. They come in long runs: four are looked at in a step, and where less
+    // than four are left it stops.
     fn past_free(&self, first: usize) -> usize
         requires { first ≤ self.now.past }
         ensures { (first ≤ result) × (result ≤ self.now.past) × Free (record_at self.now.records.now) first result }
@@ -109,6 +111,7 @@ impl<'a> Region<'a> {
 
     // "stepping by frame size from each region's first managed page": the heads, tested, and the pages of those that are held. At the first
     // that is bad it stops.
+    #[tactic(auto, using(crate::proofs::Heads::pages_within))]
     fn scan(&self) -> Option<HeldPages>
         ensures { Tallied (record_at self.now.records.now) self.now.from self.now.base self.now.past result }
     {
@@ -158,6 +161,7 @@ fn is_none(links: Links) -> bool
 impl<'a> Region<'a> {
     // The page that the number `at` names, where it is of the region and an unheld frame, whose marks and level are `kind`, with KERNEL or
     // without. A number up to `base` wraps to one past the region's last, so that one comparison tells both ends.
+    #[tactic(auto, using(std::proofs::lemmas::Bool::Decides::nat_tests), unfolding(crate::specs::Sheet::on_kind))]
     fn page_on(&self, kind: u64, at: u32) -> Option<usize>
         requires { kind < 2 ^ 63 }
         ensures { result ≡ page_on (record_at self.now.records.now) self.now.base self.now.past kind at }
@@ -176,7 +180,9 @@ impl<'a> Region<'a> {
 
     // "each list walks front to back in its count, both ways, over unheld frames of its region, level and mark". From both ends at once:
     // where the nodes are scattered, each step waits for memory, and the two chains of steps wait side by side. It comes after the scan: as
-    // no page then has a mark bit but those named, marks and level are compared as one number.
+    // no page then has a mark bit but those named, marks and level are compared as one number. It is kept out of line: else the test of an
+    // empty list goes out of line with it, and an audit of 16 listed pages takes 63 ns in place of 55.
+    #[tactic(auto, using(crate::proofs::Marks::page_within))]
     #[inline(never)]
     fn walk(&self, k: usize, links: Links) -> bool
         requires list { k < 6 }
@@ -197,9 +203,7 @@ impl<'a> Region<'a> {
             let Some(back) = self.page_on(kind, last) else {
                 return false;
             };
-            if record::earlier(records, front) != prev
-                || record::later(records, back) != next
-            {
+            if record::earlier(records, front) != prev || record::later(records, back) != next {
                 return false;
             }
             prev = at;

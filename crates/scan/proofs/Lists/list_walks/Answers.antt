@@ -11,4 +11,5 @@ returns-then-is_none c =
     let r = s.region.now in
     let lists = (row_of (rows_in s.words.now) s.i).lists in
     let e = c.if-is_none.true in
-    e ∙ sym (none_walks (record_at r.records.now) r.base r.past lists c.args.k c.list_at-links.result c.list_at-links.ensures (sym c.is_none.ensures ∙ e))
+    let l = c.list_at-links in
+    e ∙ sym (none_walks (record_at r.records.now) r.base r.past lists c.args.k l.result l.ensures (sym c.is_none.ensures ∙ e))

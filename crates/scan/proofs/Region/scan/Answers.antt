@@ -58,25 +58,6 @@ returns-then-not-is_alone c =
     let n = alone_held (f l.at) _ c.marks-marks.ensures h ∙ sym c.is_alone.ensures ∙ c.if-not-is_alone.true in
     scan_bad f s.from s.base s.past l.page l.kernel l.at l.invariant (omega arith) (rw (r.0, n))
 
-pub overflow_add-kernel : goal.overflow_add-kernel
-overflow_add-kernel c =
-    let r = room (goal.at.overflow_add-kernel c).In_ok-pages in
-    omega (arith, c.loop-at.invariant.few)
-
-pub overflow_add-page : goal.overflow_add-page
-overflow_add-page c =
-    let r = room (goal.at.overflow_add-page c).In_ok-pages in
-    omega (arith, c.loop-at.invariant.few)
-
-pub overflow_add-at-else-is_free_page : goal.overflow_add-at-else-is_free_page
-overflow_add-at-else-is_free_page c = let r = room (goal.at.overflow_add-at-else-is_free_page c).In_ok-pages in omega arith
-
-pub past_free-at-requires-else-is_free_page : goal.past_free-at-requires-else-is_free_page
-past_free-at-requires-else-is_free_page c = (room (goal.at.past_free-at-requires-else-is_free_page c).In_ok-pages).2
-
-pub loop-at-smaller : goal.loop-at-smaller
-loop-at-smaller c = let r = room (goal.at.loop-at-smaller c).In_ok-pages in omega (arith, c.past_free-at-else-is_free_page.ensures.0)
-
 -- a turn, once it is known what the head adds
 turn : (c : After-past_free-at-else-is_free_page) →
     let s = c.args.self.now in
@@ -113,11 +94,13 @@ loop-at-preserved c =
       | goal.then-is_allocated+else-not-is_alone+then-is_kernel w ↦
           let h = sym i.ensures ∙ w.if-is_allocated.true in
           let q = held_kernel r _ m h (sym w.is_kernel.ensures ∙ w.if-is_kernel.true) in
-          turn after (alone_held r _ m h ∙ sym w.is_alone.ensures ∙ w.if-not-is_alone.false) (omega (arith, w.page-is)) (omega (arith, w.kernel-is)) (omega arith)
+          turn after (alone_held r _ m h ∙ sym w.is_alone.ensures ∙ w.if-not-is_alone.false)
+          (omega (arith, w.page-is)) (omega (arith, w.kernel-is)) (omega arith)
       | goal.then-is_allocated+else-not-is_alone+else-is_kernel w ↦
           let h = sym i.ensures ∙ w.if-is_allocated.true in
           let q = held_page r _ m h (sym w.is_kernel.ensures ∙ w.if-is_kernel.false) in
-          turn after (alone_held r _ m h ∙ sym w.is_alone.ensures ∙ w.if-not-is_alone.false) (omega (arith, w.page-is)) (omega (arith, w.kernel-is)) (omega arith)
+          turn after (alone_held r _ m h ∙ sym w.is_alone.ensures ∙ w.if-not-is_alone.false)
+          (omega (arith, w.page-is)) (omega (arith, w.kernel-is)) (omega arith)
       | goal.else-is_allocated w ↦
           let h = sym i.ensures ∙ w.if-is_allocated.false in
           let p = held_free r _ m h false in

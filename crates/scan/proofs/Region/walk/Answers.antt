@@ -2,7 +2,6 @@
 use Rattle.std.proofs.Common.{◌≡◌, ◌-◌, ◌&&◌, eqb, sym, ◌∙◌, arith, rules, eq-eqb, ne_eqb}
 use Rattle.definition.specs.World.{record_at}
 use Rattle.scan.specs.Sheet.{walks_at}
-use Rattle.scan.proofs.Marks.{page_within}
 use Rattle.scan.proofs.Ends.{between, walks_between, between_none, no_front, no_back, one_step, both_step}
 use Rattle.scan.proofs.Region.walk.Goals as goal
 use Rattle.scan.proofs.Region.walk.Goals.{
@@ -59,23 +58,12 @@ both c =
     ∙ both_step (record_at s.records.now) s.base s.past c.args.k c.requires.marked kind.result kind.ensures.0
     l.left l.prev l.at l.next l.last c.in-Some.front c.in-Some-page_on.back (omega arith) c.in-Some.ensures c.in-Some-page_on.ensures
 
-pub earlier-requires : goal.earlier-requires
-earlier-requires c =
-    let s = c.args.self.now in
-    let w = page_within (record_at s.records.now) s.base s.past c.list_kind-kind.result c.loop-left.at c.in-Some.front c.in-Some.ensures in
-    omega arith
-
-pub later-requires : goal.later-requires
-later-requires c =
-    let s = c.args.self.now in
-    let w = page_within (record_at s.records.now) s.base s.past c.list_kind-kind.result c.loop-left.last c.in-Some-page_on.back c.in-Some-page_on.ensures in
-    omega arith
-
 pub returns-then-earlier-prev : goal.returns-then-earlier-prev
 returns-then-earlier-prev c =
     let e = both (goal.at.returns-then-earlier-prev c).In-Some-page_on in
     elim c.then-earlier-prev.branch [
-      | then-earlier-prev-via-then-earlier-prev w ↦ sym (e ∙ rw (← c.earlier.ensures, ne_eqb c.earlier.result c.loop-left.prev w.if-earlier-prev.true))
+      | then-earlier-prev-via-then-earlier-prev w ↦
+          sym (e ∙ rw (← c.earlier.ensures, ne_eqb c.earlier.result c.loop-left.prev w.if-earlier-prev.true))
       | then-earlier-prev-via-else-earlier-prev+then-later-next w ↦
           sym
           (e
@@ -86,18 +74,6 @@ returns-then-earlier-prev c =
             ne_eqb w.later.result c.loop-left.next w.if-later-next.true,
           ))
     ]
-
-pub later-at-requires : goal.later-at-requires
-later-at-requires c =
-    let s = c.args.self.now in
-    let w = page_within (record_at s.records.now) s.base s.past c.list_kind-kind.result c.loop-left.at c.in-Some.front c.in-Some.ensures in
-    omega arith
-
-pub earlier-last-requires : goal.earlier-last-requires
-earlier-last-requires c =
-    let s = c.args.self.now in
-    let w = page_within (record_at s.records.now) s.base s.past c.list_kind-kind.result c.loop-left.last c.in-Some-page_on.back c.in-Some-page_on.ensures in
-    omega arith
 
 pub loop-left-preserved : goal.loop-left-preserved
 loop-left-preserved c = (
@@ -124,12 +100,6 @@ returns-in_default-page_on-2 c =
     ∙ no_front (record_at s.records.now) s.base s.past c.args.k c.requires.marked kind.result kind.ensures.0
     l.left l.prev l.at l.next l.last (omega arith) c.in_default-page_on-2.ensures)
 
-pub earlier-requires-then-left-eq1 : goal.earlier-requires-then-left-eq1
-earlier-requires-then-left-eq1 c =
-    let s = c.args.self.now in
-    let w = page_within (record_at s.records.now) s.base s.past c.list_kind-kind.result c.loop-left.at c.in-Some-page_on-2.front c.in-Some-page_on-2.ensures in
-    omega arith
-
 pub returns-then-earlier-prev-2 : goal.returns-then-earlier-prev-2
 returns-then-earlier-prev-2 c =
     let s = c.args.self.now in
@@ -142,12 +112,6 @@ returns-then-earlier-prev-2 c =
     ∙ one_step (record_at s.records.now) s.base s.past c.args.k c.requires.marked kind.result kind.ensures.0
     l.left l.prev l.at l.next l.last front.front c.if-left-eq1.true front.ensures
     ∙ rw (← e.ensures, ne_eqb e.result l.prev c.if-earlier-prev-2.true))
-
-pub later-at-requires-then-left-eq1 : goal.later-at-requires-then-left-eq1
-later-at-requires-then-left-eq1 c =
-    let s = c.args.self.now in
-    let w = page_within (record_at s.records.now) s.base s.past c.list_kind-kind.result c.loop-left.at c.in-Some-page_on-2.front c.in-Some-page_on-2.ensures in
-    omega arith
 
 -- the two ends meet
 meet : (c : Joined-left-eq1)
@@ -169,11 +133,15 @@ meet c =
           l.left l.prev l.at l.next l.last front.front w.if-left-eq1.true front.ensures
           ∙ rw (← e.ensures, eq-eqb e.result l.prev w.if-earlier-prev-2.false, ← w.later-at-then-left-eq1.ensures, w.at-is, w.prev-is)
       | else-left-eq1 w ↦
-          l.invariant.2 ∙ between_none f s.base s.past c.args.k l.left l.prev l.at l.next l.last (omega (arith, w.if-left-eq1.false)) ∙ rw (w.at-is, w.prev-is)
+          l.invariant.2
+          ∙ between_none f s.base s.past c.args.k l.left l.prev l.at l.next l.last (omega (arith, w.if-left-eq1.false))
+          ∙ rw (w.at-is, w.prev-is)
     ]
 
 pub returns-then-at-next : goal.returns-then-at-next
-returns-then-at-next c = sym (meet (goal.at.returns-then-at-next c).Joined-left-eq1 ∙ rw (eq-eqb c.if-left-eq1.at c.loop-left.next c.if-at-next.true))
+returns-then-at-next c =
+    sym (meet (goal.at.returns-then-at-next c).Joined-left-eq1 ∙ rw (eq-eqb c.if-left-eq1.at c.loop-left.next c.if-at-next.true))
 
 pub returns-else-at-next : goal.returns-else-at-next
-returns-else-at-next c = sym (meet (goal.at.returns-else-at-next c).Joined-left-eq1 ∙ rw (ne_eqb c.if-left-eq1.at c.loop-left.next c.if-at-next.false))
+returns-else-at-next c =
+    sym (meet (goal.at.returns-else-at-next c).Joined-left-eq1 ∙ rw (ne_eqb c.if-left-eq1.at c.loop-left.next c.if-at-next.false))

@@ -10,7 +10,8 @@ invariant-loop-left l =
     let f = record_at l.self.records.now in
     (l.at < 4294967296)
     × (l.last < 4294967296)
-    × (walks_at f l.self.base l.self.past l.k l.fn.links.count 0 l.fn.links.front l.fn.links.back ≡ between f l.self.base l.self.past l.k l.left l.prev l.at l.next l.last)
+    × (walks_at f l.self.base l.self.past l.k l.fn.links.count 0 l.fn.links.front l.fn.links.back
+    ≡ between f l.self.base l.self.past l.k l.left l.prev l.at l.next l.last)
 
 abbrev pub decreases-loop-left : goal.decreases-loop-left
 decreases-loop-left l = l.left
