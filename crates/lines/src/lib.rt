@@ -122,7 +122,7 @@ struct Named {
     most: u64,
 }
 
-// The ops with their names, in the order of definition's `ops`.
+// The ops in the order of definition's `ops`: the name, how many numbers follow, the most that the last may be, the op.
 const OPS: [(&[u8], usize, u64, Op); 18] = [
     (b"region", 3, 2, Op::Region),
     (b"boot", 0, 0, Op::Boot),
