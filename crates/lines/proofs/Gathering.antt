@@ -8,7 +8,7 @@ use mathlib.Core.Path.{◌≡◌, refl, sym, ap, ◌∙◌}
 use native.Mathlib.Omega.{arith}
 use native.Mathlib.Numerals.{add-one}
 use lib.Dec.{ltb, leb}
-use lib.ListN.{length, get_or, drop, length-append}
+use lib.ListN.{length, get_or, drop, length-append, drop_of_length-le}
 use lib.Seq.{drop-cons}
 use borrow.Author.Tests.{le-leb, lt-ltb, lt-leb, ltb-true}
 use Rattle.std.specs.Prelude.{Option, Some, None, option_and_then}
@@ -43,9 +43,11 @@ pub some_from : (s : List ℕ) → 0 < length s → read_number s ≡ number_fro
 some_from [] h = absurd (omega arith)
 some_from (x ∷ s) h = refl
 
-pub from_end : (v : ℕ) → number_from v [] ≡ maybe.some v
+pub end_at : (s : List ℕ) (v i : ℕ) → length s ≤ i → number_from v (drop i s) ≡ maybe.some v
 unfolding number_from
-from_end v = refl
+end_at s v i h = rw (drop_of_length-le s {i = i} h) refl
+
+pub ruleset one_number = (more_at, bad_at, some_from, end_at)
 
 -- ---- all numbers of a line
 

@@ -52,6 +52,8 @@ line_last s at h e =
       next_by = omega arith;
     }
 
+pub ruleset one_line = (line_fed, line_last)
+
 -- ---- a line read whole
 
 pub reads_long : (line : List ℕ) → 512 < length line → Reads line bad_line

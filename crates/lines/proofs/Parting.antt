@@ -19,7 +19,7 @@ use Rattle.std.specs.List.{All, IsFirstMatchOrLen, position, position_or_len, sl
 use Rattle.std.proofs.lemmas.Grind.{common_steps}
 use Rattle.std.proofs.lemmas.List.Splits.{slice_split_none, slice_split_at}
 use Rattle.std.proofs.lemmas.List.Sums.{sum_by-cons}
-use Rattle.std.proofs.lemmas.Option.{cond_some, none-some}
+use Rattle.std.proofs.lemmas.Option.{cond_some, none-some, unwrap_or-slice_get}
 use Rattle.definition.specs.Script.{joined, parts_by, fields, lines}
 
 abbrev pub is_sep : ℕ → ℕ → Bool
@@ -157,3 +157,5 @@ lines_count (b ∷ x ∷ s) =
     count_go (eqb b 10) (eqb x 10) b (count_by (is_sep 10) (x ∷ s)) (open_lines (x ∷ s)) (parts_by 10 [] s) x (lines_count (x ∷ s)) in
     let m = sum_by-cons (λ (y : ℕ). cond (eqb y 10) 1 0) b (x ∷ s) in
     rw p (rw q at (n ∙ ap (λ (k : ℕ). k + open_lines (x ∷ s)) (sym m)))
+
+pub ruleset counted = (lines_count, unwrap_or-slice_get)

@@ -2,7 +2,7 @@
 // `read_line` asks the same.
 #![tactic(auto)]
 
-ghost use Rattle.std.specs.Prelude.{◌≡◌, ◌<◌, ◌≤◌, ◌==◌, length, IfNone, option_map, position, unwrap_or};
+ghost use Rattle.std.specs.Prelude.{◌≡◌, ◌<◌, ◌==◌, length, IfNone, option_map, position, unwrap_or};
 ghost use Rattle.definition.specs.Script.{lines, fields, read_number};
 ghost use Rattle.lines.specs.Reading.{Reads, NextLine};
 ghost use Rattle.lines.specs.Steps.{value_of, no_numbers, pushed, gather, all_ops, pick, bad_line, line_from};
@@ -54,6 +54,7 @@ fn find(s: &[u8], byte: u8) -> Option<usize>
 // ---- numbers
 
 // The number that a whole slice spells.
+#[tactic(auto, using(crate::proofs::Gathering::one_number))]
 fn read_number(s: &[u8]) -> Option<u64>
     ensures { value_of result ≡ read_number s.now }
 {
@@ -121,7 +122,7 @@ struct Named {
     most: u64,
 }
 
-// The ops with their names, in the order of definition's `ops`.
+// The ops in the order of definition's `ops`: the name, how many numbers follow, the most that the last may be, the op.
 const OPS: [(&[u8], usize, u64, Op); 18] = [
     (b"region", 3, 2, Op::Region),
     (b"boot", 0, 0, Op::Boot),
@@ -202,6 +203,7 @@ pub struct Cursor {
     pub next: usize,
 }
 
+#[tactic(auto, using(crate::proofs::Lines::one_line))]
 pub fn next_line(s: &[u8], at: usize) -> Cursor
     requires { at < length s.now }
     ensures { NextLine s.now at result.end result.next }
@@ -219,6 +221,7 @@ pub fn next_line(s: &[u8], at: usize) -> Cursor
 }
 
 // The last line may lack its line feed.
+#[tactic(auto, using(crate::proofs::Parting::counted))]
 pub fn count_lines(s: &[u8]) -> usize
     ensures { result ≡ length (lines s.now) }
 {

@@ -2,7 +2,7 @@
 // calls follow one another, and its contract fixes every byte of the slice (`Wrote`).
 #![tactic(auto)]
 
-ghost use Rattle.std.specs.Prelude.{◌≡◌, ◌++◌, ◌+◌, ◌≤◌, length, drop};
+ghost use Rattle.std.specs.Prelude.{◌++◌, ◌+◌, ◌≤◌, length};
 ghost use Rattle.definition.specs.Text.{digits_of};
 ghost use Rattle.text.specs.Writing.{Wrote};
 
@@ -16,6 +16,7 @@ pub fn put_text(out: &mut [u8], at: usize, text: &[u8]) -> usize
 }
 
 // The decimal digits of `n`.
+#[tactic(auto, using(crate::proofs::Digits::digits_decimal, crate::proofs::Digits::length_digits))]
 pub fn put_number(out: &mut [u8], at: usize, n: u64) -> usize
     requires { at + 20 ≤ length out.old }
     ensures wrote { Wrote out.old at (digits_of n) out.new result }

@@ -2,7 +2,7 @@
 // the statistics as text. Counters go in and come out by value, where the Rust has atomics.
 #![tactic(auto)]
 
-ghost use Rattle.std.specs.Prelude.{◌≡◌, ◌+◌, ◌-◌, ◌^◌, ◌<◌, ◌≤◌, length};
+ghost use Rattle.std.specs.Prelude.{◌≡◌, ◌+◌, ◌^◌, ◌<◌, ◌≤◌, length};
 ghost use Rattle.definition.specs.Board.{Fit};
 ghost use Rattle.definition.specs.Tracker.{
   count_alloc,
