@@ -1,4 +1,5 @@
--- What the script program promises of a script and of what it prints, where the reader and the writer say which bytes theirs are: `Answers`.
+-- What the script program promises of a script and of what it prints, where the reader and the writer say which bytes theirs are:
+-- `Answers`.
 use Rattle.std.specs.Prelude.{ℕ, ◌≤◌, ◌<◌, ◌⊎◌, List, length, Option}
 use Rattle.std.specs.Io.KnownBytes.{Keeps, Appends}
 use Rattle.definition.specs.Script.{lines, room}

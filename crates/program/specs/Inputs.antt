@@ -1,5 +1,5 @@
--- What the programs promise of an input that they read: `Holds`, that its bytes, where the reader says which they are, stand in front of the slice, and that a
--- whole input leaves none behind.
+-- What the programs promise of an input that they read: `Holds`, that its bytes, where the reader says which they are, stand in front of
+-- the slice, and that a whole input leaves none behind.
 use Rattle.std.specs.Prelude.{ℕ, List, take, Option, Result, Ok, Err}
 use Rattle.std.specs.Io.KnownBytes.{Consumes, IsAtEnd}
 use Rattle.program.specs.declared.InputError.{InputError}

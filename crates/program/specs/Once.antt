@@ -1,5 +1,5 @@
--- What the programs promise of a script: `RanOnce`, the bytes that are printed for it. A reader takes from here that they are definition's `output_of`, on the
--- loans of 01's program.
+-- What the programs promise of a script: `RanOnce`, the bytes that are printed for it. A reader takes from here that they are
+-- definition's `output_of`, on the loans of 01's program.
 use Rattle.std.specs.Prelude.{ℕ, ◌≤◌, ◌<◌, List, ◌++◌, ◌≡◌, length, take, drop, Option, Some, None, IfSome, Result, IfOk}
 use Rattle.definition.specs.Board.{standard}
 use Rattle.definition.specs.Cases.{program}
@@ -14,8 +14,8 @@ printed script = output_of standard program script
 abbrev pub IsPrefixLen : ℕ → List ℕ → Type 0
 IsPrefixLen n xs = (n ≤ length xs) × (n ≡ length (take n xs))
 
--- the answers stand at the front of the slice, whose rest is as it was, and they are never empty; None says that the slice is too short, and then it is left as
--- it was
+-- the answers stand at the front of the slice, whose rest is as it was, and they are never empty; None says that the slice is too short,
+-- and then it is left as it was
 pub record RanOnce (script out out' : List ℕ) (r : Option ℕ) : Type 0 where
   pub written : room script ≤ length out → r ≡ Some (length (printed script))
   pub text : room script ≤ length out → out' ≡ printed script ++ drop (length (printed script)) out

@@ -27,7 +27,8 @@ same_is (x ∷ a) [] = refl
 same_is (x ∷ a) (y ∷ b) = ap (λ t. eqb x y && t) (same_is a b)
 
 -- what a run left at the front of its answers
-pub answered : {script out out' : List ℕ} {n : ℕ} → RanOnce script out out' (Some n) → room script ≤ length out → take n out' ≡ printed script
+pub answered : {script out out' : List ℕ} {n : ℕ} → RanOnce script out out' (Some n) → room script ≤ length out
+    → take n out' ≡ printed script
 answered {script} {out} {out'} {n} ran h =
     let long : length (printed script) ≡ n = cc (ran.written h) in
     rw (ran.text h) (take_at (printed script) (drop (length (printed script)) out) n long)

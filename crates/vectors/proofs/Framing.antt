@@ -1,5 +1,5 @@
--- Laws of the framing: what a heading that was spelt and found says of the file, that two headings, a script and its answers are a case, and that a case joins
--- those that were replayed before it.
+-- Laws of the framing: what a heading that was spelt and found says of the file, that two headings, a script and its answers are a case,
+-- and that a case joins those that were replayed before it.
 use Prim.Native.Nat.{ℕ, ◌+◌, ◌-◌, ◌≤◌}
 use mathlib.Core.Bool.{true}
 use lib.Dec.{eqb}
@@ -51,7 +51,8 @@ front file text a e h k eq =
     rw eq (take_at text (drop e file) (e - a) long)
 
 pub heads : {file name line : List ℕ} {at k v : ℕ} → Spelt (headed name v) line k → at ≤ length file
-    → starts_with eqb (take (length file - at) (drop at file)) (take k line) ≡ true → Heads file at name (record { value = v; next = at + k })
+    → starts_with eqb (take (length file - at) (drop at file)) (take k line) ≡ true
+    → Heads file at name (record { value = v; next = at + k })
 unfolding bytes_of
 heads {file} {name} {line} {at} {k} {v} s fits begins =
     let whole : take (length file - at) (drop at file) ≡ drop at file = take_all _ _ (simp length-drop (omega arith)) in

@@ -1,5 +1,6 @@
--- Scripts with the answers that are expected of them, one after another in a file, and what a replay of the file counts. A reader takes from `Replayed` what
--- the line `N scripts, M lines, D differ` says: the file is N cases, framed, and of these D print something else than the file has.
+-- Scripts with the answers that are expected of them, one after another in a file, and what a replay of the file counts. A reader takes
+-- from `Replayed` what the line `N scripts, M lines, D differ` says: the file is N cases, framed, and of these D print something else than
+-- the file has.
 use Rattle.std.specs.Prelude.{ℕ, ◌+◌, ◌-◌, ◌*◌, ◌≤◌, ◌<◌, Bool, not, List, [], ◌∷◌, ◌++◌, ◌≡◌, length, take, drop, Result, Ok, Err}
 use Rattle.definition.specs.Basics.{bit}
 use Rattle.definition.specs.Cases.{Case}
