@@ -18,7 +18,6 @@ use Rattle.lines.specs.Reading.{NextLine}
 use Rattle.text.specs.Writing.{Wrote}
 use Rattle.theorems.proofs.Scripts.{script_printed}
 use Rattle.script.specs.declared.Running.{Running}
-use Rattle.script.specs.declared.Turn.{Turn}
 use Rattle.script.specs.Running.{
   Bounded,
   Fresh,
@@ -112,17 +111,17 @@ module _ {board : Board} where
 
 module _ {board : Board} (fit : Fit board) where
   -- over one line
-  pub going_on : {script ws vs : List ℕ} {l₀ l l' : Loans} {out₀ out out' : List ℕ} {w₀ w at end next : ℕ} {r : Running} (t : Turn)
+  pub going_on : {script ws vs : List ℕ} {l₀ l l' : Loans} {out₀ out out' : List ℕ} {w₀ w at end next : ℕ} {r : Running} (r' : Running) (w' : ℕ)
       → Going board script l₀ out₀ w₀ ws l out w r at → NextLine script at end next
-      → Turns board (running_with r ws) l (take (end - at) (drop at script)) out w l' out' (turn_with t vs) → Bounded r w t → length vs ≡ length ws → Same l l'
-      → Going board script l₀ out₀ w₀ vs l' out' t.at t.running next
+      → Turns board (running_with r ws) l (take (end - at) (drop at script)) out w l' out' (turn_with r' vs w') → Bounded r w r' w' → length vs ≡ length ws → Same l l'
+      → Going board script l₀ out₀ w₀ vs l' out' w' r' next
   unfolding lines_on
-  going_on {script} {ws} {vs} {l₀} {l} {l'} {out₀} {out} {out'} {w₀} {w} {at} {end} {next} {r} t g n f b k z =
+  going_on {script} {ws} {vs} {l₀} {l} {l'} {out₀} {out} {out'} {w₀} {w} {at} {end} {next} {r} r' w' g n f b k z =
       let q : length (lines (drop at script)) ≡ length (lines (drop next script)) + 1 = one_less n in
       let x = g.run in
       let T = f x g.stands in
       let o : TurnOn = line_on board x (read_line (take (end - at) (drop at script))) in
-      let inside : t.at ≤ length out = omega (arith, g.space, b.0) in
+      let inside : w' ≤ length out = omega (arith, g.space, b.0) in
       let m : length out' ≡ length out = wrote_long T.wrote inside in
       let e : onwards board x script at ≡ record { running = (onwards board o.running script next).running; text = o.text ++ (onwards board o.running script next).text }
       = ap (λ (ls : List (List ℕ)). lines_on board x ls) n.first in

@@ -7,22 +7,20 @@ use mathlib.Core.Option.{Option}
 use mathlib.Core.Path.{◌≡◌, refl, sym, ap, subst, ◌∙◌}
 use native.Mathlib.Omega.{arith}
 use native.Mathlib.Numerals.{add-one}
-use lib.Dec.{eqb}
+use Rattle.std.specs.Prelude.{is_ok}
 use lib.ListN.{length, take, set, length-append}
 use lib.Seq.{take_all, take-append-le, take-suc-set}
 use Rattle.definition.specs.declared.MemoryRegion.{MemoryRegion}
 use Rattle.definition.specs.Board.{Board}
 use Rattle.definition.specs.Calls.{Call, Stats, Text}
-use Rattle.definition.specs.Script.{AddRegion, BootNow, Ask, Asked, Command, RunningOn, answer_line, bad_line, command_on, line_of, line_on}
+use Rattle.definition.specs.Script.{AddRegion, BootNow, Ask, Asked, Command, RunningOn, answer_line, bad_line, command_on, line_on}
 use Rattle.definition.specs.Text.{bytes_of}
 use Rattle.definition.specs.Torn.{Left, boot_call, call}
 use Rattle.definition.specs.Tracker.{tracker_stats}
 use Rattle.definition.specs.World.{World}
 use Rattle.boot.specs.Booting.{Boots, BootsAll}
-use Rattle.counts.specs.declared.Report.{Report}
 use Rattle.counts.specs.Counting.{Reports}
-use Rattle.exam.specs.declared.Answer.{Answer}
-use Rattle.exam.specs.Promise.{State, Leaves}
+use Rattle.exam.specs.Promise.{Answer, State, Leaves}
 use Rattle.lines.specs.declared.Ask.{Ask as Op}
 use Rattle.lines.specs.declared.Line.{Line}
 use Rattle.lines.specs.declared.Op.{Op as OpOf}
@@ -30,7 +28,7 @@ use Rattle.lines.specs.Reading.{Reads, asks_if, call_of, command_of, name_of, nu
 use Rattle.text.specs.Writing.{Wrote}
 use Rattle.text.proofs.Writing.{wrote_as}
 use Rattle.script.specs.declared.Running.{Running as RunningOf}
-use Rattle.script.specs.Running.{Running, Turn, Bad, Does, Enters, Loans, Stands, TellsAny, Turned, Turns, running_with, world_by}
+use Rattle.script.specs.Running.{Running, Turn, Bad, Does, Enters, Loans, Stands, TellsAny, Turned, Turns, line_by, running_with, turn_with, world_by}
 use Rattle.script.proofs.Answers.{accepted, boot_line, call_line, stats_call}
 use Rattle.script.proofs.Writing.{wrote_nothing}
 
@@ -79,13 +77,13 @@ module _ (board : Board) where
 module _ (board : Board) where
   module _ {r : Running} {l l' : Loans} {out out' : List ℕ} {at n : ℕ} {s : State} (name : List ℕ) where
     pub turned_boot : {y : Answer} → r.booted ≡ false → BootsAll board r.map r.count (world_by r.state l) (world_by s l') y
-        → Wrote out at (line_of name y.number y.address y.bytes) out' n
+        → Wrote out at (line_by name y) out' n
         → Does board BootNow name r l out at l' out'
-        (record { running = record { map = r.map; count = r.count; booted = eqb y.number 0; state = s }; at = n })
+        (record { running = record { map = r.map; count = r.count; booted = is_ok y; state = s }; at = n })
     turned_boot {y} early B w = does board BootNow name false early f
       where
         f : (x : RunningOn) → Stands r l x → Turned (command_on board x name BootNow false) out at l' out'
-            (record { running = record { map = r.map; count = r.count; booted = eqb y.number 0; state = s }; at = n })
+            (record { running = record { map = r.map; count = r.count; booted = is_ok y; state = s }; at = n })
         f x S =
             let b : Boots board x.map x.world (world_by s l') y
             = subst (λ (v : World). Boots board x.map v (world_by s l') y) (sym S.world) (B x.map S.long S.front) in
@@ -116,7 +114,7 @@ module _ (board : Board) where
         })
 
     pub turned_call : {y : Answer} (op : Op) (k : ℕ → ℕ) → r.booted ≡ true → Leaves board (world_by r.state l) (call_of op k) (world_by s l') y
-        → Wrote out at (line_of name y.number y.address y.bytes) out' n
+        → Wrote out at (line_by name y) out' n
         → Does board (Ask (call_of op k)) name r l out at l' out'
         (record { running = record { map = r.map; count = r.count; booted = true; state = s }; at = n })
     turned_call op k late L w =
@@ -124,16 +122,16 @@ module _ (board : Board) where
 
 module _ (board : Board) where
   -- the statistics leave all as it is
-  pub turned_stats : {k : RunningOf} {out out' : List ℕ} {at n : ℕ} {p : Report} → k.booted ≡ true → Reports k.counters p
-      → Wrote out at (take p.len p.text) out' n → TellsAny board k out at out' (record { running = k; at = n })
-  turned_stats {k} late R w ws l sure small =
+  pub turned_stats : {k : RunningOf} {out out' : List ℕ} {at n : ℕ} → k.booted ≡ true → Reports k.counters out at out' n
+      → TellsAny board k out at out' n
+  turned_stats {k} late R ws l sure small =
       let r : Running = running_with k ws in
       let v : World = world_by r.state l in
       let e : call board v Stats ≡ record { world = v; answer = Text (tracker_stats k.counters) } =
       stats_call board v (sure late) small
       in
       turned_as board {r = r} {l = l} (bytes_of "stats") Stats k.booted (sym late) late (ap (λ (x : Left). x.world) e)
-      (wrote_as (R.text ∙ sym (ap (λ (x : Left). answer_line (bytes_of "stats") x.answer) e)) w)
+      (wrote_as (sym (ap (λ (x : Left). answer_line (bytes_of "stats") x.answer) e)) R.wrote)
 
 -- ---- the line
 
