@@ -13,6 +13,7 @@ use exam::Answer;
 use lines::Ask;
 
 // The calls that answer by numbers, on loans that were tested, or that a call left. A fill takes its byte modulo 256.
+#[tactic(auto, using(words::proofs::Words::beside_same))]
 pub fn make(
     counters: &mut Counters,
     words: &mut [u64],

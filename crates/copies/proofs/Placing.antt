@@ -166,13 +166,13 @@ module _
 
 -- ---- by the loans
 
-module _ (ws rs : List ℕ) (a : ℕ) {o : MayBe Seen} (T : TableIn ws rs) (S : SeesIn rs ws (a / (board_in ws).page) o) where
+module _ (ws rs : List ℕ) (a : ℕ) (o : MayBe Seen) (T : TableIn ws rs) (S : SeesIn rs ws (a / (board_in ws).page) o) where
   -- in the table that the words and the records hold
   abbrev here : PhysicalFrameAllocator
   here = standing (board_in ws) (record_at rs) (rows_in ws)
 
   page_there : (r : Seen) → o ≡ Some r → SeesPage (board_in ws) (record_at rs) (rows_in ws) (a / (board_in ws).page) here r
-  page_there = (S here (sane_table T.1)).page
+  page_there r e = rw e at (S here (sane_table T.1))
 
   pub seen_placed : Placed (board_in ws) (rows_in ws) o a
   seen_placed r e = seen_inward T.1 a (page_there r e) (fit_in ws)
@@ -213,14 +213,14 @@ module _ {board : Board} {w : World} {s : Store} (W : Whole board w s) (a len : 
       → place_refusal board s (range_of a 0 len) ≡ refusal_in (place_seen board w.rows o a len)
   place_seen_lem None S =
       by_tests (is_managed board s.allocator.regions (a / board.page)) (leaves_region board s (range_of a 0 len))
-      ∙ rw (← S.managed) refl
+      ∙ rw S refl
   place_seen_lem (Some r) S =
       by_tests (is_managed board s.allocator.regions (a / board.page)) (leaves_region board s (range_of a 0 len))
-      ∙ rw (← S.managed, seen_leaves (S.page r refl)) (end_refusal (ltb (end_seen board w.rows r) (a + len)) r)
+      ∙ rw (S.managed, seen_leaves S) (end_refusal (ltb (end_seen board w.rows r) (a + len)) r)
 
   -- ---- the promise
 
-  module _ {o : MayBe Seen} (S : Sees board (record_at w.records) w.rows (a / board.page) s.allocator o)
+  module _ (o : MayBe Seen) (S : Sees board (record_at w.records) w.rows (a / board.page) s.allocator o)
       {b off : ℕ} {x : Result Seen Refusal} (L : Looks board (record_at w.records) (pages_in w.records) w.rows b off len x)
     where
       abbrev both : Result (Seen × Seen) Refusal
@@ -243,6 +243,6 @@ module _ {board : Board} {w : World} {s : Store} (W : Whole board w s) (a len : 
       pcopy_made {to} {from} k v D =
           let n = both_found x (place_seen board w.rows o a len) k in
           let p = place_found board w.rows a len o n.1 in
-          let E = rw (looked_number W L to n.0) at (D (place_bytes (S.page from p.0) p.1)) in
+          let E = rw (looked_number W L to n.0) at (D (place_bytes (rw p.0 at S) p.1)) in
           made_done W (Pcopy b off a len) (done (copy_contents_from_physaddr board s (b / board.page) off a len) b len) v
           (refusal ∙ ap refusal_in k) refl E.whole E.world

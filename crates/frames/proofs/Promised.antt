@@ -5,7 +5,7 @@ use mathlib.Core.Bool.{Bool, true, false, not, cond, ◌&&◌, false≢true}
 use mathlib.Core.List.{List, [], ◌∷◌}
 use mathlib.Core.Option.{none, some}
 use mathlib.Core.Path.{◌≡◌, refl, sym, ap, ◌∙◌}
-use Rattle.std.specs.Prelude.{Result, Ok, Err, None, Some, is_some}
+use Rattle.std.specs.Prelude.{Ok, Err, None, Some}
 use Rattle.std.specs.Prelude.{Option as MayBe}
 use Rattle.std.specs.Option.{ok_or}
 use native.Mathlib.Omega.{arith}
@@ -200,24 +200,22 @@ module _ (board : Board) (fit : Fit board) where
       go true = refl
       go false = refl
 
-module _ {board : Board} (fit : Fit board) {w : World} {s : Store} (H : Whole board w s) (a : ℕ) {o : MayBe Seen}
-    (Z : Sees board (record_at w.records) w.rows (a / board.page) s.allocator o)
-  where
-    found : (t : MayBe Seen) → cond (is_some t) none (some Outside) ≡ refusal_in (ok_or t Outside)
-    found None = refl
-    found (Some r) = refl
+module _ {board : Board} (fit : Fit board) {w : World} {s : Store} (H : Whole board w s) (a : ℕ) where
+  seen_refusal
+      : (o : MayBe Seen) → Sees board (record_at w.records) w.rows (a / board.page) s.allocator o
+      → refusal_of board s (Find a) ≡ refusal_in (ok_or o Outside)
+  seen_refusal None Z = place_refusal_lem board fit s a ∙ rw Z refl
+  seen_refusal (Some r) Z = place_refusal_lem board fit s a ∙ rw Z.managed refl
 
-    seen_refusal : {x : Result Seen Refusal} → ok_or o Outside ≡ x → refusal_of board s (Find a) ≡ refusal_in x
-    seen_refusal e =
-        place_refusal_lem board fit s a ∙ ap (λ (t : Bool). cond t none (some Outside)) (sym Z.managed) ∙ found o ∙ ap refusal_in e
-
+  module _ (o : MayBe Seen) (Z : Sees board (record_at w.records) w.rows (a / board.page) s.allocator o) where
     pub find_refused : (r : Refusal) → ok_or o Outside ≡ Err r → Made board (step board s (Find a)) w w (Err r)
-    find_refused r e = made_refused H (Find a) r (seen_refusal e)
+    find_refused r e = made_refused H (Find a) r (seen_refusal o Z ∙ ap refusal_in e)
 
     pub find_made
         : (r : Seen) → ok_or o Outside ≡ Ok r → o ≡ Some r
         → Made board (step board s (Find a)) w w (Ok (reply (board.page * (a / board.page)) (bytes_if board r)))
     find_made r e k =
         let p = a / board.page in
-        rw (← bytes_seen s a 0 0 r (Z.page r k))
-        (made_same H (Find a) (done s (board.page * p) (frame_bytes board s p)) (seen_refusal e) (find_performed board s a) refl)
+        rw (← bytes_seen s a 0 0 r (rw k at Z))
+        (made_same H (Find a) (done s (board.page * p) (frame_bytes board s p)) (seen_refusal o Z ∙ ap refusal_in e)
+        (find_performed board s a) refl)

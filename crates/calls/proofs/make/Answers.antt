@@ -1,183 +1,48 @@
 -- Each arm is its callee's promise, with what the callee isn't lent given to it; what is left is which op it is, and its numbers as the
--- callee takes them. What the callees ask for is part of `Ready`. A call that only reads the words leaves all of them.
-use Rattle.words.proofs.Words.{beside_same}
+-- callee takes them.
 use Rattle.calls.proofs.make.Goals as goal
 
-pub alloc-requires : goal.alloc-requires
-alloc-requires c =
-    let p = c.requires in
-    record { table_in = p.table; room_in = p.room; few = p.few }
+pub returns-in-Alloc-clause-makes : goal.returns-in-Alloc-clause-makes
+returns-in-Alloc-clause-makes c = rw (c.in-Alloc.is, ← c.from-flags.ensures) (c.alloc.ensures.grants c.args.queue.now)
 
-pub take-requires : goal.take-requires
-take-requires c =
-    let p = c.requires in
-    record {
-      table_in = p.table;
-      room_in = p.room;
-      few = p.few;
-    }
+pub returns-in-Take-clause-makes : goal.returns-in-Take-clause-makes
+returns-in-Take-clause-makes c = rw (c.in-Take.is, ← c.from-flags-in-Take.ensures) (c.take.ensures.grants c.args.queue.now)
 
-pub split-requires : goal.split-requires
-split-requires c = c.requires.table
+pub returns-in-Split-clause-makes : goal.returns-in-Split-clause-makes
+returns-in-Split-clause-makes c = let a = c.args in rw c.in-Split.is (c.split.ensures a.counters.now a.memory.now a.queue.now)
 
-pub free-requires : goal.free-requires
-free-requires c =
-    let p = c.requires in
-    record { table_in = p.table; few = p.few }
+pub returns-in-Free-clause-makes : goal.returns-in-Free-clause-makes
+returns-in-Free-clause-makes c = rw c.in-Free.is (c.free.ensures.turns c.args.memory.now c.args.queue.now)
 
-pub zero-requires : goal.zero-requires
-zero-requires c =
-    let p = c.requires in
-    record {
-      table_in = p.table;
-      room_in = p.room;
-    }
+pub returns-in-Zero-clause-makes : goal.returns-in-Zero-clause-makes
+returns-in-Zero-clause-makes c = rw c.in-Zero.is (c.zero.ensures c.args.counters.now c.args.queue.now)
 
-pub dirty-requires : goal.dirty-requires
-dirty-requires c = c.requires.table
+pub returns-in-Dirty-clause-makes : goal.returns-in-Dirty-clause-makes
+returns-in-Dirty-clause-makes c = let a = c.args in rw c.in-Dirty.is (c.dirty.ensures a.counters.now a.memory.now a.queue.now)
 
-pub find-requires : goal.find-requires
-find-requires c = c.requires.table
+pub returns-in-Find-clause-makes : goal.returns-in-Find-clause-makes
+returns-in-Find-clause-makes c = let a = c.args in rw c.in-Find.is (c.find.ensures a.counters.now a.memory.now a.queue.now)
 
-pub queue-requires : goal.queue-requires
-queue-requires c = c.requires.table
+pub returns-in-Queue-clause-makes : goal.returns-in-Queue-clause-makes
+returns-in-Queue-clause-makes c = rw c.in-Queue.is (c.queue.ensures.queues c.args.counters.now c.args.memory.now)
 
-pub fill-requires : goal.fill-requires
-fill-requires c =
-    let p = c.requires in
-    record {
-      table_in = p.table;
-      room_in = p.room;
-    }
+pub returns-in-Fill-clause-makes : goal.returns-in-Fill-clause-makes
+returns-in-Fill-clause-makes c = rw c.in-Fill.is (c.fill.ensures c.args.counters.now c.args.queue.now)
 
-pub copy-requires : goal.copy-requires
-copy-requires c =
-    let p = c.requires in
-    record {
-      table_in = p.table;
-      room_in = p.room;
-    }
+pub returns-in-Copy-clause-makes : goal.returns-in-Copy-clause-makes
+returns-in-Copy-clause-makes c = rw c.in-Copy.is (c.copy.ensures c.args.counters.now c.args.queue.now)
 
-pub pcopy-requires : goal.pcopy-requires
-pcopy-requires c =
-    let p = c.requires in
-    record {
-      table_in = p.table;
-      room_in = p.room;
-    }
+pub returns-in-Pcopy-clause-makes : goal.returns-in-Pcopy-clause-makes
+returns-in-Pcopy-clause-makes c = rw c.in-Pcopy.is (c.pcopy.ensures c.args.counters.now c.args.queue.now)
 
-pub round-requires : goal.round-requires
-round-requires c =
-    let p = c.requires in
-    record {
-      table_in = p.table;
-      few = p.few;
-      pass_in = p.pass;
-    }
+pub returns-in-Round-clause-makes : goal.returns-in-Round-clause-makes
+returns-in-Round-clause-makes c = rw c.in-Round.is (c.round.ensures.rounds c.args.memory.now)
 
-pub returns-in-Alloc : goal.returns-in-Alloc
-returns-in-Alloc c =
-    let a = c.args in record {
-      makes = rw c.in-Alloc.is (rw c.flags_of.ensures at (c.alloc.ensures.grants a.queue.now));
-      beside = c.alloc.ensures.beside;
-    }
+pub returns-in-Lend-clause-makes : goal.returns-in-Lend-clause-makes
+returns-in-Lend-clause-makes c = let a = c.args in rw c.in-Lend.is (c.lend.ensures a.words.now a.records.now a.memory.now a.queue.now)
 
-pub returns-in-Take : goal.returns-in-Take
-returns-in-Take c =
-    let a = c.args in record {
-      makes = rw c.in-Take.is (rw c.flags_of-in-Take.ensures at (c.take.ensures.grants a.queue.now));
-      beside = c.take.ensures.beside;
-    }
+pub returns-in-Back-clause-makes : goal.returns-in-Back-clause-makes
+returns-in-Back-clause-makes c = let a = c.args in rw c.in-Back.is (c.back.ensures a.words.now a.records.now a.memory.now a.queue.now)
 
-pub returns-in-Split : goal.returns-in-Split
-returns-in-Split c =
-    let a = c.args in record {
-      makes = rw (c.in-Split.is, c.kept.ensures) (c.split.ensures a.counters a.memory.now a.queue.now);
-      beside = beside_same;
-    }
-
-pub returns-in-Free : goal.returns-in-Free
-returns-in-Free c =
-    let a = c.args in record {
-      makes = rw c.in-Free.is (c.free.ensures.turns a.memory.now a.queue.now);
-      beside = c.free.ensures.beside;
-    }
-
-pub returns-in-Zero : goal.returns-in-Zero
-returns-in-Zero c =
-    let a = c.args in record {
-      makes = rw (c.in-Zero.is, c.kept-in-Zero.ensures) (c.zero.ensures a.counters a.queue.now);
-      beside = beside_same;
-    }
-
-pub returns-in-Dirty : goal.returns-in-Dirty
-returns-in-Dirty c =
-    let a = c.args in record {
-      makes = rw (c.in-Dirty.is, c.kept-in-Dirty.ensures) (c.dirty.ensures a.counters a.memory.now a.queue.now);
-      beside = beside_same;
-    }
-
-pub returns-in-Find : goal.returns-in-Find
-returns-in-Find c =
-    let a = c.args in record {
-      makes = rw (c.in-Find.is, c.kept-in-Find.ensures) (c.find.ensures a.counters a.memory.now a.queue.now);
-      beside = beside_same;
-    }
-
-pub returns-in-Queue : goal.returns-in-Queue
-returns-in-Queue c =
-    let a = c.args in record {
-      makes = rw (c.in-Queue.is, c.kept-in-Queue.ensures) (c.queue.ensures.queues a.counters a.memory.now);
-      beside = c.queue.ensures.beside;
-    }
-
-pub returns-in-Fill : goal.returns-in-Fill
-returns-in-Fill c =
-    let a = c.args in record {
-      makes = rw (c.in-Fill.is, c.kept-in-Fill.ensures) (c.fill.ensures a.counters a.queue.now);
-      beside = beside_same;
-    }
-
-pub returns-in-Copy : goal.returns-in-Copy
-returns-in-Copy c =
-    let a = c.args in record {
-      makes = rw (c.in-Copy.is, c.kept-in-Copy.ensures) (c.copy.ensures a.counters a.queue.now);
-      beside = beside_same;
-    }
-
-pub returns-in-Pcopy : goal.returns-in-Pcopy
-returns-in-Pcopy c =
-    let a = c.args in record {
-      makes = rw (c.in-Pcopy.is, c.kept-in-Pcopy.ensures) (c.pcopy.ensures a.counters a.queue.now);
-      beside = beside_same;
-    }
-
-pub returns-in-Round : goal.returns-in-Round
-returns-in-Round c =
-    let a = c.args in record {
-      makes = rw c.in-Round.is (c.round.ensures.rounds a.memory.now);
-      beside = c.round.ensures.beside;
-    }
-
-pub returns-in-Lend : goal.returns-in-Lend
-returns-in-Lend c =
-    let a = c.args in
-    let y = c.lend.ensures a.words.now a.records.now a.memory.now a.queue.now in record {
-      makes = rw c.in-Lend.is (rw c.size_of.ensures at y);
-      beside = beside_same;
-    }
-
-pub returns-in-Back : goal.returns-in-Back
-returns-in-Back c =
-    let a = c.args in
-    let y = c.back.ensures a.words.now a.records.now a.memory.now a.queue.now in record {
-      makes = rw c.in-Back.is (rw c.size_of-in-Back.ensures at y);
-      beside = beside_same;
-    }
-
-pub returns-in-Low : goal.returns-in-Low
-returns-in-Low c =
-    let a = c.args in record {
-      makes = rw (c.in-Low.is, c.kept-in-Low.ensures) (c.low.ensures a.records.now a.memory.now a.queue.now);
-      beside = beside_same;
-    }
+pub returns-in-Low-clause-makes : goal.returns-in-Low-clause-makes
+returns-in-Low-clause-makes c = let a = c.args in rw c.in-Low.is (c.low.ensures a.records.now a.memory.now a.queue.now)

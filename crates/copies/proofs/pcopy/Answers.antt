@@ -36,13 +36,13 @@ ends
     P * c.in_ok-to.place.spot.page + a.source.0 % P + a.len ≤ length a.memory.now
 ends c =
     let a = c.args in
-    seen_ends a.words.now a.records.now a.source.0 c.requires.table_in c.see.ensures a.len (found c).1 a.memory.now c.requires.room_in
+    seen_ends a.words.now a.records.now a.source.0 _ c.requires.table_in c.see.ensures a.len (found c).1 a.memory.now c.requires.room_in
 
 pub placed-place-requires : goal.placed-place-requires
 placed-place-requires c =
     let a = c.args in
     let T = c.requires.table_in in
-    (T.0, seen_placed a.words.now a.records.now a.source.0 T c.see.ensures)
+    (T.0, seen_placed a.words.now a.records.now a.source.0 _ T c.see.ensures)
 
 pub returns-in_err-to : goal.returns-in_err-to
 returns-in_err-to c k q s H =
@@ -50,7 +50,7 @@ returns-in_err-to c k q s H =
     let p = err_from_is_err_and c.from_residual.result c.from_residual.ensures.1 in
     let x = c.in_err-to in
     rw (p.1, p.2)
-    (pcopy_refused H a.source.0 a.len (c.see.ensures s.allocator (whole_table H)) c.look-to.ensures x.field-0.0
+    (pcopy_refused H a.source.0 a.len _ (c.see.ensures s.allocator (whole_table H)) c.look-to.ensures x.field-0.0
     (sym (rw c.placed-place.ensures at c.both.ensures) ∙ x.was))
 
 pub place-from-requires : goal.place-from-requires
@@ -73,6 +73,6 @@ returns c k q s H =
     let a = c.args in
     let y = c.move_into in
     rw c.raw-2.ensures
-    (pcopy_made H a.source.0 a.len (c.see.ensures s.allocator (whole_table H)) c.look-to.ensures
+    (pcopy_made H a.source.0 a.len _ (c.see.ensures s.allocator (whole_table H)) c.look-to.ensures
     (both (goal.at.returns c).After-board_in-page) (world k a.words.now y.new.records y.new.memory q)
     (λ e. y.ensures k q s H a.source.0 (rw (c.place-from.ensures, c.raw.ensures, c.board_in-page.ensures.0) e)))
