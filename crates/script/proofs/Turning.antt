@@ -98,27 +98,29 @@ module _ (board : Board) where
             }
 
     -- a call whose text is the one that its answer has
-    turned_as : (c : Call) (b : Bool) → true ≡ b → r.booted ≡ true → (call board (world_by r.state l) c).world ≡ world_by s l'
+    turned_as : (c : Call) → r.booted ≡ true → (call board (world_by r.state l) c).world ≡ world_by s l'
         → Wrote out at (answer_line name (call board (world_by r.state l) c).answer) out' n
-        → Does board (Ask c) name r l out at l' out' (record { running = record { map = r.map; count = r.count; booted = b; state = s }; at = n })
-    turned_as c b e late v w =
+        → Does board (Ask c) name r l out at l' out'
+        (record { running = record { map = r.map; count = r.count; booted = r.booted; state = s }; at = n })
+    turned_as c late v w =
         does board (Ask c) name true late
         (λ x S. record {
           stands = record {
             world = ap (λ (u : World). (call board u c).world) S.world ∙ v;
-            booted = e;
+            booted = sym late;
             long = S.long;
             front = S.front;
           };
           wrote = wrote_as (ap (λ (u : World). answer_line name (call board u c).answer) (sym S.world)) w;
         })
 
-    pub turned_call : {y : Answer} (op : Op) (k : ℕ → ℕ) → r.booted ≡ true → Leaves board (world_by r.state l) (call_of op k) (world_by s l') y
-        → Wrote out at (line_by name y) out' n
+    pub turned_call
+        : {y : Answer} (op : Op) (k : ℕ → ℕ) → r.booted ≡ true
+        → Leaves board (world_by r.state l) (call_of op k) (world_by s l') y → Wrote out at (line_by name y) out' n
         → Does board (Ask (call_of op k)) name r l out at l' out'
-        (record { running = record { map = r.map; count = r.count; booted = true; state = s }; at = n })
+        (record { running = record { map = r.map; count = r.count; booted = r.booted; state = s }; at = n })
     turned_call op k late L w =
-        turned_as (call_of op k) true refl late L.world (wrote_as (call_line board name op k (world_by r.state l) L.answer) w)
+        turned_as (call_of op k) late L.world (wrote_as (call_line board name op k (world_by r.state l) L.answer) w)
 
 module _ (board : Board) where
   -- the statistics leave all as it is
@@ -130,7 +132,7 @@ module _ (board : Board) where
       let e : call board v Stats ≡ record { world = v; answer = Text (tracker_stats k.counters) } =
       stats_call board v (sure late) small
       in
-      turned_as board {r = r} {l = l} (bytes_of "stats") Stats k.booted (sym late) late (ap (λ (x : Left). x.world) e)
+      turned_as board {r = r} {l = l} (bytes_of "stats") Stats late (ap (λ (x : Left). x.world) e)
       (wrote_as (sym (ap (λ (x : Left). answer_line (bytes_of "stats") x.answer) e)) R.wrote)
 
 -- ---- the line
