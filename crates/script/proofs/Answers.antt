@@ -78,8 +78,12 @@ module _ (board : Board) where
 
   performed : (op : Ask) (n : ℕ → ℕ) (s : Store) → by_numbers (perform board s (call_of op n)).answer ≡ true
   unfolding perform mine
-  performed A.Alloc n s = let y = layout_of n in handed (find_level board y) (try_alloc_frame board everywhere (find_level board y) y.flags s)
-  performed A.Take n s = let y = layout_of n in handed (find_level board y) (try_alloc_split_frames board everywhere (find_level board y) y.flags s)
+  performed A.Alloc n s =
+      let l = find_level board (layout_of n) in
+      handed l (try_alloc_frame board everywhere l (layout_of n).flags s)
+  performed A.Take n s =
+      let l = find_level board (layout_of n) in
+      handed l (try_alloc_split_frames board everywhere l (layout_of n).flags s)
   performed A.Split n s = refl
   performed A.Free n s = refl
   performed A.Zero n s = refl

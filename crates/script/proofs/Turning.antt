@@ -1,10 +1,10 @@
--- One line, case by case: what is kept after a bad line, a region, a boot, the statistics and a call stands for the run's own turn, and what was written is its
--- text.
+-- One line, case by case: what is kept after a bad line, a region, a boot, the statistics and a call stands for the run's own turn, and what
+-- was written is its text.
 use Prim.Native.Nat.{ℕ, ◌+◌, ◌≤◌, ◌<◌}
 use mathlib.Core.Bool.{Bool, true, false}
 use mathlib.Core.List.{List, [], ◌∷◌, ◌++◌}
 use mathlib.Core.Option.{Option}
-use mathlib.Core.Path.{◌≡◌, refl, sym, ap, subst, ◌∙◌}
+use mathlib.Core.Path.{◌≡◌, sym, ap, subst, ◌∙◌}
 use native.Mathlib.Omega.{arith}
 use native.Mathlib.Numerals.{add-one}
 use Rattle.std.specs.Prelude.{is_ok}
@@ -28,18 +28,22 @@ use Rattle.lines.specs.Reading.{Reads, asks_if, call_of, command_of, name_of, nu
 use Rattle.text.specs.Writing.{Wrote}
 use Rattle.text.proofs.Writing.{wrote_as}
 use Rattle.script.specs.declared.Running.{Running as RunningOf}
-use Rattle.script.specs.Running.{Running, Turn, Bad, Does, Enters, Loans, Stands, TellsAny, Turned, Turns, line_by, running_with, turn_with, world_by}
+use Rattle.script.specs.Running.{Running, Turn, Bad, Does, Enters, Loans, Stands, TellsAny, Turned, Turns, line_by, running_with, world_by}
 use Rattle.script.proofs.Answers.{accepted, boot_line, call_line, stats_call}
 use Rattle.script.proofs.Writing.{wrote_nothing}
 
 module _ (board : Board) where
   -- a command where it is known whether a boot was accepted
-  pub does : (c : Command) (name : List ℕ) {r : Running} {l : Loans} (b : Bool) → r.booted ≡ b → {out out' : List ℕ} {at : ℕ} {l' : Loans} {t : Turn}
+  pub does
+      : (c : Command) (name : List ℕ) {r : Running} {l : Loans} (b : Bool) → r.booted ≡ b
+      → {out out' : List ℕ} {at : ℕ} {l' : Loans} {t : Turn}
       → ((x : RunningOn) → Stands r l x → Turned (command_on board x name c b) out at l' out' t) → Does board c name r l out at l' out' t
   does c name b e {out} {out'} {at} {l'} {t} f x S =
       subst (λ (y : Bool). Turned (command_on board x name c y) out at l' out' t) (sym (S.booted ∙ e)) (f x S)
 
-pub turned_bad : {r : Running} {out out' : List ℕ} {at n : ℕ} → Wrote out at bad_line out' n → Bad r out at out' (record { running = r; at = n })
+pub turned_bad
+    : {r : Running} {out out' : List ℕ} {at n : ℕ} → Wrote out at bad_line out' n
+    → Bad r out at out' (record { running = r; at = n })
 turned_bad w l x S = record { stands = S; wrote = w }
 
 -- ---- a region
@@ -56,7 +60,9 @@ enters_none map n m k h xs l e =
     take-append-le 8 xs (m ∷ []) (omega arith) ∙ e ∙ take_all n map (omega arith) ∙ sym (take_all (n + 1) map (omega arith))
 
 module _ (board : Board) where
-  pub turned_region : {r : Running} {l : Loans} (out : List ℕ) (at : ℕ) (name : List ℕ) {m : MemoryRegion} {map : List MemoryRegion} → r.booted ≡ false
+  pub turned_region
+      : {r : Running} {l : Loans} (out : List ℕ) (at : ℕ) (name : List ℕ) {m : MemoryRegion} {map : List MemoryRegion}
+      → r.booted ≡ false
       → Enters r.map r.count m map
       → Does board (AddRegion m) name r l out at l out
       (record { running = record { map = map; count = r.count + 1; booted = r.booted; state = r.state }; at = at })
@@ -139,7 +145,9 @@ module _ (board : Board) where
 
 module _ (board : Board) where
   -- a line turns out as what it was read as
-  pub turns : {r : Running} {l l' : Loans} (line : List ℕ) {out out' : List ℕ} {at : ℕ} {t : Turn} (q : Line) → Reads line q → (o : OpOf) → q.op ≡ o
+  pub turns
+      : {r : Running} {l l' : Loans} (line : List ℕ) {out out' : List ℕ} {at : ℕ} {t : Turn} (q : Line) → Reads line q
+      → (o : OpOf) → q.op ≡ o
       → ((x : RunningOn) → Stands r l x → Turned (line_on board x (asks_if (name_of o) (command_of o (numbers_of q)))) out at l' out' t)
       → Turns board r l line out at l' out' t
   turns {r} {l} {l'} line {out} {out'} {at} {t} q R o e f x S =

@@ -1,5 +1,4 @@
 -- A bad line before a boot; after it, what the call leaves and answers. The loans are sound, so they are ready for it.
-use Prim.Native.Nat.{ℕ}
 use mathlib.Core.Bool.{false}
 use lib.ListN.{get_or}
 use Rattle.definition.specs.Script.{Ask}

@@ -11,8 +11,8 @@ pub returns-then-answer-lt512 : goal.returns-then-answer-lt512
 returns-then-answer-lt512 c =
     ran_none _ _ _
     (elim c.then-answer-lt512.branch [
-      then-answer-lt512-via-then-answer-lt512 w ↦ omega arith
-    | then-answer-lt512-via-else-answer-lt512+then-answer-count_lines w ↦ omega (arith, w.count_lines.ensures)
+      | then-answer-lt512-via-then-answer-lt512 w ↦ omega arith
+      | then-answer-lt512-via-else-answer-lt512+then-answer-count_lines w ↦ omega (arith, w.count_lines.ensures)
     ])
 
 pub returns : goal.returns
