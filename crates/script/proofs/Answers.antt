@@ -1,12 +1,13 @@
--- What a call can answer. The calls of a script but the statistics are refused or done, never answered by a text or by bytes, so three numbers say all of it
--- (`call_line`); the statistics of a sound world are answered by their text; a boot is accepted exactly where its number is 0.
+-- What a call can answer. The calls of a script but the statistics are refused or done, never answered by a text or by bytes, so that what
+-- is told of an answer says all of it (`call_line`); the statistics of a sound world are answered by their text; a boot is accepted exactly
+-- where what is told is `Ok`.
 use Rattle.definition.specs.Basics.{everywhere}
 use Prim.Native.Nat.{ℕ, ◌<◌}
 use mathlib.Core.Bool.{Bool, true, false, false≢true, cond}
 use mathlib.Core.List.{List}
 use mathlib.Core.Option.{Option, none, some}
 use mathlib.Core.Path.{◌≡◌, refl, sym, ap, ◌∙◌}
-use lib.Dec.{eqb}
+use Rattle.std.specs.Prelude.{is_ok}
 use lib.ListN.{get_or, length}
 use Rattle.definition.specs.declared.MemoryRegion.{MemoryRegion}
 use Rattle.definition.specs.declared.Refusal.{Refusal}
@@ -15,16 +16,16 @@ use Rattle.definition.specs.Board.{Board}
 use Rattle.definition.specs.Boot.{boot_sheet}
 use Rattle.definition.specs.Calls.{mine, Call, Answer, Refused, Done, Text, Bytes, Stats, Outcome}
 use Rattle.definition.specs.Calls.{hands, find_level, names, perform, sheet, step, tells, unless_refused}
-use Rattle.definition.specs.Refusal.{first_met, number_of}
-use Rattle.definition.specs.Script.{answer_line, is_accepted, layout_of, line_of}
+use Rattle.definition.specs.Refusal.{first_met}
+use Rattle.definition.specs.Script.{answer_line, is_accepted, layout_of}
 use Rattle.definition.specs.Store.{Store}
 use Rattle.definition.specs.Torn.{boot_call, booted, call, sound, written, untouched, unless_refused as unlessRefusedOn}
 use Rattle.definition.specs.Tracker.{Granted, tracker_stats, try_alloc_frame, try_alloc_split_frames}
 use Rattle.definition.specs.World.{World, decode}
-use Rattle.exam.specs.declared.Answer.{Answer as Told}
-use Rattle.exam.specs.Promise.{told}
+use Rattle.exam.specs.Promise.{Answer as Told, told}
+use Rattle.script.specs.Running.{line_by}
 use Rattle.audit.proofs.Sheets.{sound_is}
-use Rattle.world.proofs.Calling.{done_call, none_met}
+use Rattle.world.proofs.Calling.{done_call}
 use Rattle.world.proofs.Refusing.{nothing_refused}
 use Rattle.world.proofs.RoundTrip.{decode_stands, round_trip}
 use Rattle.lines.specs.declared.Ask.{Ask}
@@ -40,11 +41,8 @@ by_numbers (Done a n) = true
 by_numbers (Text t) = false
 by_numbers (Bytes t) = false
 
--- such an answer's line has the three numbers
-abbrev pub told_line : List ℕ → Told → List ℕ
-told_line name y = line_of name y.number y.address y.bytes
-
-pub numbers_line : (name : List ℕ) (a : Answer) → by_numbers a ≡ true → answer_line name a ≡ told_line name (told a)
+-- such an answer's line is that of what is told of it
+pub numbers_line : (name : List ℕ) (a : Answer) → by_numbers a ≡ true → answer_line name a ≡ line_by name (told a)
 numbers_line name (Refused r) e = refl
 numbers_line name (Done a n) e = refl
 numbers_line name (Text t) e = absurd (false≢true e)
@@ -80,8 +78,12 @@ module _ (board : Board) where
 
   performed : (op : Ask) (n : ℕ → ℕ) (s : Store) → by_numbers (perform board s (call_of op n)).answer ≡ true
   unfolding perform mine
-  performed A.Alloc n s = let y = layout_of n in handed (find_level board y) (try_alloc_frame board everywhere (find_level board y) y.flags s)
-  performed A.Take n s = let y = layout_of n in handed (find_level board y) (try_alloc_split_frames board everywhere (find_level board y) y.flags s)
+  performed A.Alloc n s =
+      let l = find_level board (layout_of n) in
+      handed l (try_alloc_frame board everywhere l (layout_of n).flags s)
+  performed A.Take n s =
+      let l = find_level board (layout_of n) in
+      handed l (try_alloc_split_frames board everywhere l (layout_of n).flags s)
   performed A.Split n s = refl
   performed A.Free n s = refl
   performed A.Zero n s = refl
@@ -98,9 +100,9 @@ module _ (board : Board) where
 
   -- the line of a call that was told so
   pub call_line : (name : List ℕ) (op : Ask) (n : ℕ → ℕ) (w : World) {y : Told} → told (call board w (call_of op n)).answer ≡ y
-      → told_line name y ≡ answer_line name (call board w (call_of op n)).answer
+      → line_by name y ≡ answer_line name (call board w (call_of op n)).answer
   call_line name op n w e =
-      ap (told_line name) (sym e)
+      ap (line_by name) (sym e)
       ∙ sym (numbers_line name (call board w (call_of op n)).answer (called by_numbers (λ r. refl) (call_of op n) (performed op n) w))
 
 -- ---- the boot
@@ -115,38 +117,19 @@ module _ (board : Board) where
       go (some r) = refl
 
   pub boot_line : (name : List ℕ) (ms : List MemoryRegion) (w : World) {y : Told} → told (boot_call board ms w).answer ≡ y
-      → told_line name y ≡ answer_line name (boot_call board ms w).answer
+      → line_by name y ≡ answer_line name (boot_call board ms w).answer
   boot_line name ms w e =
-      ap (told_line name) (sym e) ∙ sym (numbers_line name (boot_call board ms w).answer (boot_numbers ms w))
+      ap (line_by name) (sym e) ∙ sym (numbers_line name (boot_call board ms w).answer (boot_numbers ms w))
 
-never_zero : (r : Refusal) → eqb (number_of r) 0 ≡ false
-never_zero R.LongMap = refl
-never_zero R.FarAddress = refl
-never_zero R.Overlap = refl
-never_zero R.TooManyPages = refl
-never_zero R.ShortLoan = refl
-never_zero R.Torn = refl
-never_zero R.BadLayout = refl
-never_zero R.NoLevel = refl
-never_zero R.NoFrame = refl
-never_zero R.MustWait = refl
-never_zero R.Outside = refl
-never_zero R.NoFrameStart = refl
-never_zero R.NotHeld = refl
-never_zero R.PastTheEnd = refl
-never_zero R.PagerLow = refl
-never_zero R.QueueFull = refl
-never_zero R.BadLine = refl
-
-accepts : (a : Answer) → is_accepted a ≡ eqb (told a).number 0
-accepts (Refused r) = sym (never_zero r)
+accepts : (a : Answer) → is_accepted a ≡ is_ok (told a)
+accepts (Refused r) = refl
 accepts (Done a n) = refl
 accepts (Text t) = refl
 accepts (Bytes t) = refl
 
--- the number tells whether an answer accepts
-pub accepted : (a : Answer) {y : Told} → told a ≡ y → is_accepted a ≡ eqb y.number 0
-accepted a e = accepts a ∙ ap (λ (y : Told). eqb y.number 0) e
+-- what is told says whether an answer accepts
+pub accepted : (a : Answer) {y : Told} → told a ≡ y → is_accepted a ≡ is_ok y
+accepted a e = accepts a ∙ ap (λ (y : Told). is_ok y) e
 
 -- ---- the statistics
 
@@ -159,5 +142,5 @@ module _ (board : Board) where
   stats_call w t small =
       let S = sound_is board w t in
       done_call board w Stats t (tells (decode board w) (Text (tracker_stats w.counters))) w
-      (none_met _ (nothing_refused board (decode board w)))
+      (nothing_refused board (decode board w))
       (rw (decode_stands w S).counters refl) (round_trip w S small)

@@ -9,7 +9,20 @@ use lib.ListN.{length, take, drop, replicate, take-append-drop, drop_of_length-l
 use lib.Seq.{length-take-le}
 use Rattle.definition.specs.Board.{Fit}
 use Rattle.definition.specs.Board.{Board}
-use Rattle.definition.specs.Script.{RunningOn, TurnOn, header, line_on, lines, lines_on, parts_by, read_line, room, run_on, started_on, world_after}
+use Rattle.definition.specs.Script.{
+  RunningOn,
+  TurnOn,
+  header,
+  line_on,
+  lines,
+  lines_on,
+  parts_by,
+  read_line,
+  room,
+  run_on,
+  started_on,
+  world_after,
+}
 use Rattle.definition.specs.Text.{bytes_of}
 use Rattle.definition.specs.World.{World}
 use Rattle.words.specs.Words.{state_words}
@@ -18,7 +31,6 @@ use Rattle.lines.specs.Reading.{NextLine}
 use Rattle.text.specs.Writing.{Wrote}
 use Rattle.theorems.proofs.Scripts.{script_printed}
 use Rattle.script.specs.declared.Running.{Running}
-use Rattle.script.specs.declared.Turn.{Turn}
 use Rattle.script.specs.Running.{
   Bounded,
   Fresh,
@@ -82,7 +94,9 @@ module _ (board : Board) where
 
 module _ {board : Board} where
   -- behind the header
-  pub going : {script ws : List ℕ} {l : Loans} {out out₀ : List ℕ} {w : ℕ} {r : Running} → ws ≡ replicate state_words 0 → Wrote out 0 header out₀ w
+  pub going
+      : {script ws : List ℕ} {l : Loans} {out out₀ : List ℕ} {w : ℕ} {r : Running}
+      → ws ≡ replicate state_words 0 → Wrote out 0 header out₀ w
       → room script ≤ length out → Fresh (running_with r (replicate state_words 0))
       → Going board script l out₀ w ws l out₀ w r 0
   unfolding bytes_of
@@ -112,19 +126,22 @@ module _ {board : Board} where
 
 module _ {board : Board} (fit : Fit board) where
   -- over one line
-  pub going_on : {script ws vs : List ℕ} {l₀ l l' : Loans} {out₀ out out' : List ℕ} {w₀ w at end next : ℕ} {r : Running} (t : Turn)
+  pub going_on
+      : {script ws vs : List ℕ} {l₀ l l' : Loans} {out₀ out out' : List ℕ} {w₀ w at end next : ℕ} {r : Running} (r' : Running) (w' : ℕ)
       → Going board script l₀ out₀ w₀ ws l out w r at → NextLine script at end next
-      → Turns board (running_with r ws) l (take (end - at) (drop at script)) out w l' out' (turn_with t vs) → Bounded r w t → length vs ≡ length ws → Same l l'
-      → Going board script l₀ out₀ w₀ vs l' out' t.at t.running next
+      → Turns board (running_with r ws) l (take (end - at) (drop at script)) out w l' out' (turn_with r' vs w')
+      → Bounded r w r' w' → length vs ≡ length ws → Same l l'
+      → Going board script l₀ out₀ w₀ vs l' out' w' r' next
   unfolding lines_on
-  going_on {script} {ws} {vs} {l₀} {l} {l'} {out₀} {out} {out'} {w₀} {w} {at} {end} {next} {r} t g n f b k z =
+  going_on {script} {ws} {vs} {l₀} {l} {l'} {out₀} {out} {out'} {w₀} {w} {at} {end} {next} {r} r' w' g n f b k z =
       let q : length (lines (drop at script)) ≡ length (lines (drop next script)) + 1 = one_less n in
       let x = g.run in
       let T = f x g.stands in
       let o : TurnOn = line_on board x (read_line (take (end - at) (drop at script))) in
-      let inside : t.at ≤ length out = omega (arith, g.space, b.0) in
+      let inside : w' ≤ length out = omega (arith, g.space, b.0) in
       let m : length out' ≡ length out = wrote_long T.wrote inside in
-      let e : onwards board x script at ≡ record { running = (onwards board o.running script next).running; text = o.text ++ (onwards board o.running script next).text }
+      let rest : TurnOn = onwards board o.running script next in
+      let e : onwards board x script at ≡ record { running = rest.running; text = o.text ++ rest.text }
       = ap (λ (ls : List (List ℕ)). lines_on board x ls) n.first in
       record {
         words = k ∙ g.words;
@@ -142,8 +159,8 @@ module _ {board : Board} (fit : Fit board) where
         stands = T.stands;
         reached = line_reached fit x g.reached (read_line (take (end - at) (drop at script)));
         text =
-            ap (λ (u : List ℕ). u ++ (onwards board o.running script next).text) (wrote_take T.wrote inside)
-            ∙ append_assoc (take w out) o.text (onwards board o.running script next).text
+            ap (λ (u : List ℕ). u ++ rest.text) (wrote_take T.wrote inside)
+            ∙ append_assoc (take w out) o.text rest.text
             ∙ ap (λ (y : TurnOn). take w out ++ y.text) (sym e)
             ∙ g.text;
         ends = ap (λ (y : TurnOn). y.running) (sym e) ∙ g.ends;
@@ -152,7 +169,8 @@ module _ {board : Board} (fit : Fit board) where
 
   -- behind the last line, over a slice that the header was written to first
   pub gone : {script ws : List ℕ} {l₀ l : Loans} {first out₀ out : List ℕ} {w₀ w at : ℕ} {r : Running} → Wrote first 0 header out₀ w₀
-      → room script ≤ length first → length script ≤ at → Going board script l₀ out₀ w₀ ws l out w r at → RanAll board script l₀ first l out w
+      → room script ≤ length first → length script ≤ at → Going board script l₀ out₀ w₀ ws l out w r at
+      → RanAll board script l₀ first l out w
   unfolding bytes_of lines_on world_after
   gone {script} {ws} {l₀} {l} {first} {out₀} {out} {w₀} {w} {at} {r} f h e g =
       let a : w₀ ≡ 25 = f.after in
@@ -160,7 +178,8 @@ module _ {board : Board} (fit : Fit board) where
       let o : onwards board g.run script at ≡ record { running = g.run; text = [] }
       = ap (λ (ls : List (List ℕ)). lines_on board g.run ls) (lines_none script at e) in
       let t : take w out ≡ printed board l₀ script
-      = sym (append-nil (take w out)) ∙ ap (λ (y : TurnOn). take w out ++ y.text) (sym o) ∙ g.text ∙ script_printed board fit (world_by unbooted l₀) script in
+      = sym (append-nil (take w out)) ∙ ap (λ (y : TurnOn). take w out ++ y.text) (sym o) ∙ g.text
+      ∙ script_printed board fit (world_by unbooted l₀) script in
       let v : world_by (state_with r.counters ws) l ≡ left_by board l₀ script
       = sym g.stands.world ∙ ap (λ (y : TurnOn). y.running.world) (sym o) ∙ ap (λ (y : RunningOn). y.world) g.ends in
       let d : drop w out ≡ drop w first

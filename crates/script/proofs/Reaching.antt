@@ -15,9 +15,8 @@ use Rattle.definition.specs.Script.{AddRegion, BootNow, Ask, Asked, Command, Run
 use Rattle.definition.specs.Torn.{boot_call, call, sound}
 use Rattle.definition.specs.World.{World, memory_of}
 use Rattle.bookkeeping.specs.Claim.{State, booted, next}
-use Rattle.exam.specs.declared.Answer.{Answer}
 use Rattle.exam.specs.Making.{Makes, Ready, world}
-use Rattle.exam.specs.Promise.{Leaves}
+use Rattle.exam.specs.Promise.{Answer, Leaves}
 use Rattle.exam.proofs.Making.{leaves_made, sound_ready}
 use Rattle.theorems.proofs.Runs.{Holds, boot_holds, call_holds, holds_sound}
 use Rattle.words.specs.Words.{Long, board_in}

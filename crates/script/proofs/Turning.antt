@@ -1,28 +1,26 @@
--- One line, case by case: what is kept after a bad line, a region, a boot, the statistics and a call stands for the run's own turn, and what was written is its
--- text.
+-- One line, case by case: what is kept after a bad line, a region, a boot, the statistics and a call stands for the run's own turn, and what
+-- was written is its text.
 use Prim.Native.Nat.{ℕ, ◌+◌, ◌≤◌, ◌<◌}
 use mathlib.Core.Bool.{Bool, true, false}
 use mathlib.Core.List.{List, [], ◌∷◌, ◌++◌}
 use mathlib.Core.Option.{Option}
-use mathlib.Core.Path.{◌≡◌, refl, sym, ap, subst, ◌∙◌}
+use mathlib.Core.Path.{◌≡◌, sym, ap, subst, ◌∙◌}
 use native.Mathlib.Omega.{arith}
 use native.Mathlib.Numerals.{add-one}
-use lib.Dec.{eqb}
+use Rattle.std.specs.Prelude.{is_ok}
 use lib.ListN.{length, take, set, length-append}
 use lib.Seq.{take_all, take-append-le, take-suc-set}
 use Rattle.definition.specs.declared.MemoryRegion.{MemoryRegion}
 use Rattle.definition.specs.Board.{Board}
 use Rattle.definition.specs.Calls.{Call, Stats, Text}
-use Rattle.definition.specs.Script.{AddRegion, BootNow, Ask, Asked, Command, RunningOn, answer_line, bad_line, command_on, line_of, line_on}
+use Rattle.definition.specs.Script.{AddRegion, BootNow, Ask, Asked, Command, RunningOn, answer_line, bad_line, command_on, line_on}
 use Rattle.definition.specs.Text.{bytes_of}
 use Rattle.definition.specs.Torn.{Left, boot_call, call}
 use Rattle.definition.specs.Tracker.{tracker_stats}
 use Rattle.definition.specs.World.{World}
 use Rattle.boot.specs.Booting.{Boots, BootsAll}
-use Rattle.counts.specs.declared.Report.{Report}
 use Rattle.counts.specs.Counting.{Reports}
-use Rattle.exam.specs.declared.Answer.{Answer}
-use Rattle.exam.specs.Promise.{State, Leaves}
+use Rattle.exam.specs.Promise.{Answer, State, Leaves}
 use Rattle.lines.specs.declared.Ask.{Ask as Op}
 use Rattle.lines.specs.declared.Line.{Line}
 use Rattle.lines.specs.declared.Op.{Op as OpOf}
@@ -30,18 +28,22 @@ use Rattle.lines.specs.Reading.{Reads, asks_if, call_of, command_of, name_of, nu
 use Rattle.text.specs.Writing.{Wrote}
 use Rattle.text.proofs.Writing.{wrote_as}
 use Rattle.script.specs.declared.Running.{Running as RunningOf}
-use Rattle.script.specs.Running.{Running, Turn, Bad, Does, Enters, Loans, Stands, TellsAny, Turned, Turns, running_with, world_by}
+use Rattle.script.specs.Running.{Running, Turn, Bad, Does, Enters, Loans, Stands, TellsAny, Turned, Turns, line_by, running_with, world_by}
 use Rattle.script.proofs.Answers.{accepted, boot_line, call_line, stats_call}
 use Rattle.script.proofs.Writing.{wrote_nothing}
 
 module _ (board : Board) where
   -- a command where it is known whether a boot was accepted
-  pub does : (c : Command) (name : List ℕ) {r : Running} {l : Loans} (b : Bool) → r.booted ≡ b → {out out' : List ℕ} {at : ℕ} {l' : Loans} {t : Turn}
+  pub does
+      : (c : Command) (name : List ℕ) {r : Running} {l : Loans} (b : Bool) → r.booted ≡ b
+      → {out out' : List ℕ} {at : ℕ} {l' : Loans} {t : Turn}
       → ((x : RunningOn) → Stands r l x → Turned (command_on board x name c b) out at l' out' t) → Does board c name r l out at l' out' t
   does c name b e {out} {out'} {at} {l'} {t} f x S =
       subst (λ (y : Bool). Turned (command_on board x name c y) out at l' out' t) (sym (S.booted ∙ e)) (f x S)
 
-pub turned_bad : {r : Running} {out out' : List ℕ} {at n : ℕ} → Wrote out at bad_line out' n → Bad r out at out' (record { running = r; at = n })
+pub turned_bad
+    : {r : Running} {out out' : List ℕ} {at n : ℕ} → Wrote out at bad_line out' n
+    → Bad r out at out' (record { running = r; at = n })
 turned_bad w l x S = record { stands = S; wrote = w }
 
 -- ---- a region
@@ -58,7 +60,9 @@ enters_none map n m k h xs l e =
     take-append-le 8 xs (m ∷ []) (omega arith) ∙ e ∙ take_all n map (omega arith) ∙ sym (take_all (n + 1) map (omega arith))
 
 module _ (board : Board) where
-  pub turned_region : {r : Running} {l : Loans} (out : List ℕ) (at : ℕ) (name : List ℕ) {m : MemoryRegion} {map : List MemoryRegion} → r.booted ≡ false
+  pub turned_region
+      : {r : Running} {l : Loans} (out : List ℕ) (at : ℕ) (name : List ℕ) {m : MemoryRegion} {map : List MemoryRegion}
+      → r.booted ≡ false
       → Enters r.map r.count m map
       → Does board (AddRegion m) name r l out at l out
       (record { running = record { map = map; count = r.count + 1; booted = r.booted; state = r.state }; at = at })
@@ -79,13 +83,13 @@ module _ (board : Board) where
 module _ (board : Board) where
   module _ {r : Running} {l l' : Loans} {out out' : List ℕ} {at n : ℕ} {s : State} (name : List ℕ) where
     pub turned_boot : {y : Answer} → r.booted ≡ false → BootsAll board r.map r.count (world_by r.state l) (world_by s l') y
-        → Wrote out at (line_of name y.number y.address y.bytes) out' n
+        → Wrote out at (line_by name y) out' n
         → Does board BootNow name r l out at l' out'
-        (record { running = record { map = r.map; count = r.count; booted = eqb y.number 0; state = s }; at = n })
+        (record { running = record { map = r.map; count = r.count; booted = is_ok y; state = s }; at = n })
     turned_boot {y} early B w = does board BootNow name false early f
       where
         f : (x : RunningOn) → Stands r l x → Turned (command_on board x name BootNow false) out at l' out'
-            (record { running = record { map = r.map; count = r.count; booted = eqb y.number 0; state = s }; at = n })
+            (record { running = record { map = r.map; count = r.count; booted = is_ok y; state = s }; at = n })
         f x S =
             let b : Boots board x.map x.world (world_by s l') y
             = subst (λ (v : World). Boots board x.map v (world_by s l') y) (sym S.world) (B x.map S.long S.front) in
@@ -100,46 +104,50 @@ module _ (board : Board) where
             }
 
     -- a call whose text is the one that its answer has
-    turned_as : (c : Call) (b : Bool) → true ≡ b → r.booted ≡ true → (call board (world_by r.state l) c).world ≡ world_by s l'
+    turned_as : (c : Call) → r.booted ≡ true → (call board (world_by r.state l) c).world ≡ world_by s l'
         → Wrote out at (answer_line name (call board (world_by r.state l) c).answer) out' n
-        → Does board (Ask c) name r l out at l' out' (record { running = record { map = r.map; count = r.count; booted = b; state = s }; at = n })
-    turned_as c b e late v w =
+        → Does board (Ask c) name r l out at l' out'
+        (record { running = record { map = r.map; count = r.count; booted = r.booted; state = s }; at = n })
+    turned_as c late v w =
         does board (Ask c) name true late
         (λ x S. record {
           stands = record {
             world = ap (λ (u : World). (call board u c).world) S.world ∙ v;
-            booted = e;
+            booted = sym late;
             long = S.long;
             front = S.front;
           };
           wrote = wrote_as (ap (λ (u : World). answer_line name (call board u c).answer) (sym S.world)) w;
         })
 
-    pub turned_call : {y : Answer} (op : Op) (k : ℕ → ℕ) → r.booted ≡ true → Leaves board (world_by r.state l) (call_of op k) (world_by s l') y
-        → Wrote out at (line_of name y.number y.address y.bytes) out' n
+    pub turned_call
+        : {y : Answer} (op : Op) (k : ℕ → ℕ) → r.booted ≡ true
+        → Leaves board (world_by r.state l) (call_of op k) (world_by s l') y → Wrote out at (line_by name y) out' n
         → Does board (Ask (call_of op k)) name r l out at l' out'
-        (record { running = record { map = r.map; count = r.count; booted = true; state = s }; at = n })
+        (record { running = record { map = r.map; count = r.count; booted = r.booted; state = s }; at = n })
     turned_call op k late L w =
-        turned_as (call_of op k) true refl late L.world (wrote_as (call_line board name op k (world_by r.state l) L.answer) w)
+        turned_as (call_of op k) late L.world (wrote_as (call_line board name op k (world_by r.state l) L.answer) w)
 
 module _ (board : Board) where
   -- the statistics leave all as it is
-  pub turned_stats : {k : RunningOf} {out out' : List ℕ} {at n : ℕ} {p : Report} → k.booted ≡ true → Reports k.counters p
-      → Wrote out at (take p.len p.text) out' n → TellsAny board k out at out' (record { running = k; at = n })
-  turned_stats {k} late R w ws l sure small =
+  pub turned_stats : {k : RunningOf} {out out' : List ℕ} {at n : ℕ} → k.booted ≡ true → Reports k.counters out at out' n
+      → TellsAny board k out at out' n
+  turned_stats {k} late R ws l sure small =
       let r : Running = running_with k ws in
       let v : World = world_by r.state l in
       let e : call board v Stats ≡ record { world = v; answer = Text (tracker_stats k.counters) } =
       stats_call board v (sure late) small
       in
-      turned_as board {r = r} {l = l} (bytes_of "stats") Stats k.booted (sym late) late (ap (λ (x : Left). x.world) e)
-      (wrote_as (R.text ∙ sym (ap (λ (x : Left). answer_line (bytes_of "stats") x.answer) e)) w)
+      turned_as board {r = r} {l = l} (bytes_of "stats") Stats late (ap (λ (x : Left). x.world) e)
+      (wrote_as (sym (ap (λ (x : Left). answer_line (bytes_of "stats") x.answer) e)) R.wrote)
 
 -- ---- the line
 
 module _ (board : Board) where
   -- a line turns out as what it was read as
-  pub turns : {r : Running} {l l' : Loans} (line : List ℕ) {out out' : List ℕ} {at : ℕ} {t : Turn} (q : Line) → Reads line q → (o : OpOf) → q.op ≡ o
+  pub turns
+      : {r : Running} {l l' : Loans} (line : List ℕ) {out out' : List ℕ} {at : ℕ} {t : Turn} (q : Line) → Reads line q
+      → (o : OpOf) → q.op ≡ o
       → ((x : RunningOn) → Stands r l x → Turned (line_on board x (asks_if (name_of o) (command_of o (numbers_of q)))) out at l' out' t)
       → Turns board r l line out at l' out' t
   turns {r} {l} {l'} line {out} {out'} {at} {t} q R o e f x S =

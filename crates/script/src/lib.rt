@@ -186,9 +186,16 @@ fn boot_now(
         return bad(answer, at);
     }
     let board = definition::standard();
-    let map = running.map;
-    let count = running.count;
-    let y = boot::boot(board, &mut running.counters, words, map, count, records, memory, queue);
+    let y = boot::boot(
+        board,
+        &mut running.counters,
+        words,
+        running.map,
+        running.count,
+        records,
+        memory,
+        queue,
+    );
     running.booted = y.is_ok();
     put_line(answer, at, Op::Boot, y)
 }

@@ -4,8 +4,4 @@ use Rattle.script.proofs.Turning.{turned_bad}
 use Rattle.script.proofs.bad.Goals as goal
 
 pub returns : goal.returns
-returns c =
-    let p = c.put_line-next in record {
-      bad_any = λ ws. turned_bad (rw c.refused.ensures at p.ensures.wrote);
-      bounded = (omega arith, omega arith);
-    }
+returns c = record { bad_any = λ r ws. turned_bad c.put_line.ensures.wrote; upper_bound = omega arith }

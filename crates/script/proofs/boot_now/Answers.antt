@@ -2,29 +2,15 @@
 use mathlib.Core.Bool.{true}
 use Rattle.definition.specs.Script.{BootNow}
 use Rattle.definition.specs.Text.{bytes_of}
-use native.Mathlib.Omega.{arith}
-use Rattle.definition.proofs.Boards.{standard_fit}
 use Rattle.script.specs.Running.{program_board}
 use Rattle.script.proofs.Turning.{does, turned_boot}
 use Rattle.script.proofs.boot_now.Goals as goal
 
-pub returns-then-running : goal.returns-then-running
-returns-then-running c =
-    let B = c.bad in record {
-      does = does program_board BootNow (bytes_of "boot") true c.if-running.true (B.ensures.bad_any _ _);
-      bounded = (omega arith, omega arith);
-    }
+pub returns-then-running-clause-does : goal.returns-then-running-clause-does
+returns-then-running-clause-does c =
+    does program_board BootNow (bytes_of "boot") true c.if-running.true (c.bad.ensures.bad_any _ _ _)
 
-pub boot-o-requires : goal.boot-o-requires
-boot-o-requires c =
-    record {
-      fit = rw c.standard-board.ensures standard_fit;
-      long = omega arith;
-    }
-
-pub returns : goal.returns
-returns c =
-    record {
-      does = turned_boot program_board (bytes_of "boot") c.if-running.false (rw c.standard-board.ensures at c.boot-o.ensures.boots_all) c.put_line-at.ensures.wrote;
-      bounded = (omega arith, omega arith);
-    }
+pub returns-clause-does : goal.returns-clause-does
+returns-clause-does c =
+    let B = rw c.standard-board.ensures at c.boot-y.ensures.boots_all in
+    rw c.is_ok-running.ensures.value (turned_boot program_board (bytes_of "boot") c.if-running.false B c.put_line.ensures.wrote)

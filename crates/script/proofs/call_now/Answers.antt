@@ -1,8 +1,5 @@
 -- A bad line before a boot; after it, what the call leaves and answers. The loans are sound, so they are ready for it.
-use Prim.Native.Nat.{ℕ}
 use mathlib.Core.Bool.{false}
-use native.Mathlib.Omega.{arith}
-use borrow.Author.Tests.{not-true, not-false}
 use lib.ListN.{get_or}
 use Rattle.definition.specs.Script.{Ask}
 use Rattle.exam.proofs.Making.{bytes_small}
@@ -13,30 +10,19 @@ use Rattle.script.proofs.Turning.{does, turned_call}
 use Rattle.script.proofs.call_now.Goals as goal
 use Rattle.script.proofs.call_now.Goals.{Else-not-running}
 
-pub returns-then-not-running : goal.returns-then-not-running
-returns-then-not-running c =
+pub returns-then-not-running-clause-does : goal.returns-then-not-running-clause-does
+returns-then-not-running-clause-does c =
     let a = c.args in
-    let x = Ask (call_of a.op (λ i. get_or a.n i 0)) in record {
-      does = does program_board x (ask_name a.op) false (not-true _ c.if-not-running.true) (c.bad.ensures.bad_any _ _);
-      bounded = c.bad.ensures.bounded;
-    }
+    let x = Ask (call_of a.op (λ i. get_or a.n i 0)) in
+    does program_board x (ask_name a.op) false c.if-not-running.true (c.bad.ensures.bad_any _ _ _)
 
-pub make-o-requires : goal.make-o-requires
-make-o-requires c =
+pub make-y-requires : goal.make-y-requires
+make-y-requires c = sure_ready _ c.args.words.now _ _ _ c.requires.long (c.requires.sure c.if-not-running.false)
+
+pub returns-clause-does : goal.returns-clause-does
+returns-clause-does c =
     let a = c.args in
-    sure_ready a.running.counters a.words.now a.records.now a.memory.now a.queue.now c.requires.long
-    (c.requires.sure (not-false _ c.if-not-running.false))
-
-pub put_line-at-requires : goal.put_line-at-requires
-put_line-at-requires c = omega (arith, c.requires.at_in_bounds)
-
-pub returns : goal.returns
-returns c =
-    let a = c.args in
-    let n : ℕ → ℕ = λ i. get_or a.n i 0 in
-    let late = not-false _ c.if-not-running.false in
-    let small = bytes_small a.records.now (goal.at.returns c).Else-not-running.type_inv.records in
-    let L = sure_leaves a.words.now (c.requires.sure late) small c.make-o.ensures.makes in record {
-      does = turned_call program_board (ask_name a.op) a.op n late L c.put_line-at.ensures.wrote;
-      bounded = (omega arith, omega arith);
-    }
+    let late = c.if-not-running.false in
+    let small = bytes_small a.records.now (goal.at.returns-clause-does c).Else-not-running.type_inv.records in
+    let L = sure_leaves a.words.now (c.requires.sure late) small c.make-y.ensures.makes in
+    turned_call program_board (ask_name a.op) a.op (λ i. get_or a.n i 0) late L c.put_line.ensures.wrote

@@ -12,8 +12,8 @@ pub loop-at-init : goal.loop-at-init
 unfolding bytes_of
 loop-at-init c = going c.requires.words_value c.put_text-w.ensures c.requires.script_in_bounds c.fresh-running.ensures
 
-pub take_turn-t-requires : goal.take_turn-t-requires
-take_turn-t-requires c =
+pub take_turn-w-requires : goal.take_turn-w-requires
+take_turn-w-requires c =
     let k = c.loop-at in record {
       long = omega (arith, k.invariant.words);
       sure = reached_sure standard_fit k.invariant.stands k.invariant.reached;
@@ -22,8 +22,9 @@ take_turn-t-requires c =
 
 pub loop-at-preserved : goal.loop-at-preserved
 loop-at-preserved c =
-    let E = c.take_turn-t.ensures in
-    going_on standard_fit c.take_turn-t.result c.loop-at.invariant c.next_line-cursor.ensures E.turns E.bounded
+    let t = c.take_turn-w in
+    let E = t.ensures in
+    going_on standard_fit t.new.running t.result c.loop-at.invariant c.next_line-cursor.ensures E.turns E.bounded
     (omega arith) (record { records = omega arith; memory = omega arith; queue = omega arith })
 
 pub shape_of-words : goal.shape_of-words

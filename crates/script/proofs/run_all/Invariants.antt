@@ -6,8 +6,9 @@ use Rattle.script.proofs.Going.{Going}
 use Rattle.script.proofs.run_all.Given as goal
 
 abbrev pub invariant-loop-at : goal.invariant-loop-at
-invariant-loop-at l = Going program_board l.script (record { records = l.initial.records; memory = l.initial.memory; queue = l.initial.queue }) l.initial.answer l.initial.w l.words
-    (record { records = l.records; memory = l.memory; queue = l.queue }) l.answer l.w l.running l.at
+invariant-loop-at l =
+    Going program_board l.script (record { records = l.initial.records; memory = l.initial.memory; queue = l.initial.queue })
+    l.initial.answer l.initial.w l.words (record { records = l.records; memory = l.memory; queue = l.queue }) l.answer l.w l.running l.at
 
 abbrev pub decreases-loop-at : goal.decreases-loop-at
 decreases-loop-at l = length l.script - l.at
