@@ -180,8 +180,8 @@ impl<'a> Region<'a> {
 
     // "each list walks front to back in its count, both ways, over unheld frames of its region, level and mark". From both ends at once:
     // where the nodes are scattered, each step waits for memory, and the two chains of steps wait side by side. It comes after the scan: as
-    // no page then has a mark bit but those named, marks and level are compared as one number. It is kept out of line: else the test of an
-    // empty list goes out of line with it, and an audit of 16 listed pages takes 63 ns in place of 55.
+    // no page then has a mark bit but those named, marks and level are compared as one number. It stays out of line: else the test of an
+    // empty list goes out of line with it.
     #[tactic(auto, using(crate::proofs::Marks::page_within))]
     #[inline(never)]
     fn walk(&self, k: usize, links: Links) -> bool
@@ -271,6 +271,7 @@ impl<'a> Lists<'a> {
 fn listed_pages(row: Row) -> usize
     ensures { result ≡ listed_pages (placed_at 0 row) }
 {
+    // Not `map(..).sum()`: its bound would have to be asked of the caller.
     let mut pages = 0;
     for (k, links) in row.lists.iter().enumerate() {
         pages += level::pages_at(k / 2) * (links.count as usize);
