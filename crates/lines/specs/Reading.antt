@@ -1,5 +1,5 @@
--- What a line of a script is read as: an op and its numbers. `Reads` says that definition's `read_line` asks the same of it; `NextLine` says
--- where a line ends and where the next one starts.
+-- What a line of a script is read as: an op and its numbers. `Reads` says that definition's `read_line` asks the same of it; `NextLine`
+-- says where a line ends and where the next one starts.
 use Rattle.std.specs.Prelude.{ℕ, ◌-◌, ◌%◌, ◌≤◌, ◌<◌, List, ◌∷◌, ◌≡◌, length, get_or, take, drop}
 use Rattle.std.proofs.Math.Option.{Option, none, some}
 use Rattle.definition.specs.Text.{bytes_of}

@@ -20,8 +20,8 @@ ghost use Rattle.tracker.specs.Stats.{counts_line, hundredths, share_of, share_l
 
 use definition::{Board, Counters};
 
-// tracker.rs 69 to 80: so many pages were granted, to the kernel or not. Here and in `count_free` a counter falls to 0 at the lowest, so that
-// each count is the definition's on every input. On a sound store nothing is ever cut off.
+// tracker.rs 69 to 80: so many pages were granted, to the kernel or not. Here and in `count_free` a counter falls to 0 at the lowest, so
+// that each count is the definition's on every input. On a sound store nothing is ever cut off.
 #[tactic(auto, unfolding(definition::specs::Tracker::count_alloc))]
 pub fn count_alloc(c: Counters, pages: usize, kernel: bool) -> Counters
     requires { (c.kernel_used + pages < 2 ^ 64) × (c.page_data + pages < 2 ^ 64) }

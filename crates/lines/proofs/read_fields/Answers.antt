@@ -1,4 +1,5 @@
--- `read_fields` meets its contract: a line too long, one with numbers, and one of a name alone. The op may be unknown, and a number unreadable.
+-- `read_fields` meets its contract: a line too long, one with numbers, and one of a name alone. The op may be unknown, and a number
+-- unreadable.
 use Rattle.std.proofs.Common.{arith, refl}
 use Rattle.std.specs.Prelude.{Some, None}
 use Rattle.lines.specs.Steps.{no_numbers}
