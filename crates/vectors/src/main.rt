@@ -49,7 +49,7 @@ fn number_at(file: &[u8], at: usize) -> u64
     v
 }
 
-// A name, a number and a line feed, at the front of `line`.
+// A name, a number and a line feed, at the front of `line`: what the file has is compared with these bytes.
 fn put_heading(line: &mut [u8], name: &[u8], n: u64) -> usize
     requires { length name.now + 21 ≤ length line.old }
     ensures { Spelt (headed name.now n) line.new result }
