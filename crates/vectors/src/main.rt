@@ -49,7 +49,7 @@ fn number_at(file: &[u8], at: usize) -> u64
     v
 }
 
-// A name, a number and a line feed, at the front of `line`.
+// A name, a number and a line feed, at the front of `line`: what the file has is compared with these bytes.
 fn put_heading(line: &mut [u8], name: &[u8], n: u64) -> usize
     requires { length name.now + 21 ≤ length line.old }
     ensures { Spelt (headed name.now n) line.new result }
@@ -177,41 +177,49 @@ fn say<W: Write>(out: &mut W, name: &str, n: u64) -> io::Result<()>
     writeln!(out, "{name}{n}")
 }
 
-// A line on standard error. Where it can't be written there is nowhere left to say so.
-fn complain(rt: &impl Eprint, error: &io::Error) {
-    let _ = eprintln!(rt; "vectors: standard output: {error}");
+// Where a replay says what it finds: a writer, and standard error for where that can't be written.
+#[derive(Drop)]
+struct Console<'a, P: Eprint, W: Write> {
+    rt: &'a P,
+    out: &'a mut W,
 }
 
-// How many differ after one script more. The first ten that do are named, by their number from 1 on; where such a line can't be written,
-// one on standard error says so, and the count goes on.
-fn differences<W: Write>(
-    rt: &impl Eprint,
-    out: &mut W,
-    before: u64,
-    script: u64,
-    is_same: bool,
-) -> u64
-    requires { before < 2097152 }
-    ensures { result ≡ before + bit (not is_same) }
-{
-    if is_same {
-        return before;
+impl<P: Eprint, W: Write> Console<'_, P, W> {
+    // A line on standard error. Where it can't be written there is nowhere left to say so.
+    fn complain(&self, error: &io::Error) {
+        let _ = eprintln!(self.rt; "vectors: standard output: {error}");
     }
-    if before < 10 {
-        if let Err(error) = say(out, "differs at script ", script) {
-            complain(rt, &error);
+
+    // How many differ after one script more. The first ten that do are named, by their number from 1 on; where such a line can't be
+    // written, one on standard error says so, and the count goes on.
+    fn differences(&mut self, before: u64, script: u64, is_same: bool) -> u64
+        requires { before < 2097152 }
+        ensures { result ≡ before + bit (not is_same) }
+    {
+        if is_same {
+            return before;
         }
+        if before < 10 {
+            if let Err(error) = say(self.out, "differs at script ", script) {
+                self.complain(&error);
+            }
+        }
+        before + 1
     }
-    before + 1
 }
 
 // What was replayed after one case more.
-fn counted<W: Write>(rt: &impl Eprint, out: &mut W, t: Tally, p: Places, is_same: bool) -> Tally
+fn counted<P: Eprint, W: Write>(
+    console: &mut Console<'_, P, W>,
+    t: Tally,
+    p: Places,
+    is_same: bool,
+) -> Tally
     requires { (t.scripts < 2097152) × (t.lines < 17179869184) × (t.differ < 2097152) × (p.lines ≤ 8191) }
     ensures { result ≡ counted_def t p.lines p.next is_same }
 {
     let scripts = t.scripts + 1;
-    let differ = differences(rt, out, t.differ, scripts, is_same);
+    let differ = console.differences(t.differ, scripts, is_same);
     Tally {
         at: p.next,
         scripts,
@@ -221,9 +229,8 @@ fn counted<W: Write>(rt: &impl Eprint, out: &mut W, t: Tally, p: Places, is_same
 }
 
 #[tactic(auto, using(crate::proofs::Counting::seen_more))]
-fn replay_one<W: Write>(
-    rt: &impl Eprint,
-    out: &mut W,
+fn replay_one<P: Eprint, W: Write>(
+    console: &mut Console<'_, P, W>,
     file: &[u8],
     answers: &mut [u8],
     t: Tally,
@@ -233,12 +240,11 @@ fn replay_one<W: Write>(
 {
     let p = next_case(file, t.at)?;
     let is_same = agrees(&file[p.script..p.end], &file[p.answers..p.next], answers);
-    Ok(counted(rt, out, t, p, is_same))
+    Ok(counted(console, t, p, is_same))
 }
 
-fn replay<W: Write>(
-    rt: &impl Eprint,
-    out: &mut W,
+fn replay<P: Eprint, W: Write>(
+    console: &mut Console<'_, P, W>,
     file: &[u8],
     answers: &mut [u8],
 ) -> Result<Tally, BadFraming>
@@ -247,7 +253,7 @@ fn replay<W: Write>(
 {
     let mut t = Tally::default();
     while t.at < file.len() {
-        t = replay_one(rt, out, file, answers, t)?;
+        t = replay_one(console, file, answers, t)?;
     }
     Ok(t)
 }
@@ -264,26 +270,25 @@ fn report<W: Write>(out: &mut W, replayed: Result<Tally, BadFraming>) -> io::Res
     }
 }
 
-fn replay_all<W: Write>(rt: &impl Eprint, out: &mut W, file: &[u8]) -> Result<()>
+fn replay_all<P: Eprint, W: Write>(console: &mut Console<'_, P, W>, file: &[u8]) -> Result<()>
     requires { length file.now ≤ 1048576 }
 {
     let mut answers = program::answer_room();
-    let replayed = replay(rt, out, file, &mut answers);
-    report(out, replayed).context("vectors: standard output")
+    let replayed = replay(console, file, &mut answers);
+    report(console.out, replayed).context("vectors: standard output")
 }
 
-fn replay_input<R: Read, W: Write>(
-    rt: &impl Eprint,
+fn replay_input<R: Read, P: Eprint, W: Write>(
+    console: &mut Console<'_, P, W>,
     reader: &mut R,
-    out: &mut W,
     file: &mut [u8],
 ) -> Result<()>
     requires { length file.old ≤ 1048577 }
 {
     match program::read_all(reader, file) {
-        Ok(n) => replay_all(rt, out, &file[..n]),
+        Ok(n) => replay_all(console, &file[..n]),
         Err(InputError::TooLong) => {
-            let _ = eprintln!(rt; "vectors: the file is longer than 1048576 bytes");
+            let _ = eprintln!(console.rt; "vectors: the file is longer than 1048576 bytes");
             Ok(())
         }
         Err(InputError::Failed(error)) => Err(error).context("vectors: standard input"),
@@ -293,5 +298,9 @@ fn replay_input<R: Read, W: Write>(
 fn main(rt: HostRuntime) -> Result<()> {
     // A byte more than the file may have.
     let mut file = program::room_of::<1048577>();
-    replay_input(&rt, &mut rt.stdin(), &mut rt.stdout(), &mut file)
+    let mut console = Console {
+        rt: &rt,
+        out: &mut rt.stdout(),
+    };
+    replay_input(&mut console, &mut rt.stdin(), &mut file)
 }
