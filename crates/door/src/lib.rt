@@ -139,6 +139,7 @@ pub fn read_place(
 }
 
 // 01, "Added `read`": the part of the lent memory that starts at the frame's offset.
+#[tactic(auto, using(crate::proofs::Reporting::lends_part))]
 pub fn read<'a>(
     counters: Counters,
     words: &[u64],
