@@ -82,25 +82,26 @@ module _ (board : Board) where
 
 module _ (board : Board) where
   module _ {r : Running} {l l' : Loans} {out out' : List ℕ} {at n : ℕ} {s : State} (name : List ℕ) where
-    pub turned_boot : {y : Answer} → r.booted ≡ false → BootsAll board r.map r.count (world_by r.state l) (world_by s l') y
-        → Wrote out at (line_by name y) out' n
+    pub turned_boot
+        : {y : Answer} {b : Bool} → r.booted ≡ false → b ≡ is_ok y
+        → BootsAll board r.map r.count (world_by r.state l) (world_by s l') y → Wrote out at (line_by name y) out' n
         → Does board BootNow name r l out at l' out'
-        (record { running = record { map = r.map; count = r.count; booted = is_ok y; state = s }; at = n })
-    turned_boot {y} early B w = does board BootNow name false early f
+        (record { running = record { map = r.map; count = r.count; booted = b; state = s }; at = n })
+    turned_boot {y} {b} early e B w = does board BootNow name false early f
       where
         f : (x : RunningOn) → Stands r l x → Turned (command_on board x name BootNow false) out at l' out'
-            (record { running = record { map = r.map; count = r.count; booted = is_ok y; state = s }; at = n })
+            (record { running = record { map = r.map; count = r.count; booted = b; state = s }; at = n })
         f x S =
-            let b : Boots board x.map x.world (world_by s l') y
+            let o : Boots board x.map x.world (world_by s l') y
             = subst (λ (v : World). Boots board x.map v (world_by s l') y) (sym S.world) (B x.map S.long S.front) in
             record {
               stands = record {
-                world = b.world;
-                booted = accepted (boot_call board x.map x.world).answer b.answer;
+                world = o.world;
+                booted = accepted (boot_call board x.map x.world).answer o.answer ∙ sym e;
                 long = S.long;
                 front = S.front;
               };
-              wrote = wrote_as (boot_line board name x.map x.world b.answer) w;
+              wrote = wrote_as (boot_line board name x.map x.world o.answer) w;
             }
 
     -- a call whose text is the one that its answer has

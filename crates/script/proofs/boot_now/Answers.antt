@@ -13,4 +13,4 @@ returns-then-running-clause-does c =
 pub returns-clause-does : goal.returns-clause-does
 returns-clause-does c =
     let B = rw c.standard-board.ensures at c.boot-y.ensures.boots_all in
-    rw c.is_ok-running.ensures.value (turned_boot program_board (bytes_of "boot") c.if-running.false B c.put_line.ensures.wrote)
+    turned_boot program_board (bytes_of "boot") c.if-running.false c.is_ok-running.ensures.value B c.put_line.ensures.wrote
