@@ -53,9 +53,9 @@ pub fn refusals(definition: &str, text: &str) -> Result<(), String> {
 /// The ops of calls by number.
 pub fn ops(lines: &str, store: &str, text: &str) -> Result<(), String> {
     let mut cases = rattle::cases(lines, "Ask")?;
-    // Those that answer by bytes and the boot stand between the first and the last.
+    // Those that answer by bytes and the boot stand behind the first.
     let asked = rattle::cases(store, "Asked")?;
-    cases.extend(asked.get(1..asked.len() - 1).unwrap_or(&[]).iter().cloned());
+    cases.extend(asked.into_iter().skip(1));
     if cases.len() != OPS.len() {
         return Err(format!("there are {} ops, and {} in Rust", cases.len(), OPS.len()));
     }
