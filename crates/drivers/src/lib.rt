@@ -301,7 +301,11 @@ fn copy_all(
     let to = PhysAddr::new(target);
     let from = PhysAddr::new(source);
     for i in 0..times {
-        if copy(counters, words, records, memory, queue, to, 0, from, 0, size).is_err() {
+        if copy(
+            counters, words, records, memory, queue, to, 0, from, 0, size,
+        )
+        .is_err()
+        {
             return i;
         }
     }
