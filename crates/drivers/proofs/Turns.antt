@@ -11,7 +11,9 @@ use Rattle.std.specs.Prelude.{is_ok}
 use Rattle.exam.specs.Promise.{Answer, Leaves}
 use Rattle.drivers.specs.Driving.{Driven, Drives, Turn, turn, turns}
 
-pub leaves_turn : {w : World} {c : Call} {v : World} {y : Answer} → Leaves standard w c v y → turn c w ≡ record { world = v; answer = y }
+pub leaves_turn
+    : {w : World} {c : Call} {v : World} {y : Answer} → Leaves standard w c v y
+    → turn c w ≡ record { world = v; answer = y }
 unfolding turn
 leaves_turn L = rw (L.world, L.answer) refl
 

@@ -7,12 +7,14 @@ use Rattle.drivers.proofs.copy_all.Goals as goal
 pub returns-then-is_err : goal.returns-then-is_err
 unfolding board_in
 returns-then-is_err c =
-    rw (c.new-to.ensures, c.new-from.ensures) at (stopped c.loop-i.invariant.2 c.loop-i-test.true (leaves_turn c.copy.ensures) c.if-is_err.ensures.negation)
+    let stop = stopped c.loop-i.invariant.2 c.loop-i-test.true (leaves_turn c.copy.ensures) c.if-is_err.ensures.negation in
+    rw (c.new-to.ensures, c.new-from.ensures) at stop
 
 pub loop-i-preserved : goal.loop-i-preserved
 unfolding board_in
 loop-i-preserved c =
-    (omega arith, omega arith, onward c.loop-i.invariant.2 c.loop-i-test.true (leaves_turn c.copy.ensures) c.if-is_err.ensures.negation)
+    let next = onward c.loop-i.invariant.2 c.loop-i-test.true (leaves_turn c.copy.ensures) c.if-is_err.ensures.negation in
+    (omega arith, omega arith, next)
 
 pub returns : goal.returns
 returns c =

@@ -7,13 +7,15 @@ use Rattle.drivers.proofs.drivers_fill.Goals as goal
 pub returns-then-is_err : goal.returns-then-is_err
 unfolding board_in
 returns-then-is_err c =
+    let stop = stopped c.loop-i.invariant.2 c.loop-i-test.true (leaves_turn c.fill.ensures) c.if-is_err.ensures.negation in
     rw (c.booted-counters.ensures, c.granted-frame.ensures)
-    (rw (c.new-pa.ensures, c.address_in.ensures) at (stopped c.loop-i.invariant.2 c.loop-i-test.true (leaves_turn c.fill.ensures) c.if-is_err.ensures.negation))
+    (rw (c.new-pa.ensures, c.address_in.ensures) at stop)
 
 pub loop-i-preserved : goal.loop-i-preserved
 unfolding board_in
 loop-i-preserved c =
-    (omega arith, omega arith, onward c.loop-i.invariant.2 c.loop-i-test.true (leaves_turn c.fill.ensures) c.if-is_err.ensures.negation)
+    let next = onward c.loop-i.invariant.2 c.loop-i-test.true (leaves_turn c.fill.ensures) c.if-is_err.ensures.negation in
+    (omega arith, omega arith, next)
 
 pub returns : goal.returns
 returns c =

@@ -5,12 +5,14 @@ use Rattle.drivers.proofs.drivers_grants.Goals as goal
 
 pub returns-then-is_err : goal.returns-then-is_err
 returns-then-is_err c =
+    let stop = stopped c.loop-i.invariant.3 c.loop-i-test.true c.granted_and_freed.ensures c.if-is_err.ensures.negation in
     rw c.booted-counters.ensures
-    (stopped c.loop-i.invariant.3 c.loop-i-test.true c.granted_and_freed.ensures c.if-is_err.ensures.negation)
+    stop
 
 pub loop-i-preserved : goal.loop-i-preserved
 loop-i-preserved c =
-    (omega arith, omega arith, omega arith, onward c.loop-i.invariant.3 c.loop-i-test.true c.granted_and_freed.ensures c.if-is_err.ensures.negation)
+    let next = onward c.loop-i.invariant.3 c.loop-i-test.true c.granted_and_freed.ensures c.if-is_err.ensures.negation in
+    (omega arith, omega arith, omega arith, next)
 
 pub returns : goal.returns
 returns c =
