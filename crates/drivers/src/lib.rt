@@ -153,6 +153,7 @@ pub extern "C" fn drivers_finds(
 
 // ---- calls on contents, each with the torn test before it, as the library makes them
 
+#[tactic(auto, using(door::proofs::Testing::leaves_torn))]
 fn zero(
     counters: Counters,
     words: &[u64],
@@ -171,6 +172,7 @@ fn zero(
     ranges::zero(words, records, memory, pa)
 }
 
+#[tactic(auto, using(door::proofs::Testing::leaves_torn))]
 fn fill(
     counters: Counters,
     words: &[u64],
