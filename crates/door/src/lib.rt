@@ -18,6 +18,7 @@ use lines::Ask;
 
 // ---- any call that answers by numbers
 
+#[tactic(auto, using(crate::proofs::Testing::leaves_torn))]
 pub fn ask(
     counters: &mut Counters,
     words: &mut [u64],
@@ -40,6 +41,7 @@ pub fn ask(
 
 // ---- the three calls that a kernel makes most
 
+#[tactic(auto, using(crate::proofs::Testing::leaves_torn))]
 pub fn find(
     counters: Counters,
     words: &[u64],
@@ -57,6 +59,7 @@ pub fn find(
     frames::find(words, records, pa)
 }
 
+#[tactic(auto, using(crate::proofs::Testing::leaves_torn))]
 pub fn free(
     counters: &mut Counters,
     words: &mut [u64],
@@ -75,6 +78,7 @@ pub fn free(
     frames::free(counters, words, records, pa)
 }
 
+#[tactic(auto, using(crate::proofs::Testing::leaves_torn))]
 pub fn alloc(
     counters: &mut Counters,
     words: &mut [u64],
@@ -98,6 +102,7 @@ pub fn alloc(
 
 // ---- the calls that take or give bytes
 
+#[tactic(auto, using(crate::proofs::Testing::leaves_torn))]
 pub fn write(
     counters: Counters,
     words: &[u64],
@@ -119,6 +124,7 @@ pub fn write(
 }
 
 // Where the bytes that are read stand in the memory.
+#[tactic(auto, using(crate::proofs::Reporting::finds_torn))]
 pub fn read_place(
     counters: Counters,
     words: &[u64],

@@ -1,6 +1,6 @@
--- The laws of a driver's loop. Its invariant is `Onward`: the turns that are left, from the world as it is, come to what all turns come to from the first
--- world. `onward` is a turn that is accepted, `stopped` one that is refused, and `ended` the end of the last turn.
-use Prim.Native.Nat.{ℕ, suc, ◌+◌, ◌-◌, ◌<◌}
+-- The laws of a driver's loop. Its invariant is `Onward`: the turns that are left, from the world as it is, come to what all turns come to
+-- from the first world. `onward` is a turn that is accepted, `stopped` one that is refused, and `ended` the end of the last turn.
+use Prim.Native.Nat.{ℕ, suc, ◌+◌, ◌-◌, ◌≤◌, ◌<◌}
 use mathlib.Core.Path.{◌≡◌, refl}
 use native.Mathlib.Omega.{arith}
 use mathlib.Core.Bool.{true, false}
@@ -11,7 +11,9 @@ use Rattle.std.specs.Prelude.{is_ok}
 use Rattle.exam.specs.Promise.{Answer, Leaves}
 use Rattle.drivers.specs.Driving.{Driven, Drives, Turn, turn, turns}
 
-pub leaves_turn : {w : World} {c : Call} {v : World} {y : Answer} → Leaves standard w c v y → turn c w ≡ record { world = v; answer = y }
+pub leaves_turn
+    : {w : World} {c : Call} {v : World} {y : Answer} → Leaves standard w c v y
+    → turn c w ≡ record { world = v; answer = y }
 unfolding turn
 leaves_turn L = rw (L.world, L.answer) refl
 
@@ -25,9 +27,12 @@ drives_as : {d : Driven} (w : World) (n : ℕ) → record { world = w; accepted 
 drives_as w n e = rw (← e) (record { records = refl; memory = refl; accepted = refl })
 
 module _ {t : World → Turn} {times : ℕ} {first w : World} {i : ℕ} (O : Onward t times first w i) where
-  pub ended : (i < times → ⊥) → Drives (turns t times 0 first) w.records w.memory i
+  pub ended : times ≤ i → i ≤ times → Drives (turns t times 0 first) w.records w.memory times
   unfolding turns
-  ended h = let e : times - i ≡ 0 = omega arith in drives_as w i (rw e at O.same)
+  ended low high =
+      let e : times - i ≡ 0 = omega arith in
+      let same : i ≡ times = omega arith in
+      rw same at (drives_as w i (rw e at O.same))
 
   module _ {v : World} {y : Answer} (h : i < times) (e : t w ≡ record { world = v; answer = y }) where
     one_more_lem : times - i ≡ suc (times - (i + 1))

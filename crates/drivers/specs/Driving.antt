@@ -1,5 +1,6 @@
--- What a driver leaves in the loans and answers: the same turn again and again, each on the world as the last left it, until one is refused. A reader takes
--- from here what the number of a driver counts (`turns`, `Drives`), and from which world it starts (`booted_world`, `held`).
+-- What a driver leaves in the loans and answers: the same turn again and again, each on the world as the last left it, until one is
+-- refused. A reader takes from here what the number of a driver counts (`turns`, `Drives`), and from which world it starts
+-- (`booted_world`, `held`).
 use Rattle.std.specs.Prelude.{ℕ, zero, suc, ◌+◌, false, cond, List, [], ◌∷◌, Ok, Err, is_ok, ◌≡◌}
 use Rattle.definition.specs.declared.MemoryRegion.{MemoryRegion}
 use Rattle.definition.specs.declared.MemoryRegionKind.TheVariants.{UsableRam}

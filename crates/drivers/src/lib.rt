@@ -153,6 +153,7 @@ pub extern "C" fn drivers_finds(
 
 // ---- calls on contents, each with the torn test before it, as the library makes them
 
+#[tactic(auto, using(door::proofs::Testing::leaves_torn))]
 fn zero(
     counters: Counters,
     words: &[u64],
@@ -171,6 +172,7 @@ fn zero(
     ranges::zero(words, records, memory, pa)
 }
 
+#[tactic(auto, using(door::proofs::Testing::leaves_torn))]
 fn fill(
     counters: Counters,
     words: &[u64],
@@ -301,7 +303,11 @@ fn copy_all(
     let to = PhysAddr::new(target);
     let from = PhysAddr::new(source);
     for i in 0..times {
-        if copy(counters, words, records, memory, queue, to, 0, from, 0, size).is_err() {
+        if copy(
+            counters, words, records, memory, queue, to, 0, from, 0, size,
+        )
+        .is_err()
+        {
             return i;
         }
     }

@@ -1,12 +1,6 @@
 -- The test, then the place of the bytes, which is that of every store that the loans hold.
-use Rattle.std.proofs.lemmas.Result.{err_from_is_err_and}
-use Rattle.door.proofs.Reporting.{finds_passed, finds_torn}
+use Rattle.door.proofs.Reporting.{finds_passed}
 use Rattle.door.proofs.read_place.Goals as goal
-
-pub returns-in_err-torn_test : goal.returns-in_err-torn_test
-returns-in_err-torn_test c =
-    let p = err_from_is_err_and c.from_residual.result c.from_residual.ensures.1 in
-    rw (p.1, p.2) (finds_torn c.in_err-torn_test.ensures)
 
 pub returns : goal.returns
 returns c = finds_passed c.in_ok-torn_test.ensures c.read_place.ensures

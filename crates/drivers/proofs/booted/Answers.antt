@@ -6,8 +6,8 @@ use native.Mathlib.Omega.{arith}
 use Rattle.drivers.specs.Driving.{booted_world, usable}
 use Rattle.drivers.proofs.booted.Goals as goal
 
-pub boot-outcome-requires : goal.boot-outcome-requires
-boot-outcome-requires c =
+pub boot-requires : goal.boot-requires
+boot-requires c =
     record {
       fit = rw c.standard-board.ensures standard_fit;
       long = omega arith;
@@ -18,4 +18,4 @@ unfolding booted_world
 returns c =
     let a = c.args in
     let map = ap (λ (n : ℕ). usable n a.bytes) (sym c.new-2.ensures) in
-    rw (c.standard-board.ensures, c.started.ensures) at (c.boot-outcome.ensures.boots_all (usable a.start a.bytes) refl map).world
+    rw (c.standard-board.ensures, c.started-counters.ensures) at (c.boot.ensures.boots_all (usable a.start a.bytes) refl map).world

@@ -1,5 +1,4 @@
 -- The words stay as they are, and the other loans keep their lengths.
-use Prim.Native.Nat.{◌-◌, ◌<◌, ◌^◌}
 use mathlib.Core.Path.{◌≡◌}
 use lib.ListN.{length}
 use Rattle.definition.specs.Calls.{Copy}
@@ -9,9 +8,9 @@ use Rattle.drivers.proofs.Turns.{Onward}
 use Rattle.drivers.proofs.copy_all.Given as goal
 
 abbrev pub invariant-loop-i : goal.invariant-loop-i
-invariant-loop-i l = (l.times < 2 ^ 64) × (length l.records ≡ length l.initial.records) × (length l.memory ≡ length l.initial.memory)
-    × Onward (turn (Copy l.to.0 0 l.from.0 0 l.size)) l.times (world_of (state_with l.counters l.words) l.initial.records l.initial.memory l.queue)
+invariant-loop-i l =
+    (length l.records ≡ length l.initial.records)
+    × (length l.memory ≡ length l.initial.memory)
+    × Onward (turn (Copy l.to.0 0 l.from.0 0 l.size)) l.times
+    (world_of (state_with l.counters l.words) l.initial.records l.initial.memory l.queue)
     (world_of (state_with l.counters l.words) l.records l.memory l.queue) l.i
-
-abbrev pub decreases-loop-i : goal.decreases-loop-i
-decreases-loop-i l = l.times - l.i

@@ -1,5 +1,4 @@
 -- The words and the counters stay those of the grant, and the other loans keep their lengths.
-use Prim.Native.Nat.{◌-◌, ◌<◌, ◌^◌}
 use mathlib.Core.Path.{◌≡◌}
 use lib.ListN.{length}
 use Rattle.definition.specs.Calls.{Fill}
@@ -9,9 +8,8 @@ use Rattle.drivers.proofs.Turns.{Onward}
 use Rattle.drivers.proofs.drivers_fill.Given as goal
 
 abbrev pub invariant-loop-i : goal.invariant-loop-i
-invariant-loop-i l = (l.times < 2 ^ 64) × (length l.records ≡ length l.initial.records) × (length l.memory ≡ length l.initial.memory)
-    × Onward (turn (Fill l.pa.0 0 l.size 85)) l.times (world_of (state_with l.grant.counters l.words) l.initial.records l.initial.memory l.queue)
-    (world_of (state_with l.grant.counters l.words) l.records l.memory l.queue) l.i
-
-abbrev pub decreases-loop-i : goal.decreases-loop-i
-decreases-loop-i l = l.times - l.i
+invariant-loop-i l =
+    (length l.records ≡ length l.initial.records)
+    × (length l.memory ≡ length l.initial.memory)
+    × Onward (turn (Fill l.pa.0 0 l.size 85)) l.times (world_of (state_with l.counters l.words) l.initial.records l.initial.memory l.queue)
+    (world_of (state_with l.counters l.words) l.records l.memory l.queue) l.i

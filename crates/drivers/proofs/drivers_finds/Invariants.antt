@@ -1,5 +1,4 @@
 -- A lookup changes nothing, so that each turn is that of the same world.
-use Prim.Native.Nat.{◌-◌, ◌<◌, ◌^◌}
 use Rattle.definition.specs.Calls.{Find}
 use Rattle.exam.specs.Promise.{state_with, world_of}
 use Rattle.drivers.specs.Driving.{turn}
@@ -7,7 +6,6 @@ use Rattle.drivers.proofs.Turns.{Onward}
 use Rattle.drivers.proofs.drivers_finds.Given as goal
 
 abbrev pub invariant-loop-i : goal.invariant-loop-i
-invariant-loop-i l = let w = world_of (state_with l.counters l.words) l.records l.memory l.queue in (l.times < 2 ^ 64) × Onward (turn (Find l.address)) l.times w w l.i
-
-abbrev pub decreases-loop-i : goal.decreases-loop-i
-decreases-loop-i l = l.times - l.i
+invariant-loop-i l =
+    let w = world_of (state_with l.counters l.words) l.records l.memory l.queue in
+    Onward (turn (Find l.address)) l.times w w l.i
