@@ -1,1 +1,2 @@
+pub mod Testing
 pub mod Reporting

@@ -1,95 +1,86 @@
--- What the calls that answer by bytes promise at the door, from what they promise of every store: `Reports` of the statistics, `Finds` and `Lends` of a read.
-use Prim.Native.Nat.{ℕ, ◌<◌}
-use mathlib.Core.Bool.{Bool, true, false, cond}
-use mathlib.Core.List.{List, []}
+-- What the calls that answer by bytes promise at the door, from what they promise of every store: `Reports` of the statistics, `Finds` and
+-- `Lends` of a read.
+use Prim.Native.Nat.{ℕ}
+use mathlib.Core.List.{List}
 use mathlib.Core.Path.{◌≡◌, refl, sym, ap, ◌∙◌}
+use Rattle.std.specs.Prelude.{Result, Ok, Err, ⊤}
 use native.Mathlib.Omega.{arith}
-use borrow.Author.Tests.{eqb-true}
-use lib.Dec.{eqb}
-use lib.ListN.{drop, get_or, take}
+use lib.ListN.{drop, take}
 use Rattle.definition.specs.declared.Counters.{Counters}
+use Rattle.definition.specs.declared.Refusal.{Refusal}
 use Rattle.definition.specs.Board.{Board}
-use Rattle.definition.specs.Calls.{Call, Read, Stats, answer_number}
+use Rattle.definition.specs.Calls.{Call, Read, Stats}
 use Rattle.definition.specs.World.{World, decode}
-use Rattle.definition.specs.Torn.{Left, call, sound}
-use Rattle.definition.specs.Tracker.{tracker_stats}
-use Rattle.world.proofs.Calling.{torn_call}
-use Rattle.exam.specs.declared.Answer.{Answer}
-use Rattle.exam.specs.Promise.{Leaves, told}
-use Rattle.exam.specs.Making.{RoomIn, world}
-use Rattle.exam.proofs.Making.{leaves_made, sound_whole}
-use Rattle.exam.proofs.Promises.{done_by, refused_by}
+use Rattle.definition.specs.Torn.{call}
 use Rattle.words.specs.Words.{board_in}
-use Rattle.copies.specs.declared.Place.{Place}
-use Rattle.copies.specs.Copies.{FindsIn, read_by}
-use Rattle.copies.proofs.Reading.{refused_bytes, told_number}
-use Rattle.counts.specs.Counting.{text_of}
-use Rattle.counts.specs.declared.Report.{Report}
+use Rattle.exam.specs.Making.{Tests, world}
+use Rattle.exam.specs.Promise.{refusal_in}
+use Rattle.exam.proofs.Making.{sound_whole}
+use Rattle.copies.specs.Copies.{FindsIn}
+use Rattle.counts.specs.Counting.{Reports as Reported}
 use Rattle.counts.proofs.Recounted.{stats_text}
 use Rattle.door.specs.Tested.{Finds, Lends, Reports}
+use Rattle.door.proofs.Testing.{leaves_passed, leaves_torn, passed}
 
-module _ (board : Board) (w : World) where
-  pub reports_torn : sound board w ≡ false → {r : Report} → r.number ≡ 6 → r.len ≡ 0 → Reports board w r
-  reports_torn t {r} n l =
-      let e = torn_call board w Stats t in
-      record {
-        world = ap (λ (x : Left). x.world) e;
-        answer = ap (λ (x : Left). told x.answer) e ∙ rw (n, l) refl;
-        text = rw l (sym (ap (λ (x : Left). text_of x.answer) e));
-      }
+module _ {k : Counters} {ws rs m q : List ℕ} where
+  -- ---- torn
 
-  pub reports_made
-      : sound board w ≡ true → {r : Report} → Leaves board w Stats w (record { number = r.number; address = 0; bytes = r.len })
-      → take r.len r.text ≡ tracker_stats w.counters → Reports board w r
-  reports_made t L e = record { world = L.world; answer = L.answer; text = e ∙ sym (stats_text board w t) }
+  module _ {r : Refusal} (T : Tests k ws rs m q (Err r)) where
+    pub finds_torn : {a off len : ℕ} → Finds (board_in ws) (world k ws rs m q) (Read a off len) len (Err r)
+    finds_torn {a} {off} {len} =
+        let L = leaves_torn T (Read a off len) in
+        record {
+          world = L.world;
+          answer = L.answer;
+          inside = λ at e. absurd (grind arith);
+          bytes = λ at e. absurd (grind arith);
+        }
 
--- ---- a read
+    pub reports_torn : {text : List ℕ} {at : ℕ} → Reports (board_in ws) (world k ws rs m q) text at text (Err r)
+    reports_torn =
+        let L = leaves_torn T Stats in
+        record { world = L.world; answer = L.answer; refused = λ e s. refl; wrote = λ next e. absurd (grind arith) }
 
-module _ (board : Board) (w : World) where
-  pub finds_torn
-      : sound board w ≡ false → {a off len : ℕ} → Finds board w (Read a off len) len (record { number = 6; at = 0 })
-  finds_torn t {a} {off} {len} =
-      let e = torn_call board w (Read a off len) t in
-      record {
-        numbers = record { world = ap (λ (x : Left). x.world) e; number = sym (ap (λ (x : Left). answer_number x.answer) e) };
-        inside = λ z. absurd (omega arith);
-        bytes = λ z. absurd (omega arith);
-      }
+  -- ---- passed
 
-read_number_lem : (n len : ℕ) → (read_by n len).number ≡ n
-read_number_lem n len = go (eqb n 0) refl
-  where
-    go : (t : Bool) → eqb n 0 ≡ t → (cond t (done_by 0 len) (refused_by n)).number ≡ n
-    go true e = sym (eqb-true n 0 e)
-    go false e = refl
+  module _ {u : ⊤} (T : Tests k ws rs m q (Ok u)) where
+    pub finds_passed
+        : {a off len : ℕ} {x : Result ℕ Refusal} → FindsIn ws rs a off len x
+        → Finds (board_in ws) (world k ws rs m q) (Read a off len) len x
+    unfolding call
+    finds_passed {a} {off} {len} F =
+        let P = passed T in
+        let L = leaves_passed T {c = Read a off len} (F.makes k m q) in
+        record {
+          world = L.world;
+          answer = L.answer;
+          inside = λ at e. F.inside at e m P.ready.room;
+          bytes = λ at e.
+              let w = world k ws rs m q in
+              F.bytes at e k m q (decode (board_in ws) w) (sound_whole w P.is_sound P.bytes) ∙ rw P.is_sound refl;
+        }
 
-module _ (k : Counters) (ws rs m q : List ℕ) (t : sound (board_in ws) (world k ws rs m q) ≡ true) (small : (i : ℕ) → get_or rs i 0 < 256) where
-  abbrev w : World
-  w = world k ws rs m q
-
-  pub finds_made : RoomIn ws m → {a off len : ℕ} {r : Place} → FindsIn ws rs a off len r → Finds (board_in ws) w (Read a off len) len r
-  unfolding call
-  finds_made room {a} {off} {len} {r} F =
-      let L = leaves_made {w = w} t small (F.makes k m q) in
-      record {
-        numbers =
-            record {
-              world = L.world;
-              number = sym (sym (told_number (call (board_in ws) w (Read a off len)).answer) ∙ ap (λ (y : Answer). y.number) L.answer ∙ read_number_lem r.number len);
-            };
-        inside = λ z. F.inside z m room;
-        bytes = λ z. F.bytes z k m q (decode (board_in ws) w) (sound_whole w t small) ∙ rw t refl;
-      }
+    pub reports_passed
+        : {text text2 : List ℕ} {at next : ℕ} → Reported k text at text2 next
+        → Reports (board_in ws) (world k ws rs m q) text at text2 (Ok next)
+    reports_passed {text} {text2} {at} {next} R =
+        let P = passed T in
+        let L = leaves_passed T {c = Stats} (R.makes ws rs m q) in
+        record {
+          world = L.world;
+          answer = L.answer;
+          refused = λ r e. absurd (grind arith);
+          wrote = λ n e.
+              let same : next ≡ n = grind arith in rw (← same, stats_text (board_in ws) (world k ws rs m q) P.is_sound) R.wrote;
+        }
 
 -- ---- the part that is lent
 
-module _ {board : Board} {w : World} {c : Call} {n : ℕ} {r : Place} (F : Finds board w c n r) where
-  pub lends_none : (r.number ≡ 0 → ⊥) → Lends board w c []
-  lends_none d =
+module _ {board : Board} {w : World} {c : Call} {n : ℕ} where
+  pub lends_part : {at : ℕ} → Finds board w c n (Ok at) → Lends board w c (Ok (take n (drop at w.memory)))
+  lends_part {at} F =
       record {
-        world = F.numbers.world;
-        bytes = sym (refused_bytes (call board w c).answer (λ e. d (F.numbers.number ∙ e)));
+        world = F.world;
+        refusal = ap refusal_in (sym F.answer);
+        bytes = λ bs e. let same : take n (drop at w.memory) ≡ bs = grind arith in sym same ∙ F.bytes at refl;
       }
-
-  pub lends_part : r.number ≡ 0 → Lends board w c (take n (drop r.at w.memory))
-  lends_part z = record { world = F.numbers.world; bytes = F.bytes z }

@@ -1,5 +1,5 @@
--- What the calls that answer by bytes promise at the door, beside `Leaves`: `Finds` and `Lends` of a read, whose answer is a part of the lent memory, and
--- `Reports` of the statistics.
+-- What the calls that answer by bytes promise at the door, beside `Leaves`: `Finds` and `Lends` of a read, whose answer is a part of the
+-- lent memory, and `Reports` of the statistics.
 use Rattle.std.specs.Prelude.{ℕ, ◌+◌, ◌-◌, ◌≤◌, List, Result, Ok, Err, ◌≡◌, length, take, drop}
 use Rattle.std.proofs.Common.{Bor}
 use Rattle.definition.specs.declared.Refusal.{Refusal}
