@@ -1,23 +1,22 @@
 -- What it says of the loans that they are a state's, and what a call over them leaves and answers, by what it leaves of the world and answers there.
-use Prim.Native.Nat.{ℕ, ◌≤◌, ◌<◌}
+use Prim.Native.Nat.{ℕ, ◌-◌, ◌≤◌, ◌<◌}
 use mathlib.Core.Bool.{Bool, true, false, cond, and-false}
 use mathlib.Core.List.{List, [], ◌∷◌}
 use mathlib.Core.Option.{Option, none, some}
 use mathlib.Core.Path.{◌≡◌, refl, sym, ap, ◌∙◌}
 use native.Mathlib.Omega.{arith}
 use borrow.Author.Tests.{leb-true, le-leb, lt-leb, ne_eqb}
-use lib.Dec.{eqb, leb}
-use lib.ListN.{length, take, length-take}
+use lib.Dec.{leb}
+use lib.ListN.{length}
 use Rattle.definition.specs.declared.Counters.{Counters}
 use Rattle.definition.specs.declared.MemoryRegion.{MemoryRegion}
 use Rattle.definition.specs.declared.Refusal.{Refusal}
-use Rattle.definition.specs.declared.Refusal.TheVariants.{Torn}
 use Rattle.definition.specs.Board.{Board, standard}
 use Rattle.definition.specs.Boot.{boot_sheet}
 use Rattle.definition.specs.Refusal.{first_met, number_of}
-use Rattle.definition.specs.Calls.{Answer as AnswerOf, Call, Read, Refused, Done, Text, Bytes, Stats, answer_number, names, perform, sheet, step, unless_refused}
-use Rattle.definition.specs.World.{World, decode}
-use Rattle.definition.specs.Torn.{boot_call, booted as booted_world, call, sound, untouched, unless_refused as unlessBootRefused, written as writtenWorld}
+use Rattle.definition.specs.Calls.{Answer as AnswerOf, Call, Read, Refused, Done, Text, Bytes, Stats}
+use Rattle.definition.specs.World.{World}
+use Rattle.definition.specs.Torn.{boot_call, booted as booted_world, call, unless_refused as unlessBootRefused}
 use Rattle.definition.proofs.Tests.{and_left, and_right}
 use Rattle.record.specs.Records.{with_bytes}
 use Rattle.words.specs.Words.{board_in, Long, state_words, counters_at, Beside, word_in, is_kept, counters_in, counter_words}
@@ -232,6 +231,7 @@ module _ (l : Lent) (text : List ℕ) where
     where
       -- the statistics are refused
       pub reports_not : (r : Refusal) → x ≡ Err r → ReportsWith k l text k l text' (number_of r)
+      unfolding tells
       reports_not r z =
           let n = le-leb 368 (length text) h in
           record {
@@ -250,8 +250,9 @@ module _ (l : Lent) (text : List ℕ) where
           → ReportsWith k l text k (record { words = l.words; records = l.records; memory = l.memory; queue = l.queue; answer = answer }) text' 0
       reports next z t =
           let n = le-leb 368 (length text) h in
+          let d : next - 0 ≡ next = omega arith in
           record {
-            loans = rw n (serves_with l k (record { world = R.world; answer = rw z at R.answer }) t refl e refl beside_same);
+            loans = rw n (serves_with l k (record { world = R.world; answer = rw (z, d) at R.answer }) t refl e refl beside_same);
             report = rw (n, e) (R.wrote next z).bytes;
           }
 

@@ -169,7 +169,16 @@ pub fn serve_alloc(
     }
     let mut counters = words::counters_in(words);
     let flags = FrameAllocFlags::from(flags);
-    let y = door::alloc(&mut counters, words, records, memory, queue, size, align, flags);
+    let y = door::alloc(
+        &mut counters,
+        words,
+        records,
+        memory,
+        queue,
+        size,
+        align,
+        flags,
+    );
     words::put_counters(words, counters);
     tell(answer, y)
 }
@@ -383,7 +392,16 @@ pub fn serve_boot(
         return Err(short_boot(map, count, records.len(), memory.len()));
     }
     let mut counters = words::counters_in(words);
-    let told = serve_boot_with(&mut counters, map, count, words, records, memory, queue, answer);
+    let told = serve_boot_with(
+        &mut counters,
+        map,
+        count,
+        words,
+        records,
+        memory,
+        queue,
+        answer,
+    );
     words::put_counters(words, counters);
     told
 }

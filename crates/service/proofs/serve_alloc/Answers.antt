@@ -50,5 +50,5 @@ returns c =
     let else_not_is_lent = (goal.at.returns c).Else-not-is_lent in
     let l = loans (goal.at.returns c).Start in
     made_in_words _ l (lent else_not_is_lent)
-    (serves_with l (counters_in l.words) (rw (c.counters_in-counters.ensures, c.flags_of.ensures) at c.alloc-y.ensures.leaves) c.tell.ensures.1 (told_code _ c.tell.ensures.0) (lent else_not_is_lent) c.alloc-y.auto.words c.alloc-y.ensures.beside)
+    (serves_with l (counters_in l.words) (rw (c.counters_in-counters.ensures, c.from-flags.ensures) at c.alloc-y.ensures.leaves) c.tell.ensures.1 (told_code _ c.tell.ensures.0) (lent else_not_is_lent) c.alloc-y.auto.words c.alloc-y.ensures.beside)
     ∙ rw c.put_counters.ensures refl

@@ -1,7 +1,8 @@
 -- Loans that are too short are refused by the map or as 5; else `boot` promises what it leaves of them, and its answer is told.
 use mathlib.Core.Bool.{true}
-use mathlib.Core.Path.{◌≡◌, sym, ◌∙◌}
+use mathlib.Core.Path.{◌≡◌, ap, sym, ◌∙◌}
 use Rattle.definition.proofs.Boards.{standard_fit}
+use Rattle.definition.specs.Refusal.{number_of}
 use Rattle.service.specs.Serving.{Lent, is_roomy}
 use Rattle.service.proofs.Serving.{boots, boots_with_short, roomy_room, roomy_words, told_code}
 use Rattle.service.proofs.serve_boot_with.Goals as goal
@@ -26,7 +27,7 @@ returns-then-not-is_roomy c =
     λ ms e f.
     let s = (goal.at.returns-then-not-is_roomy c).Start in
     boots_with_short ms (loans s) s.args.counters.now (sym c.is_roomy.ensures ∙ c.if-not-is_roomy.true)
-    (c.short_boot.ensures ms e f)
+    (ap number_of (c.short_boot.ensures ms e f))
 
 pub boot-y-requires : goal.boot-y-requires
 boot-y-requires c =

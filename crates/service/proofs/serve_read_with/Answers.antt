@@ -1,8 +1,9 @@
 -- The place that `read_place` finds is told in front of the answer, and nothing else changes.
 use mathlib.Core.Bool.{true}
 use mathlib.Core.Path.{◌≡◌, ap, sym, ◌∙◌}
+use Rattle.std.proofs.lemmas.Result.{err_from_is_err_and}
 use Rattle.service.specs.Serving.{Lent, Counted, is_lent, world_with}
-use Rattle.service.proofs.Serving.{lent_room, lent_words, places, places_refused, serves_with_torn, told_code}
+use Rattle.service.proofs.Serving.{lent_room, lent_words, places, places_not, places_refused, serves_with_torn}
 use Rattle.service.proofs.serve_read_with.Goals as goal
 use Rattle.service.proofs.serve_read_with.Goals.{Else-not-is_lent, Start}
 
@@ -28,14 +29,23 @@ returns-then-not-is_lent c =
     (ap (λ (x : Counted). x.served.number)
     (serves_with_torn _ (loans s) k (sym c.is_lent.ensures ∙ c.if-not-is_lent.true)))
 
-pub read_place-place-requires : goal.read_place-place-requires
-read_place-place-requires c = lent_words (loans (goal.at.read_place-place-requires c).Start) (lent c)
+pub read_place-requires : goal.read_place-requires
+read_place-requires c = lent_words (loans (goal.at.read_place-requires c).Start) (lent (goal.at.read_place-requires c).Else-not-is_lent)
 
 pub tell-requires : goal.tell-requires
 tell-requires c = lent_room (loans (goal.at.tell-requires c).Start) (lent (goal.at.tell-requires c).Else-not-is_lent)
 
+pub returns-in_err-at : goal.returns-in_err-at
+returns-in_err-at c =
+    let s = (goal.at.returns-in_err-at c).Start in
+    let p = err_from_is_err_and c.from_residual.result c.from_residual.ensures.1 in
+    rw (p.1, p.2)
+    (places_not s.args.pa.0 s.args.offset s.args.len (loans s) s.args.counters c.read_place.ensures (lent (goal.at.returns-in_err-at c).Else-not-is_lent)
+    _ c.in_err-at.was)
+
 pub returns : goal.returns
 returns c =
     let s = (goal.at.returns c).Start in
-    places s.args.pa.0 s.args.offset s.args.len (loans s) s.args.counters c.read_place-place.ensures (lent (goal.at.returns c).Else-not-is_lent)
-    c.tell.ensures.1 (told_code _ c.tell.ensures.0)
+    rw c.tell.ensures.0
+    (places s.args.pa.0 s.args.offset s.args.len (loans s) s.args.counters c.read_place.ensures (lent (goal.at.returns c).Else-not-is_lent)
+    c.in_ok-at.at c.in_ok-at.was c.tell.ensures.1)

@@ -1,5 +1,5 @@
 -- The map's refusal, or 5 where it meets none.
-use mathlib.Core.Path.{refl, sym, ◌∙◌}
+use mathlib.Core.Path.{refl}
 use Rattle.definition.proofs.Boards.{standard_fit}
 use Rattle.service.proofs.short_boot.Goals as goal
 
