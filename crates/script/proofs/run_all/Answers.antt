@@ -1,10 +1,8 @@
 -- The loop carries `Going` from the header to the last line. The measure is what is left of the script.
-use mathlib.Core.Path.{ap, sym, ◌∙◌}
 use native.Mathlib.Omega.{arith}
-use lib.ListN.{length}
 use Rattle.definition.proofs.Boards.{standard_fit}
 use Rattle.definition.specs.Text.{bytes_of}
-use Rattle.script.proofs.Going.{going, going_on, gone, one_less}
+use Rattle.script.proofs.Going.{going, going_on, gone}
 use Rattle.script.proofs.Reaching.{reached_sure}
 use Rattle.script.proofs.run_all.Goals as goal
 
@@ -12,13 +10,8 @@ pub loop-at-init : goal.loop-at-init
 unfolding bytes_of
 loop-at-init c = going c.requires.words_value c.put_text-w.ensures c.requires.script_in_bounds c.fresh-running.ensures
 
-pub take_turn-w-requires : goal.take_turn-w-requires
-take_turn-w-requires c =
-    let k = c.loop-at in record {
-      long = omega (arith, k.invariant.words);
-      sure = reached_sure standard_fit k.invariant.stands k.invariant.reached;
-      at_in_bounds = (omega (arith, one_less c.next_line-cursor.ensures, k.invariant.space), omega (arith, k.invariant.few));
-    }
+pub take_turn-w-requires-clause-sure : goal.take_turn-w-requires-clause-sure
+take_turn-w-requires-clause-sure c = reached_sure standard_fit c.loop-at.invariant.stands c.loop-at.invariant.reached
 
 pub loop-at-preserved : goal.loop-at-preserved
 loop-at-preserved c =
@@ -26,9 +19,6 @@ loop-at-preserved c =
     let E = t.ensures in
     going_on standard_fit t.new.running t.result c.loop-at.invariant c.next_line-cursor.ensures E.turns E.bounded
     (omega arith) (record { records = omega arith; memory = omega arith; queue = omega arith })
-
-pub shape_of-words : goal.shape_of-words
-shape_of-words c = c.loop-at.invariant.words ∙ sym (ap length c.requires.words_value)
 
 pub returns : goal.returns
 unfolding bytes_of
