@@ -14,17 +14,18 @@ ghost use Rattle.leaves.specs.Contents.{inside, turns_if, filled, copied};
 use address::PhysAddr;
 use definition::{Board, Links, Pass, Record, Row};
 
-fn wide(x: u32) -> u64
-    ensures { (result ≡ x) × (result < 4294967296) }
+// Whether a loan of records has one for each of `count` pages, and at most 1,048,576.
+fn fits(records: &[u8], count: usize) -> bool
+    ensures { result ≡ (leb count (pages_in records.now) && leb (pages_in records.now) 1048576) }
 {
-    x as u64
+    let most = records.len() / 16;
+    count <= most && most <= 1048576
 }
 
 fn store_all(records: &mut [u8], count: usize)
     requires { (count ≤ pages_in records.old) × (count ≤ 1048576) }
 {
-    let mut i: usize = 0;
-    while i < count {
+    for i in 0..count {
         let n = i as u32;
         record::store(
             records,
@@ -36,7 +37,6 @@ fn store_all(records: &mut [u8], count: usize)
                 later: n + 1,
             },
         );
-        i += 1;
     }
 }
 
@@ -45,11 +45,7 @@ fn store_all(records: &mut [u8], count: usize)
 pub extern "C" fn leaves_store(records: &mut [u8], count: usize) -> usize
     ensures { count ≤ pages_in records.old → pages_in records.old ≤ 1048576 → result ≡ count }
 {
-    let most = records.len() / 16;
-    if most < count {
-        return 0;
-    }
-    if 1048576 < most {
+    if !fits(records, count) {
         return 0;
     }
     store_all(records, count);
@@ -60,11 +56,9 @@ fn load_all(records: &[u8], count: usize) -> u64
     requires { (count ≤ pages_in records.now) × (count ≤ 1048576) }
 {
     let mut sum: u64 = 0;
-    let mut i: usize = 0;
-    while i < count {
+    for i in 0..count {
         let r = record::load(records, i);
-        sum += wide(r.marks) + wide(r.level) + wide(r.earlier) + wide(r.later);
-        i += 1;
+        sum += u64::from(r.marks) + u64::from(r.level) + u64::from(r.earlier) + u64::from(r.later);
     }
     sum
 }
@@ -72,11 +66,7 @@ fn load_all(records: &[u8], count: usize) -> u64
 // The sum of the numbers in the records of the first `count` pages.
 #[unsafe(no_mangle)]
 pub extern "C" fn leaves_load(records: &[u8], count: usize) -> u64 {
-    let most = records.len() / 16;
-    if most < count {
-        return 0;
-    }
-    if 1048576 < most {
+    if !fits(records, count) {
         return 0;
     }
     load_all(records, count)
@@ -88,10 +78,8 @@ fn push_all(records: &mut [u8], count: usize) -> Links
     ensures count_value { result.count ≡ count }
 {
     let mut l = list::EMPTY;
-    let mut i: usize = 0;
-    while i < count {
+    for i in 0..count {
         l = list::push_back(records, l, i);
-        i += 1;
     }
     l
 }
@@ -102,15 +90,13 @@ fn pop_all(records: &mut [u8], list: Links, count: usize) -> usize
     ensures { result ≡ count }
 {
     let mut l = list;
-    let mut i: usize = 0;
-    while i < count {
+    for i in 0..count {
         let Some((_, rest)) = list::pop_back(records, l) else {
             return i;
         };
         l = rest;
-        i += 1;
     }
-    i
+    count
 }
 
 // Pushes the first `count` pages on an empty list.
@@ -118,11 +104,7 @@ fn pop_all(records: &mut [u8], list: Links, count: usize) -> usize
 pub extern "C" fn leaves_push(records: &mut [u8], count: usize) -> usize
     ensures { count ≤ pages_in records.old → pages_in records.old ≤ 1048576 → result ≡ count }
 {
-    let most = records.len() / 16;
-    if most < count {
-        return 0;
-    }
-    if 1048576 < most {
+    if !fits(records, count) {
         return 0;
     }
     let l = push_all(records, count);
@@ -134,11 +116,7 @@ pub extern "C" fn leaves_push(records: &mut [u8], count: usize) -> usize
 pub extern "C" fn leaves_push_pop(records: &mut [u8], count: usize) -> usize
     ensures { count ≤ pages_in records.old → pages_in records.old ≤ 1048576 → result ≡ count }
 {
-    let most = records.len() / 16;
-    if most < count {
-        return 0;
-    }
-    if 1048576 < most {
+    if !fits(records, count) {
         return 0;
     }
     let l = push_all(records, count);
@@ -176,15 +154,12 @@ fn grant_all(
     requires whole_at { (WholeAt board records.old 0 words.old 0) × (level < 3) }
     ensures { result ≤ times }
 {
-    let mut i: usize = 0;
-    while i < times {
-        let got = region::allocate(board, records, 0, words, 0, level, false, false);
-        if got.is_none() {
+    for i in 0..times {
+        if region::allocate(board, records, 0, words, 0, level, false, false).is_none() {
             return i;
         }
-        i += 1;
     }
-    i
+    times
 }
 
 // Lays a region out, makes up to `times` grants of a level, and answers how many there were. The first grant that finds its list empty
@@ -200,17 +175,7 @@ pub extern "C" fn leaves_grants(
     ensures { result ≤ times }
 {
     let board = definition::standard();
-    if 2 < level {
-        return 0;
-    }
-    if 1048576 < pages {
-        return 0;
-    }
-    let most = records.len() / 16;
-    if most < pages - region::table_pages(board, pages) {
-        return 0;
-    }
-    if 1048576 < most {
+    if 2 < level || 1048576 < pages || !fits(records, pages - region::table_pages(board, pages)) {
         return 0;
     }
     let row = region::new(board, records, 0, PhysAddr::new(start), pages);
@@ -223,32 +188,18 @@ pub extern "C" fn leaves_grants(
 #[unsafe(no_mangle)]
 pub extern "C" fn leaves_new(records: &mut [u8], start: u64, pages: usize) -> usize {
     let board = definition::standard();
-    if 1048576 < pages {
-        return 0;
-    }
-    let most = records.len() / 16;
-    if most < pages - region::table_pages(board, pages) {
-        return 0;
-    }
-    if 1048576 < most {
+    if 1048576 < pages || !fits(records, pages - region::table_pages(board, pages)) {
         return 0;
     }
     let row = region::new(board, records, 0, PhysAddr::new(start), pages);
-    let small = row.lists[0];
-    small.count as usize
+    row.lists[0].count as usize
 }
 
 // Whether `len` bytes from `at` on lie in a loan of `most`.
 fn lies(at: usize, len: usize, most: usize) -> bool
     ensures { result ≡ leb (at + len) most }
 {
-    if most < len {
-        return false;
-    }
-    if most - len < at {
-        return false;
-    }
-    true
+    len <= most && at <= most - len
 }
 
 // Fills a range, `times` times, each time with another byte, so that no turn can be left out.
@@ -260,12 +211,10 @@ pub extern "C" fn leaves_fill(memory: &mut [u8], at: usize, len: usize, times: u
     if !lies(at, len, memory.len()) {
         return 0;
     }
-    let mut i: usize = 0;
-    while i < times {
+    for i in 0..times {
         contents::fill(memory, at, len, (i % 256) as u8);
-        i += 1;
     }
-    i
+    times
 }
 
 // Copies a range to another, which it may overlap, `times` times.
@@ -280,16 +229,11 @@ pub extern "C" fn leaves_copy(
     ensures value { result ≡ turns_if (inside memory.old to len && inside memory.old from len) times }
     ensures memory_after { memory.new ≡ copied to from len result memory.old }
 {
-    if !lies(to, len, memory.len()) {
+    if !lies(to, len, memory.len()) || !lies(from, len, memory.len()) {
         return 0;
     }
-    if !lies(from, len, memory.len()) {
-        return 0;
-    }
-    let mut i: usize = 0;
-    while i < times {
+    for _ in 0..times {
         contents::copy(memory, to, from, len);
-        i += 1;
     }
-    i
+    times
 }

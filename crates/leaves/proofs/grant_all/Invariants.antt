@@ -1,8 +1,6 @@
 -- Each grant leaves the region sound and whole, as the next one requires.
-use Prim.Native.Nat.{ℕ, ◌-◌, ◌≤◌}
+use Prim.Native.Nat.{ℕ}
 use mathlib.Core.List.{List}
-use mathlib.Core.Path.{◌≡◌}
-use lib.ListN.{length}
 use Rattle.definition.specs.Board.{Board}
 use Rattle.definition.specs.World.{record_at}
 use Rattle.record.specs.Records.{pages_in}
@@ -10,16 +8,10 @@ use Rattle.words.specs.Words.{InUse, row_of, rows_in}
 use Rattle.region.specs.Rep.{SoundRow, WholeRow}
 use Rattle.leaves.proofs.grant_all.Given as goal
 
-pub record Inv (board : Board) (records₀ words₀ : List ℕ) (times : ℕ) (records words : List ℕ) (i : ℕ) : Type 0 where
-  pub some : i ≤ times
-  pub records_same : length records ≡ length records₀
-  pub words_same : length words ≡ length words₀
+pub record Inv (board : Board) (records words : List ℕ) : Type 0 where
   pub used : InUse words 0
   pub sound : SoundRow board (record_at records) (pages_in records) 0 (row_of (rows_in words) 0)
   pub whole : WholeRow board (record_at records) 0 (row_of (rows_in words) 0)
 
 abbrev pub invariant-loop-i : goal.invariant-loop-i
-invariant-loop-i l = Inv l.board l.initial.records l.initial.words l.times l.records l.words l.i
-
-abbrev pub decreases-loop-i : goal.decreases-loop-i
-decreases-loop-i l = l.times - l.i
+invariant-loop-i l = Inv l.board l.records l.words

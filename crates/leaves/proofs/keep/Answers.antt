@@ -18,7 +18,8 @@ unused_narrow : NarrowRow no_row
 unused_narrow =
     record {
       six = refl;
-      narrow = λ k h. rw (get_or-replicate 6 k no_links no_links h) (record { front = omega arith; back = omega arith; count = omega arith });
+      narrow = λ k h.
+          rw (get_or-replicate 6 k no_links no_links h) (record { front = omega arith; back = omega arith; count = omega arith });
     }
 
 -- eight rows, of which the first alone may be in use
@@ -49,4 +50,5 @@ module _ (ws : List ℕ) (row : Row) (h : Long ws) (n : NarrowRow row) where
 
 pub returns : goal.returns
 returns c =
-    rw (c.put_kept.ensures, c.empty_row-unused.ensures, c.new.ensures) (kept_alone c.args.words.now c.args.row c.requires (row_narrow c.args.row _ c.well_formed.1.0))
+    rw (c.put_kept.ensures, c.empty_row-unused.ensures, c.new.ensures)
+    (kept_alone c.args.words.now c.args.row c.requires (row_narrow c.args.row _ c.well_formed.1.0))

@@ -10,8 +10,6 @@ use Rattle.leaves.proofs.push_all.Goals as goal
 pub loop-i-init : goal.loop-i-init
 loop-i-init c =
     record {
-      some = omega arith;
-      same = refl;
       sound = linked_sound (linked_empty _ _);
       below = rw (linked_pages (linked_empty (record_at c.args.records.now) 0)) all_none;
       counted = refl;
@@ -26,30 +24,12 @@ push_back-l-requires c =
       page_bound_2 = (omega arith, omega (arith, k.invariant.counted));
     }
 
-pub overflow_add-i : goal.overflow_add-i
-overflow_add-i c = omega arith
-
-pub loop-i-smaller : goal.loop-i-smaller
-loop-i-smaller c = omega arith
-
 pub loop-i-preserved : goal.loop-i-preserved
 loop-i-preserved c =
     let k = c.loop-i in
     let d = c.push_back-l in
     record {
-      some = omega arith;
-      same = omega (arith, d.auto.records);
       sound = d.ensures.sound;
       below = rw d.ensures.pages (below_next k.invariant.below);
       counted = omega (arith, count_more k.invariant.sound d.ensures);
-    }
-
-pub shape_of-records : goal.shape_of-records
-shape_of-records c = omega arith
-
-pub returns : goal.returns
-returns c =
-    record {
-      sound = c.loop-i.invariant.sound;
-      count_value = omega arith;
     }
