@@ -75,9 +75,6 @@ module _ (board : Board) where
   used_booted rows i e h = all_first (row_as_boot board) (used_at rows i h) (all_drop (row_as_boot board) (used_rows rows) i e)
 
 module _ (board : Board) where
-  pub booted_at : (rows : List Row) (i : ℕ) → all (row_as_boot board) (used_rows rows) ≡ true → i < length (used_rows rows) → Booted board (row_at rows i)
-  booted_at rows i e h = booted board (row_at rows i) (used_booted board rows i e h)
-
   -- each row of a list of such
   pub booted_in : (rows : List Row) (i : ℕ) (d : Row) → all (row_as_boot board) rows ≡ true → i < length rows → Booted board (get_or rows i d)
   booted_in rows i d e h = booted board (get_or rows i d) (all_first (row_as_boot board) (drop_at rows i d h) (all_drop (row_as_boot board) rows i e))

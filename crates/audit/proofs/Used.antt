@@ -7,14 +7,9 @@ use mathlib.Core.Path.{◌≡◌, refl, ap, ◌∙◌}
 use native.Mathlib.Omega.{arith}
 use lib.Dec.{eqb}
 use lib.ListN.{length, get_or, take, drop}
-use mir.Val.{Val}
-use denote.Laws.{Is}
-use denote.Array.{Array}
 use borrow.Author.Tests.{eq-eqb, ne_eqb}
 use Rattle.definition.specs.declared.Row.{Row}
 use Rattle.definition.specs.World.{used_rows}
-use Rattle.definition.specs.contracts.Row as R
-use Rattle.words.proofs.Owned.{rows_eight}
 use Rattle.audit.specs.Sheet.{row_at}
 use Rattle.audit.proofs.Onward.{drop_at}
 
@@ -56,9 +51,6 @@ used_front (r ∷ rs) = go (eqb r.pages 0) (used_front rs)
     go : (t : Bool) → take (length (used_rows rs)) rs ≡ used_rows rs → take (length (cond t [] (r ∷ used_rows rs))) (r ∷ rs) ≡ cond t [] (r ∷ used_rows rs)
     go true h = refl
     go false h = ap (λ (l : List Row). r ∷ l) h
-
-pub used_eight : (rows : List Row) (vs : List Val) → Is (Array R.the_row 8) rows vs → length (used_rows rows) ≤ 8
-used_eight rows vs p = omega (arith, used_most rows, rows_eight rows vs p)
 
 -- ---- their number, counted from what is left of the rows
 

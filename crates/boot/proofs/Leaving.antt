@@ -33,8 +33,9 @@ use Rattle.world.proofs.Memory.{memory_back}
 use Rattle.world.proofs.Spans.{OfSpans, bared, managed_spans, memory_same}
 use Rattle.exam.proofs.Promises.{refused_by}
 use Rattle.exam.specs.Promise.{told}
-use Rattle.boot.specs.Booting.{Boots, Lays, eight, kept_rows, lay_rows}
+use Rattle.boot.specs.Booting.{Boots, eight, kept_rows, lay_rows}
 use Rattle.boot.proofs.KeptRows.{kept_spans, kept_used}
+use Rattle.boot.proofs.OneByOne.{LaysEight}
 use Rattle.boot.proofs.Laying.{laid_bare, new_laid}
 use Rattle.boot.proofs.Sheet.{Admitted}
 
@@ -86,7 +87,7 @@ module _ (board : Board) where
 module _
     {board : Board} (w : World) (rows laid : List Row) (records : List ℕ) (pages : ℕ)
     (A : Admitted board rows (length w.records) (length w.memory))
-    (Y : Lays board (record_at w.records) rows (record_at records) (pages_in records) laid)
+    (Y : LaysEight board (record_at w.records) rows (record_at records) (pages_in records) laid)
     (as_long : length records ≡ length w.records)
     (small : (i : ℕ) → get_or w.records i 0 < 256) (small' : (i : ℕ) → get_or records i 0 < 256)
     (counted : pages ≡ total (regions_of board rows))

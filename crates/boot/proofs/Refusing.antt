@@ -12,14 +12,15 @@ use Rattle.definition.specs.Board.{Board}
 use Rattle.definition.specs.Basics.{any}
 use Rattle.definition.specs.Boot.{boot_sheet, ends_far, kept_regions}
 use Rattle.definition.specs.Refusal.{first_met}
-use Rattle.definition.specs.Torn.{regions_of, rows_as_boot}
+use Rattle.definition.specs.Torn.{regions_of}
 use Rattle.definition.specs.World.{used_rows}
 use Rattle.audit.proofs.Regions.{loans_fit}
+use Rattle.audit.proofs.Used.{used_front}
 use Rattle.definition.specs.Board.{Fit}
 use Rattle.world.specs.Refusals.{number_if}
 use Rattle.boot.specs.declared.Kept.{Kept}
 use Rattle.boot.specs.Booting.{Keeps, Mapped, Ready, RefusedAs, RowsKept, eight, kept_rows, rows_refusal}
-use Rattle.boot.proofs.KeptRows.{kept_alone, kept_front, kept_ready, kept_spans, kept_used, kept_whole, mapped_all}
+use Rattle.boot.proofs.KeptRows.{kept_alone, kept_front, kept_ready, kept_spans, kept_used, mapped_all}
 use Rattle.boot.proofs.Sheet.{Admitted, admitted, far_map, long_map, near_map}
 
 module _ {map : List MemoryRegion} {count : ℕ} {ms : List MemoryRegion} (M : Mapped map count ms) where
@@ -78,22 +79,18 @@ module _
     pub accepted_kept : RowsKept board k.rows k.used
     accepted_kept = kept_ready fit (take count map) (E.near z) k K
 
-    pub accepted_boot : rows_as_boot board k.rows ≡ true
-    accepted_boot =
-        let A = accepted_admitted in
-        let e = given_spans itself (E.few z) k K fit (E.near z) in
-        rw K.rows
-        (kept_whole fit (take count map) (E.near z) (omega (arith, itself.long, E.few z)) (rw e at A.apart) (rw e at A.most))
+    -- the rows in use are those that are kept
+    pub accepted_used : used_rows k.rows ≡ kept_rows board (take count map)
+    accepted_used = rw K.rows (kept_used fit (take count map) (E.near z))
 
-    pub accepted_ready : Ready board k.rows k.used (records / 16)
+    pub accepted_ready : Ready board (take k.used k.rows) (records / 16)
     accepted_ready =
         let A = accepted_admitted in
-        let used : used_rows k.rows ≡ kept_rows board (take count map) = rw K.rows (kept_used fit (take count map) (E.near z)) in
-        record {
-          shape = K.rows ∙ ap eight (sym used);
-          many = accepted_kept.many;
+        let e : take k.used k.rows ≡ used_rows k.rows = rw accepted_kept.many (used_front k.rows) in
+        rw e
+        (record {
           booted = accepted_kept.booted;
           apart = A.apart;
           most = A.most;
           fits = loans_fit board k.rows records memory A.long;
-        }
+        })

@@ -1,6 +1,6 @@
 -- The sheet of a boot by numbers: of a map of at most eight entries, none of them far, it is the sheet of the rows that it keeps.
 use Prim.Native.Nat.{ℕ, ◌*◌, ◌≤◌, ◌<◌}
-use mathlib.Core.Bool.{Bool, true, false, not, cond, ◌&&◌, ◌||◌}
+use mathlib.Core.Bool.{Bool, true, false, cond, ◌&&◌, ◌||◌}
 use mathlib.Core.List.{List, [], ◌∷◌}
 use mathlib.Core.Path.{◌≡◌, refl, ap, ◌∙◌}
 use native.Mathlib.Decide.{dec_le}
@@ -8,9 +8,6 @@ use native.Mathlib.Omega.{arith}
 use borrow.Author.Tests.{le-leb, le-ltb, lt-leb, lt-ltb, ltb-false}
 use lib.Dec.{leb, ltb}
 use lib.ListN.{length}
-use mir.Val.{Val}
-use denote.Laws.{Is}
-use denote.Array.{Array}
 use Rattle.definition.specs.declared.MemoryRegion.{MemoryRegion}
 use Rattle.definition.specs.declared.Row.{Row}
 use Rattle.definition.specs.declared.Refusal.TheVariants.{LongMap, FarAddress, Overlap, TooManyPages, ShortLoan}
@@ -19,12 +16,9 @@ use Rattle.definition.specs.Basics.{any}
 use Rattle.definition.specs.Allocator.{total}
 use Rattle.definition.specs.Boot.{boot_sheet, ends_far, kept_regions, managed_pages, most_pages, most_rows, overlap, record_size}
 use Rattle.definition.specs.Refusal.{first_met, ◌when◌}
-use Rattle.definition.specs.Torn.{loans_long, regions_of, rows_as_boot}
-use Rattle.definition.specs.contracts.Row as R
-use Rattle.definition.proofs.Tests.{and-true}
-use Rattle.audit.proofs.Arrays.{rows_shaped}
+use Rattle.definition.specs.Torn.{loans_long, regions_of}
 use Rattle.world.specs.Refusals.{number_if}
-use Rattle.boot.specs.Booting.{RowsKept, rows_refusal}
+use Rattle.boot.specs.Booting.{rows_refusal}
 
 sheet_number
     : (a b c d e : Bool)
@@ -111,10 +105,3 @@ module _ (board : Board) (rows : List Row) (records memory : ℕ) where
       go false true c x y u z = absurd (omega arith)
       go false false false x y u z = absurd (omega arith)
       go false false true x y u z = record { apart = x; most = ltb-false most_pages (total (regions_of board rows)) y; long = u }
-
-  pub ready_rows
-      : (used : ℕ) (vs : List Val) → Is (Array R.the_row 8) rows vs → RowsKept board rows used → overlap board (regions_of board rows) ≡ false
-      → total (regions_of board rows) ≤ most_pages → rows_as_boot board rows ≡ true
-  ready_rows used vs p K o h =
-      rows_shaped board rows used vs K.many p
-      ∙ and-true K.unused (and-true K.booted (and-true (ap not o) (le-leb (total (regions_of board rows)) most_pages h)))

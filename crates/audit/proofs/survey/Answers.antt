@@ -1,7 +1,6 @@
 -- `survey` meets its contract. The loop's invariant is `Surveying`: what is left decides as the whole does.
 use Prim.Native.Nat.{◌/◌}
 use mathlib.Core.Path.{◌≡◌, sym, ◌∙◌}
-use native.Mathlib.Omega.{arith}
 use lib.ListN.{length}
 use Rattle.definition.specs.World.{record_at, used_rows}
 use Rattle.words.specs.Words.{board_in, rows_in}
@@ -32,9 +31,6 @@ returns-in_err-seen c =
     rw c.from_residual.ensures
     (torn_row (board_in a.words.now) (record_at a.records.now) (length a.records.now / 16) (rows_in a.words.now) c.loop-seen.seen c.loop-seen.invariant
     c.loop-seen-test.true (has_pages (goal.at.returns-in_err-seen c).Then-pages_at-ne0) c.in_err-seen.ensures)
-
-pub loop-seen-smaller : goal.loop-seen-smaller
-loop-seen-smaller c = omega (arith, c.in_ok-seen.ensures.added.used)
 
 pub loop-seen-preserved : goal.loop-seen-preserved
 loop-seen-preserved c =

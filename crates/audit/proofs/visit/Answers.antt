@@ -8,7 +8,6 @@ use lib.Dec.{leb}
 use lib.ListN.{length}
 use Rattle.definition.specs.declared.Row.{Row}
 use Rattle.definition.specs.Board.{Board, Fit}
-use Rattle.definition.proofs.Boards.{page_least}
 use Rattle.definition.specs.World.{record_at}
 use Rattle.definition.specs.Torn.{row_as_boot}
 use Rattle.definition.proofs.Tests.{and-true}
@@ -66,27 +65,9 @@ room c =
     le-leb (a.seen.managed + managed_row (board (goal.at.Else-records-past c).After-row_at-row) c.row_at-row.result) (length a.records.now / 16)
     (omega (arith, ends (goal.at.Else-records-past c).After-table_pages-tables, c.if-records-past.false))
 
-pub row_as_boot-requires : goal.row_as_boot-requires
-row_as_boot-requires c = fit c
-
 pub returns-then-not-row_as_boot : goal.returns-then-not-row_as_boot
 returns-then-not-row_as_boot c =
     of_row (goal.at.returns-then-not-row_as_boot c).After-row_at-row _ (visited_torn (and_off _ (sym c.row_as_boot.ensures ∙ c.if-not-row_as_boot.true)))
-
-pub table_pages-tables-requires : goal.table_pages-tables-requires
-table_pages-tables-requires c =
-    record {
-      fit = fit (goal.at.table_pages-tables-requires c).After-row_at-row;
-      pages_bound = omega (arith, few_pages (fit (goal.at.table_pages-tables-requires c).After-row_at-row) (numbers (goal.at.table_pages-tables-requires c).Else-not-row_as_boot));
-    }
-
-pub overflow_sub-past : goal.overflow_sub-past
-overflow_sub-past c = omega (arith, (numbers (goal.at.overflow_sub-past c).Else-not-row_as_boot).tables, c.table_pages-tables.ensures)
-
-pub overflow_add-past : goal.overflow_add-past
-overflow_add-past c =
-    let few = c.requires.0 in
-    omega (arith, few_pages (fit (goal.at.overflow_add-past c).After-row_at-row) (numbers (goal.at.overflow_add-past c).Else-not-row_as_boot), few.totals, few.manages, c.requires.2)
 
 pub returns-then-records-past : goal.returns-then-records-past
 returns-then-records-past c =
@@ -96,26 +77,6 @@ returns-then-records-past c =
     (visited_torn
     (and_on _ (is_booted (goal.at.returns-then-records-past c).Else-not-row_as_boot)
     ∙ and_off _ (lt-leb (a.seen.managed + managed_row (board (goal.at.returns-then-records-past c).After-row_at-row) c.row_at-row.result) (length a.records.now / 16) l)))
-
-pub page_number-requires : goal.page_number-requires
-page_number-requires c = omega (arith, page_least (fit (goal.at.page_number-requires c).After-row_at-row))
-
-pub overflow_add-page_number : goal.overflow_add-page_number
-overflow_add-page_number c =
-    let b = numbers (goal.at.overflow_add-page_number c).Else-not-row_as_boot in
-    omega (arith, few_pages (fit (goal.at.overflow_add-page_number c).After-row_at-row) b, b.tables, c.page_number.ensures, c.table_pages-tables.ensures)
-
-pub region_whole-whole-requires : goal.region_whole-whole-requires
-region_whole-whole-requires c =
-    let b = numbers (goal.at.region_whole-whole-requires c).Else-not-row_as_boot in
-    let few = few_pages (fit (goal.at.region_whole-whole-requires c).After-row_at-row) b in record {
-      in_use = ((c.requires.1, c.requires.2, c.requires.3), c.row_at-row.ensures);
-      base_le_past = (
-        omega arith,
-        omega (arith, c.if-records-past.false),
-        omega (arith, few, b.tables, c.page_number.ensures, c.table_pages-tables.ensures),
-      );
-    }
 
 -- the region, whose first managed page is behind those that were seen
 region : (c : After-region_whole-whole) →
@@ -154,19 +115,6 @@ small c =
       omega (arith, p, few.holds, few.manages, few.totals, c.requires.2),
       omega (arith, p, few.holds, few.manages, few.totals, c.requires.2),
     )
-
-pub overflow_add-result : goal.overflow_add-result
-overflow_add-result c =
-    omega (arith, c.requires.2)
-
-pub overflow_add-result-2 : goal.overflow_add-result-2
-overflow_add-result-2 c = let h = small (goal.at.overflow_add-result-2 c).Else-not-whole in omega arith
-
-pub overflow_add-result-3 : goal.overflow_add-result-3
-overflow_add-result-3 c = let h = small (goal.at.overflow_add-result-3 c).Else-not-whole in omega arith
-
-pub overflow_add-result-4 : goal.overflow_add-result-4
-overflow_add-result-4 c = let h = small (goal.at.overflow_add-result-4 c).Else-not-whole in omega arith
 
 pub returns : goal.returns
 returns c =

@@ -31,19 +31,19 @@ returns-then-any_far c =
 near : (c : Else-any_far) → any ends_far (take c.args.count c.args.map) ≡ false
 near c = sym c.any_far.ensures ∙ c.if-any_far.false
 
-pub kept_rows-kept-requires : goal.kept_rows-kept-requires
-kept_rows-kept-requires c =
+pub kept_rows-used-requires : goal.kept_rows-used-requires
+kept_rows-used-requires c =
     record {
       fit = c.requires;
       few = omega (arith, length-take c.args.count c.args.map, c.if-count-gt8.false);
-      near = near (goal.at.kept_rows-kept-requires c).Else-any_far;
+      near = near (goal.at.kept_rows-used-requires c).Else-any_far;
     }
 
 pub refusal_of_rows-requires : goal.refusal_of_rows-requires
 refusal_of_rows-requires c =
     let n = near (goal.at.refusal_of_rows-requires c).Else-any_far in
     let ms = take c.args.count c.args.map in
-    let k = c.kept_rows-kept in
+    let k = c.kept_rows-used in
     let e = kept_front c.requires ms n k.result k.ensures.keeps in record {
       fit = c.requires;
       booted = rw e (all_booted c.requires ms n);
@@ -53,7 +53,7 @@ refusal_of_rows-requires c =
 pub returns : goal.returns
 returns c =
     let a = c.args in
-    let k = c.kept_rows-kept in
+    let k = c.kept_rows-used in
     let n = near (goal.at.returns c).Else-any_far in
     record {
       number = λ ms M. c.refusal_of_rows.ensures ∙ given_used M (omega arith) k.result k.ensures.keeps c.requires n a.records a.memory;
