@@ -76,10 +76,13 @@ module _ (board : Board) where
 
 module _ (board : Board) where
   -- each row of a list of such
-  pub booted_in : (rows : List Row) (i : ℕ) (d : Row) → all (row_as_boot board) rows ≡ true → i < length rows → Booted board (get_or rows i d)
-  booted_in rows i d e h = booted board (get_or rows i d) (all_first (row_as_boot board) (drop_at rows i d h) (all_drop (row_as_boot board) rows i e))
+  pub booted_in : (rows : List Row) (i : ℕ) (d : Row) → all (row_as_boot board) rows ≡ true → i < length rows
+      → Booted board (get_or rows i d)
+  booted_in rows i d e h =
+      booted board (get_or rows i d) (all_first (row_as_boot board) (drop_at rows i d h) (all_drop (row_as_boot board) rows i e))
 
-  pub few_total : Fit board → (rows : List Row) → all (row_as_boot board) rows ≡ true → total (bare_regions board rows) ≤ length rows * 268435456
+  pub few_total : Fit board → (rows : List Row) → all (row_as_boot board) rows ≡ true
+      → total (bare_regions board rows) ≤ length rows * 268435456
   unfolding all sum bare_regions
   few_total fit [] e = omega arith
   few_total fit (row ∷ rows) e =
@@ -90,5 +93,6 @@ module _ (board : Board) where
   unfolding all used_rows
   booted_used [] e = refl
   booted_used (row ∷ rows) e =
-      ap (λ (t : Bool). cond t [] (row ∷ used_rows rows)) (ne_eqb row.pages 0 (λ z. omega (arith, (booted board row (and_left _ _ e)).more)))
+      ap (λ (t : Bool). cond t [] (row ∷ used_rows rows)) (ne_eqb row.pages 0
+      (λ z. omega (arith, (booted board row (and_left _ _ e)).more)))
       ∙ ap (λ (l : List Row). row ∷ l) (booted_used rows (and_right (row_as_boot board row) _ e))

@@ -251,7 +251,8 @@ module _ (board : Board) where
         five_left =
             ap (λ (t : Bool). t && (loans_test && (regions_test && (counts_test && rest_test)))) rows_left
             ∙ ap (λ (t : Bool). last_test && (t && (regions_test && (counts_test && rest_test)))) loans_left
-            ∙ ap (λ (t : Bool). last_test && (leb (board.page * managed_pages board regions_in) g.memory_len && (t && (counts_test && rest_test)))) regions_pass
+            ∙ ap (λ (t : Bool). last_test && (leb (board.page * managed_pages board regions_in) g.memory_len
+            && (t && (counts_test && rest_test)))) regions_pass
 
         module _ (seen : Surveyed) (h : Found board records g.rows seen) where
           counts_found : counts_as g.counters seen ≡ counts_test
@@ -259,17 +260,20 @@ module _ (board : Board) where
 
           -- the tests that are made of what the survey found
           abbrev pub found_tests : Bool
-          found_tests = ((leb seen.total 1048576 && not (overlap board regions_in)) && leb (board.page * seen.managed) g.memory_len) && counts_as g.counters seen
+          found_tests = ((leb seen.total 1048576 && not (overlap board regions_in)) && leb (board.page * seen.managed) g.memory_len)
+              && counts_as g.counters seen
 
           pub others_decide : (r : Bool) → r ≡ (found_tests && rest_test) → Answers r
           others_decide r e =
               exact r
               (e
               ∙ ap
-              (λ (t : ℕ). (((leb t 1048576 && not (overlap board regions_in)) && leb (board.page * seen.managed) g.memory_len) && counts_as g.counters seen) && rest_test)
+              (λ (t : ℕ). (((leb t 1048576 && not (overlap board regions_in)) && leb (board.page * seen.managed) g.memory_len)
+              && counts_as g.counters seen) && rest_test)
               h.total
               ∙ ap₂
-              (λ (m : ℕ) (t : Bool). (((leb (total regions_in) 1048576 && not (overlap board regions_in)) && leb (board.page * m) g.memory_len) && t) && rest_test)
+              (λ (m : ℕ) (t : Bool). (((leb (total regions_in) 1048576 && not (overlap board regions_in))
+              && leb (board.page * m) g.memory_len) && t) && rest_test)
               h.manages
               counts_found
               ∙ sym

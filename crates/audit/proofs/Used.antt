@@ -48,7 +48,8 @@ unfolding used_rows
 used_front [] = refl
 used_front (r ∷ rs) = go (eqb r.pages 0) (used_front rs)
   where
-    go : (t : Bool) → take (length (used_rows rs)) rs ≡ used_rows rs → take (length (cond t [] (r ∷ used_rows rs))) (r ∷ rs) ≡ cond t [] (r ∷ used_rows rs)
+    go : (t : Bool) → take (length (used_rows rs)) rs ≡ used_rows rs → take (length (cond t [] (r ∷ used_rows rs))) (r ∷ rs)
+        ≡ cond t [] (r ∷ used_rows rs)
     go true h = refl
     go false h = ap (λ (l : List Row). r ∷ l) h
 

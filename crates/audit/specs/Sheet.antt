@@ -1,5 +1,6 @@
 -- What the audit is given, as a world of the definition, and what the survey of its rows answers.
-use Rattle.std.specs.Prelude.{ℕ, ◌+◌, ◌-◌, ◌*◌, ◌≤◌, Bool, true, false, ◌&&◌, List, [], ◌≡◌, leb, eqb, get_or, length, drop, Option, is_some, IfSome}
+use Rattle.std.specs.Prelude.{ℕ, ◌+◌, ◌-◌, ◌*◌, ◌≤◌, Bool, true, false, ◌&&◌, List, [], ◌≡◌, leb, eqb, get_or, length, drop}
+use Rattle.std.specs.Prelude.{Option, is_some, IfSome}
 use Rattle.definition.specs.declared.Row.{Row}
 use Rattle.definition.specs.declared.Counters.{Counters}
 use Rattle.definition.specs.declared.Pass.{Pass}

@@ -147,7 +147,8 @@ unfolding any
 any_is test [] = refl
 any_is test (x ∷ xs) = ap (λ (t : Bool). test x || t) (any_is test xs)
 
-pub any_none : {A : Type 0} (test : A → Bool) (d : A) (xs : List A) (i : ℕ) → any test xs ≡ false → i < length xs → test (get_or xs i d) ≡ false
+pub any_none : {A : Type 0} (test : A → Bool) (d : A) (xs : List A) (i : ℕ) → any test xs ≡ false → i < length xs → test (get_or xs i d)
+    ≡ false
 unfolding any
 any_none test d [] i e h = absurd (omega arith)
 any_none test d (x ∷ xs) zero e h = (neither (test x) _ e).0

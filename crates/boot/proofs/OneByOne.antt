@@ -173,7 +173,8 @@ module _ (board : Board) where
   pub record Laid (f : ℕ → Record) (ks : List Row) (g : ℕ → Record) (n : ℕ) (rows : List Row) (base i : ℕ) : Type 0 where
     pub long : length rows ≡ length ks
     pub left : (j : ℕ) → i ≤ j → row_at rows j ≡ row_at ks j
-    pub stands : (j : ℕ) → j < i → StandsRow board g n (base_at board 0 ks j) (row_at rows j) (lay_rows board ks).frames (region_at (lay_rows board ks).regions j)
+    pub stands : (j : ℕ) → j < i → StandsRow board g n (base_at board 0 ks j) (row_at rows j) (lay_rows board ks).frames
+        (region_at (lay_rows board ks).regions j)
     pub narrow : (j : ℕ) → j < i → NarrowRow (row_at rows j)
     pub based : base ≡ base_at board 0 ks i
     pub outside : (q : ℕ) → base ≤ q → g q ≡ f q
@@ -310,10 +311,12 @@ module _ {board : Board} (ks : List Row) (n : ℕ) (R : Ready board ks n) where
         (laid_next ks apart L within
         (booted_in board ks i no_place R.booted within).aligned
         (omega (arith, T.end)) (omega (arith, T.fits)) narrow
-        (subst (λ (row : Row). Becomes board g base (empty_row row.start row.pages) g2 n r (new_state board g base row.start row.pages)) same
+        (subst (λ (row : Row). Becomes board g base (empty_row row.start row.pages) g2 n r (new_state board g base row.start row.pages))
+        same
         (subst (λ (x : ℕ). Becomes board g base (empty_row (row_at rows i).start (row_at rows i).pages) g2 x r (new_state board g base (row_at rows i).start (row_at rows i).pages)) e B)))
 
-  pub laid_done : {f g : ℕ → Record} {rows : List Row} {base i : ℕ} → Laid board f ks g n rows base i → i ≡ length ks → Lays board f ks g n rows
+  pub laid_done : {f g : ℕ → Record} {rows : List Row} {base i : ℕ} → Laid board f ks g n rows base i → i ≡ length ks
+      → Lays board f ks g n rows
   laid_done {f} {g} {rows} {base} L e = all_laid ks (subst (λ (x : ℕ). Laid board f ks g n rows base x) e L)
 
 -- ---- what words can hold
@@ -341,7 +344,8 @@ module _ (board : Board) where
     pub stands : StandRows board g n (lay_rows board (used_rows rows)).frames 0 (used_rows r) (lay_rows board (used_rows rows)).regions
     pub outside : (q : ℕ) → managed_pages board (regions_of board rows) ≤ q → g q ≡ f q
 
-module _ {board : Board} {f g : ℕ → Record} {n : ℕ} (ks xs : List Row) (paged : Paged ks) (few : length ks ≤ 8) (Y : Lays board f ks g n xs) where
+module _ {board : Board} {f g : ℕ → Record} {n : ℕ} (ks xs : List Row) (paged : Paged ks) (few : length ks ≤ 8)
+    (Y : Lays board f ks g n xs) where
   used_now : used_rows (eight xs) ≡ xs
   used_now = used_eight xs (λ j h z. paged j (omega (arith, Y.long)) (sym (Y.pages j (omega (arith, Y.long))) ∙ z))
 

@@ -56,8 +56,10 @@ module _ {map : List MemoryRegion} {count : ℕ} {ms : List MemoryRegion} (M : M
             : (records memory : ℕ)
             → rows_refusal board (take r.used r.rows) records memory ≡ number_if (first_met (boot_sheet board ms records memory))
         given_used records memory =
-            ap (λ (rows : List Row). rows_refusal board rows records memory) (kept_front fit (take count map) near r K ∙ ap (kept_rows board) all_given)
-            ∙ sym (near_map board ms records memory (omega (arith, M.long)) (given_near near) (kept_rows board ms) (kept_alone fit ms (given_near near)))
+            ap (λ (rows : List Row). rows_refusal board rows records memory)
+            (kept_front fit (take count map) near r K ∙ ap (kept_rows board) all_given)
+            ∙ sym (near_map board ms records memory (omega (arith, M.long)) (given_near near) (kept_rows board ms)
+            (kept_alone fit ms (given_near near)))
 
 -- ---- a map that is not refused
 

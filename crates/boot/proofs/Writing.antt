@@ -29,7 +29,8 @@ use Rattle.boot.proofs.Laying.{laid_many}
 
 module _ {board : Board} where
   -- the rows that are laid out are as many as were kept
-  pub laid_used : {f g : ℕ → Record} {rows laid : List Row} {n : ℕ} → LaysEight board f rows g n laid → length (used_rows laid) ≡ length (used_rows rows)
+  pub laid_used : {f g : ℕ → Record} {rows laid : List Row} {n : ℕ} → LaysEight board f rows g n laid → length (used_rows laid)
+      ≡ length (used_rows rows)
   laid_used {f} {g} {rows} Y = sym (stand_length Y.stands) ∙ laid_many board (used_rows rows)
 
 -- the count that is written is that of the rows in use, so that they are read again as they were laid out

@@ -67,7 +67,8 @@ room c =
 
 pub returns-then-not-row_as_boot : goal.returns-then-not-row_as_boot
 returns-then-not-row_as_boot c =
-    of_row (goal.at.returns-then-not-row_as_boot c).After-row_at-row _ (visited_torn (and_off _ (sym c.row_as_boot.ensures ∙ c.if-not-row_as_boot.true)))
+    of_row (goal.at.returns-then-not-row_as_boot c).After-row_at-row _
+    (visited_torn (and_off _ (sym c.row_as_boot.ensures ∙ c.if-not-row_as_boot.true)))
 
 pub returns-then-records-past : goal.returns-then-records-past
 returns-then-records-past c =

@@ -33,7 +33,8 @@ ready : (c : After-kept_rows-used) → let k = c.kept_rows-used.result in
     Ready c.args.board (take k.used k.rows) (pages_in c.args.records.now)
 ready c =
     let a = c.args in
-    accepted_ready c.requires.fit a.map a.count _ _ _ (long (goal.at.After-kept_rows-used c).Start) c.refusal_of_map-number.ensures c.if-number-ne0.false
+    accepted_ready c.requires.fit a.map a.count _ _ _ (long (goal.at.After-kept_rows-used c).Start) c.refusal_of_map-number.ensures
+    c.if-number-ne0.false
     c.kept_rows-used.result c.kept_rows-used.ensures.keeps
 
 in_use : (c : After-kept_rows-used) → let k = c.kept_rows-used.result in
@@ -49,7 +50,8 @@ pub total_pages-pages-requires-clause-booted : goal.total_pages-pages-requires-c
 total_pages-pages-requires-clause-booted c = (ready (goal.at.total_pages-pages-requires-clause-booted c).After-kept_rows-used).booted
 
 pub managed_pages-managed-requires-clause-booted : goal.managed_pages-managed-requires-clause-booted
-managed_pages-managed-requires-clause-booted c = (ready (goal.at.managed_pages-managed-requires-clause-booted c).After-kept_rows-used).booted
+managed_pages-managed-requires-clause-booted c =
+    (ready (goal.at.managed_pages-managed-requires-clause-booted c).After-kept_rows-used).booted
 
 pub managed_pages-managed-requires-clause-few : goal.managed_pages-managed-requires-clause-few
 managed_pages-managed-requires-clause-few c = (ready (goal.at.managed_pages-managed-requires-clause-few c).After-kept_rows-used).most
@@ -72,8 +74,10 @@ returns-clause-boots_all c ms e f =
     let M : Mapped a.map a.count ms = record { long = e; front = f } in
     rw (c.done.ensures, c.started.ensures, c.put_kept.ensures, written_rows c.requires.fit a.map a.count _ _ _ l E z k K xs Y)
     (boots_written a.words.now (eight xs) c.requires.long (written_narrow c.requires.fit a.map a.count _ _ _ l E z k K xs Y) _
-    (written_many c.requires.fit a.map a.count _ _ _ l E z k K xs Y) Y8.unused c.total_pages-pages.result c.lay_out.new.records a.memory.now a.queue.now
-    (boots_done (world_of (state_with a.counters a.words.now) a.records.now a.memory.now a.queue.now) k.rows (eight xs) c.lay_out.new.records
+    (written_many c.requires.fit a.map a.count _ _ _ l E z k K xs Y) Y8.unused c.total_pages-pages.result c.lay_out.new.records
+    a.memory.now a.queue.now
+    (boots_done (world_of (state_with a.counters a.words.now) a.records.now a.memory.now a.queue.now) k.rows (eight xs)
+    c.lay_out.new.records
     c.total_pages-pages.result
     (accepted_admitted c.requires.fit a.map a.count _ _ _ l E z k K)
     Y8
@@ -101,4 +105,5 @@ returns-clause-boots_over c =
     let Y = c.lay_out.ensures in
     rw (c.done.ensures, c.put_kept.ensures, written_rows c.requires.fit a.map a.count _ _ _ l E z k K xs Y)
     (over_done a.words.now (eight xs) c.requires.long (written_narrow c.requires.fit a.map a.count _ _ _ l E z k K xs Y) _
-    (written_many c.requires.fit a.map a.count _ _ _ l E z k K xs Y) (written_laid c.requires.fit a.map a.count _ _ _ l E z k K xs Y).unused _)
+    (written_many c.requires.fit a.map a.count _ _ _ l E z k K xs Y)
+    (written_laid c.requires.fit a.map a.count _ _ _ l E z k K xs Y).unused _)

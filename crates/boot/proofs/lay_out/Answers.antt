@@ -19,7 +19,8 @@ loop-row-init c =
 turn : (c : In-loop-row) →
     Turn c.args.rows.now (pages_in c.args.records.now) c.requires.ready (row_at c.loop-row.rows c.loop-row.row-index) c.loop-row.base
 turn c =
-    laid_turn c.args.rows.now (pages_in c.args.records.now) c.requires.ready c.loop-row.invariant.laid (omega (arith, c.loop-row-test.true, c.loop-row.auto.rows))
+    laid_turn c.args.rows.now (pages_in c.args.records.now) c.requires.ready c.loop-row.invariant.laid
+    (omega (arith, c.loop-row-test.true, c.loop-row.auto.rows))
 
 pub new-requires-clause-pages_bound : goal.new-requires-clause-pages_bound
 new-requires-clause-pages_bound c =
@@ -47,7 +48,8 @@ loop-row-preserved c =
       long = e;
       laid =
           rw c.table_pages.ensures
-          (laid_on c.args.rows.now (pages_in c.args.records.now) c.requires.ready l.invariant.laid (omega (arith, c.loop-row-test.true, l.auto.rows))
+          (laid_on c.args.rows.now (pages_in c.args.records.now) c.requires.ready l.invariant.laid
+          (omega (arith, c.loop-row-test.true, l.auto.rows))
           (omega (arith, e)) (row_narrow d.result _ d.type_inv) d.ensures.becomes);
     }
 
@@ -55,4 +57,5 @@ pub returns : goal.returns
 returns c =
     let l = c.loop-row in
     let e : pages_in l.records ≡ pages_in c.args.records.now = omega (arith, l.invariant.long) in
-    rw e (laid_done c.args.rows.now (pages_in c.args.records.now) c.requires.ready l.invariant.laid (omega (arith, c.loop-row-test.false, l.auto.row-index-end)))
+    rw e (laid_done c.args.rows.now (pages_in c.args.records.now) c.requires.ready l.invariant.laid
+    (omega (arith, c.loop-row-test.false, l.auto.row-index-end)))

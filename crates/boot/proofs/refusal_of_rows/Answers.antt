@@ -15,7 +15,8 @@ overlaps : (c : After-overlaps) → let a = c.args in
     overlap a.board (regions_of a.board a.rows.now) ≡ c.overlaps.result
 overlaps c =
     let a = c.args in
-    ap (λ (rs : List Row). overlap a.board (bare_regions a.board rs)) (booted_used a.board a.rows.now c.requires.booted) ∙ sym c.overlaps.ensures
+    ap (λ (rs : List Row). overlap a.board (bare_regions a.board rs)) (booted_used a.board a.rows.now c.requires.booted)
+    ∙ sym c.overlaps.ensures
 
 pages : (c : After-total_pages) → let a = c.args in
     total (regions_of a.board a.rows.now) ≡ c.total_pages.result
