@@ -1,13 +1,13 @@
 -- `visit` meets its contract. Its tests are `row_test`, in the same order, and what it adds is what the test of the region found.
-use Prim.Native.Nat.{◌+◌, ◌-◌, ◌/◌, ◌<◌}
+use Prim.Native.Nat.{◌+◌, ◌-◌, ◌/◌}
 use mathlib.Core.Bool.{true}
 use mathlib.Core.Path.{◌≡◌, refl, sym, ◌∙◌, subst}
 use native.Mathlib.Omega.{arith}
-use borrow.Author.Tests.{le-leb, lt-leb, not-false, not-true}
+use borrow.Author.Tests.{le-leb, not-false, not-true}
 use lib.Dec.{leb}
 use lib.ListN.{length}
 use Rattle.definition.specs.declared.Row.{Row}
-use Rattle.definition.specs.Board.{Board, Fit}
+use Rattle.definition.specs.Board.{Board}
 use Rattle.definition.specs.World.{record_at}
 use Rattle.definition.specs.Torn.{row_as_boot}
 use Rattle.definition.proofs.Tests.{and-true}
@@ -17,8 +17,7 @@ use Rattle.words.specs.Words.{board_in, rows_in}
 use Rattle.std.specs.Prelude.{Option}
 use Rattle.audit.specs.declared.Surveyed.{Surveyed}
 use Rattle.audit.specs.Sheet.{row_at, Visited}
-use Rattle.audit.proofs.Onward.{and_off, and_on}
-use Rattle.audit.proofs.Booted.{Booted, booted, few_pages}
+use Rattle.audit.proofs.Onward.{and_on}
 use Rattle.audit.proofs.Counting.{managed_row}
 use Rattle.audit.proofs.Surveying.{visited_torn}
 use Rattle.audit.proofs.visit.Goals as goal
@@ -27,9 +26,6 @@ use Rattle.audit.proofs.visit.Goals.{After-region_whole-whole, After-row_at-row,
 -- the board that was read
 abbrev board : After-row_at-row → Board
 board c = c.board_in-board.result
-
-fit : (c : After-row_at-row) → Fit (board c)
-fit c = c.board_in-board.ensures.1
 
 -- what is found of the row that was read, on the board that was, is found of the row behind those that were seen
 of_row : (c : After-row_at-row) → let a = c.args in
@@ -47,9 +43,6 @@ of_row c r v =
 is_booted : (c : Else-not-row_as_boot) → row_as_boot (board (goal.at.Else-not-row_as_boot c).After-row_at-row) c.row_at-row.result ≡ true
 is_booted c = sym c.row_as_boot.ensures ∙ c.if-not-row_as_boot.false
 
-numbers : (c : Else-not-row_as_boot) → Booted (board (goal.at.Else-not-row_as_boot c).After-row_at-row) c.row_at-row.result
-numbers c = booted (board (goal.at.Else-not-row_as_boot c).After-row_at-row) c.row_at-row.result (is_booted c)
-
 -- where its pages end
 ends : (c : After-table_pages-tables) →
     let a = c.args in
@@ -64,20 +57,6 @@ room c =
     let a = c.args in
     le-leb (a.seen.managed + managed_row (board (goal.at.Else-records-past c).After-row_at-row) c.row_at-row.result) (length a.records.now / 16)
     (omega (arith, ends (goal.at.Else-records-past c).After-table_pages-tables, c.if-records-past.false))
-
-pub returns-then-not-row_as_boot : goal.returns-then-not-row_as_boot
-returns-then-not-row_as_boot c =
-    of_row (goal.at.returns-then-not-row_as_boot c).After-row_at-row _
-    (visited_torn (and_off _ (sym c.row_as_boot.ensures ∙ c.if-not-row_as_boot.true)))
-
-pub returns-then-records-past : goal.returns-then-records-past
-returns-then-records-past c =
-    let a = c.args in
-    let l : length a.records.now / 16 < a.seen.managed + managed_row (board (goal.at.returns-then-records-past c).After-row_at-row) c.row_at-row.result = omega (arith, ends (goal.at.returns-then-records-past c).After-table_pages-tables, c.if-records-past.true) in
-    of_row (goal.at.returns-then-records-past c).After-row_at-row _
-    (visited_torn
-    (and_on _ (is_booted (goal.at.returns-then-records-past c).Else-not-row_as_boot)
-    ∙ and_off _ (lt-leb (a.seen.managed + managed_row (board (goal.at.returns-then-records-past c).After-row_at-row) c.row_at-row.result) (length a.records.now / 16) l)))
 
 -- the region, whose first managed page is behind those that were seen
 region : (c : After-region_whole-whole) →
@@ -101,21 +80,6 @@ returns-then-not-whole c =
 -- the region is whole, and its pages are those held and those listed
 whole : (c : Else-not-whole) → c.region_whole-whole.result.ok ≡ true
 whole c = not-false _ c.if-not-whole.false
-
--- the sums stay small
-small : (c : Else-not-whole) →
-    let a = c.args in
-    (a.seen.total + c.row_at-row.result.pages < 4294967296)
-    × (a.seen.page + c.region_whole-whole.result.page < 4294967296)
-    × (a.seen.kernel + c.region_whole-whole.result.kernel < 4294967296)
-small c =
-    let pages = few_pages (fit (goal.at.Else-not-whole c).After-row_at-row) (numbers (goal.at.Else-not-whole c).Else-not-row_as_boot) in
-    let p = (region (goal.at.Else-not-whole c).After-region_whole-whole).pages (whole c) in
-    let few = c.requires.0 in (
-      omega (arith, few.totals, c.requires.2, pages),
-      omega (arith, p, few.holds, few.manages, few.totals, c.requires.2),
-      omega (arith, p, few.holds, few.manages, few.totals, c.requires.2),
-    )
 
 pub returns : goal.returns
 returns c =

@@ -1,13 +1,12 @@
 -- `refusal_of_map` meets its contract: a long map is refused by its length alone, and a shorter one is in the array, all of it.
 use lib.ListN.{take}
-use Rattle.std.proofs.lemmas.List.{length-take}
 use Rattle.definition.specs.Basics.{any}
 use Rattle.definition.specs.Boot.{ends_far}
 use mathlib.Core.Bool.{false}
 use mathlib.Core.Path.{◌≡◌, sym, ◌∙◌}
 use native.Mathlib.Omega.{arith}
 use Rattle.boot.proofs.Refusing.{given_far, given_long, given_used}
-use Rattle.boot.proofs.KeptRows.{all_booted, kept_front, kept_most}
+use Rattle.boot.proofs.KeptRows.{all_booted, kept_front}
 use Rattle.boot.proofs.refusal_of_map.Goals as goal
 use Rattle.boot.proofs.refusal_of_map.Goals.{Else-any_far}
 
@@ -31,24 +30,12 @@ returns-then-any_far c =
 near : (c : Else-any_far) → any ends_far (take c.args.count c.args.map) ≡ false
 near c = sym c.any_far.ensures ∙ c.if-any_far.false
 
-pub kept_rows-used-requires : goal.kept_rows-used-requires
-kept_rows-used-requires c =
-    record {
-      fit = c.requires;
-      few = omega (arith, length-take c.args.count c.args.map, c.if-count-gt8.false);
-      near = near (goal.at.kept_rows-used-requires c).Else-any_far;
-    }
-
-pub refusal_of_rows-requires : goal.refusal_of_rows-requires
-refusal_of_rows-requires c =
-    let n = near (goal.at.refusal_of_rows-requires c).Else-any_far in
+pub refusal_of_rows-requires-clause-booted : goal.refusal_of_rows-requires-clause-booted
+refusal_of_rows-requires-clause-booted c =
+    let n = near (goal.at.refusal_of_rows-requires-clause-booted c).Else-any_far in
     let ms = take c.args.count c.args.map in
     let k = c.kept_rows-used in
-    let e = kept_front c.requires ms n k.result k.ensures.keeps in record {
-      fit = c.requires;
-      booted = rw e (all_booted c.requires ms n);
-      few = rw e (omega (arith, kept_most c.args.board ms, length-take c.args.count c.args.map, c.if-count-gt8.false));
-    }
+    rw (kept_front c.requires ms n k.result k.ensures.keeps) (all_booted c.requires ms n)
 
 pub returns : goal.returns
 returns c =
