@@ -1,4 +1,4 @@
--- Rows by value, whatever they are, and rows in words, whatever the words, are eight of six lists each. So the two tests of the sheet that ask for it hold.
+-- Rows in words, whatever the words, are eight of six lists each. So the two tests of the sheet that ask for it hold.
 use Prim.Native.Nat.{ℕ, zero, suc, ◌+◌, ◌*◌}
 use mathlib.Core.Bool.{Bool, true, false, cond, not, ◌&&◌}
 use mathlib.Core.List.{List}

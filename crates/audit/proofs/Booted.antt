@@ -1,5 +1,5 @@
--- What the test of a row as boot makes it says in numbers, of one row and of each in use. And when it holds, by the numbers that the code compares: its
--- end in pages, where the definition counts it in bytes.
+-- What the test of a row as boot makes it says in numbers, of one row and of each in use. And when it holds, by the numbers that the code
+-- compares: its end in pages, where the definition counts it in bytes.
 use Prim.Native.Nat.{ℕ, ◌+◌, ◌*◌, ◌/◌, ◌%◌, ◌≤◌, ◌<◌}
 use mathlib.Core.Bool.{Bool, true, false, cond, ◌&&◌}
 use mathlib.Core.List.{List, [], ◌∷◌}
@@ -42,7 +42,8 @@ module _ (board : Board) where
       }
 
 -- the end, looked at in pages
-pub ends_by : {board : Board} → Fit board → {row : Row} → Booted board row → row.start.0 / board.page + row.pages ≤ highest_address / board.page
+pub ends_by : {board : Board} → Fit board → {row : Row} → Booted board row
+    → row.start.0 / board.page + row.pages ≤ highest_address / board.page
 ends_by {board} fit {row} b =
     let P = board.page in
     page_reached P (omega (arith, page_least fit)) (omega (arith, b.ends, aligned_is P row.start.0 b.aligned))
@@ -51,7 +52,8 @@ ends_by {board} fit {row} b =
 pub few_pages : {board : Board} → Fit board → {row : Row} → Booted board row → row.start.0 / board.page + row.pages ≤ 268435456
 few_pages {board} fit {row} b =
     let P = board.page in
-    let e = pages_bound P (page_least fit) (row.start.0 / P + row.pages) {n = highest_address} (omega (arith, b.ends, aligned_is P row.start.0 b.aligned)) in
+    let e = pages_bound P (page_least fit) (row.start.0 / P + row.pages) {n = highest_address}
+    (omega (arith, b.ends, aligned_is P row.start.0 b.aligned)) in
     omega (arith, e)
 
 module _ (board : Board) where

@@ -1,5 +1,5 @@
--- The survey of the rows in use. At each of them what is left decides as the whole does, and what was counted with what is left is the whole: `Surveying` says
--- so, and a turn keeps it or refuses the rows. Where those in use end, the unused ones behind them decide.
+-- The survey of the rows in use. At each of them what is left decides as the whole does, and what was counted with what is left is the
+-- whole: `Surveying` says so, and a turn keeps it or refuses the rows. Where those in use end, the unused ones behind them decide.
 use Prim.Native.Nat.{ℕ, ◌+◌, ◌≤◌, ◌<◌}
 use mathlib.Core.Bool.{Bool, true, false, ◌&&◌, false≢true, and-true as and-true-right}
 use mathlib.Core.List.{List, [], ◌∷◌}
@@ -48,8 +48,10 @@ module _ (board : Board) where
       pub totals : total (regions_of board rows) ≡ s.total + total (bare_regions board (drop s.used used))
       pub manages : s.managed + left_of (managed_row board) rows s.used ≡ managed_pages board (regions_of board rows)
       pub whole : all (whole_row board f) (placed board rows) ≡ all (whole_row board f) (placed_from board s.managed (drop s.used used))
-      pub pages : sum (held_row board false f) (placed board rows) ≡ s.page + sum (held_row board false f) (placed_from board s.managed (drop s.used used))
-      pub kernels : sum (held_row board true f) (placed board rows) ≡ s.kernel + sum (held_row board true f) (placed_from board s.managed (drop s.used used))
+      pub pages : sum (held_row board false f) (placed board rows) ≡ s.page + sum (held_row board false f)
+          (placed_from board s.managed (drop s.used used))
+      pub kernels : sum (held_row board true f) (placed board rows) ≡ s.kernel + sum (held_row board true f)
+          (placed_from board s.managed (drop s.used used))
       pub idles : left_of (idle_row board) rows 0 + s.page + s.kernel ≡ s.total + left_of (idle_row board) rows s.used
       pub count : length used ≡ s.used + length (used_rows (drop s.used rows))
 

@@ -1,5 +1,5 @@
--- The rows in use are the first of the rows, up to the first that has no pages: each stands at its place, and they end where their number says.
--- And how their number is counted.
+-- The rows in use are the first of the rows, up to the first that has no pages: each stands at its place, and they end where their number
+-- says. And how their number is counted.
 use Prim.Native.Nat.{ℕ, zero, suc, ◌+◌, ◌≤◌, ◌<◌}
 use mathlib.Core.Bool.{Bool, true, false, cond}
 use mathlib.Core.List.{List, [], ◌∷◌}
@@ -29,7 +29,8 @@ used_get (r ∷ rs) i h = go (eqb r.pages 0) i h (λ j k. used_get rs j k)
     go false zero k more = refl
     go false (suc j) k more = more j (omega arith)
 
-pub used_at : (rows : List Row) (i : ℕ) → i < length (used_rows rows) → drop i (used_rows rows) ≡ row_at rows i ∷ drop (i + 1) (used_rows rows)
+pub used_at : (rows : List Row) (i : ℕ) → i < length (used_rows rows) → drop i (used_rows rows)
+    ≡ row_at rows i ∷ drop (i + 1) (used_rows rows)
 used_at rows i h =
     drop_at (used_rows rows) i no_place h ∙ ap (λ (r : Row). r ∷ drop (i + 1) (used_rows rows)) (used_get rows i h)
 

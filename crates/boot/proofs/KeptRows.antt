@@ -1,5 +1,5 @@
--- Laws of the rows that a map keeps: how the loop over its entries adds one, and that they are rows such as boot makes, the others unused, and the regions of the
--- definition's `kept_regions`.
+-- Laws of the rows that a map keeps: how the loop over its entries adds one, and that they are rows such as boot makes, the others unused,
+-- and the regions of the definition's `kept_regions`.
 use Prim.Native.Nat.{ℕ, zero, suc, ◌+◌, ◌-◌, ◌≤◌, ◌<◌}
 use mathlib.Core.Bool.{Bool, true, false, cond, ◌||◌, false≢true}
 use mathlib.Core.List.{List, [], ◌∷◌, ◌++◌, append-nil}
@@ -60,7 +60,8 @@ module _ (board : Board) where
   kept_append (m ∷ xs) ys = go (is_kept board m) (kept_append xs ys)
     where
       go : (t : Bool) → kept_rows board (xs ++ ys) ≡ kept_rows board xs ++ kept_rows board ys
-          → cond t (kept_row board m ∷ kept_rows board (xs ++ ys)) (kept_rows board (xs ++ ys)) ≡ cond t (kept_row board m ∷ kept_rows board xs) (kept_rows board xs) ++ kept_rows board ys
+          → cond t (kept_row board m ∷ kept_rows board (xs ++ ys)) (kept_rows board (xs ++ ys))
+          ≡ cond t (kept_row board m ∷ kept_rows board xs) (kept_rows board xs) ++ kept_rows board ys
       go true e = ap (λ (l : List Row). kept_row board m ∷ l) e
       go false e = e
 
@@ -69,7 +70,8 @@ module _ (board : Board) where
   kept_most [] = omega arith
   kept_most (m ∷ ms) = go (is_kept board m) (kept_most ms)
     where
-      go : (t : Bool) → length (kept_rows board ms) ≤ length ms → length (cond t (kept_row board m ∷ kept_rows board ms) (kept_rows board ms)) ≤ length (m ∷ ms)
+      go : (t : Bool) → length (kept_rows board ms) ≤ length ms → length
+          (cond t (kept_row board m ∷ kept_rows board ms) (kept_rows board ms)) ≤ length (m ∷ ms)
       go true h = omega arith
       go false h = omega arith
 
@@ -173,7 +175,8 @@ module _ {board : Board} (fit : Fit board) where
   kept_regions_lem (m ∷ ms) = go (is_kept board m) (kept_regions_lem ms)
     where
       go : (t : Bool) → bare_regions board (kept_rows board ms) ≡ kept_regions board ms
-          → bare_regions board (cond t (kept_row board m ∷ kept_rows board ms) (kept_rows board ms)) ≡ cond t (empty_region board m ∷ kept_regions board ms) (kept_regions board ms)
+          → bare_regions board (cond t (kept_row board m ∷ kept_rows board ms) (kept_rows board ms))
+          ≡ cond t (empty_region board m ∷ kept_regions board ms) (kept_regions board ms)
       go true e = ap₂ (λ (r : AllocationRegion) (rs : List AllocationRegion). r ∷ rs) (kept_region fit m) e
       go false e = e
 

@@ -1,5 +1,5 @@
--- What a boot leaves and answers: where the sheet refuses, its number and the world as it was (`boots_refused`); else the store that the map makes, written over
--- the world (`boots_done`), of which everything past the managed pages, the memory and the queue's places stay.
+-- What a boot leaves and answers: where the sheet refuses, its number and the world as it was (`boots_refused`); else the store that the
+-- map makes, written over the world (`boots_done`), of which everything past the managed pages, the memory and the queue's places stay.
 use Prim.Native.Nat.{ℕ, ◌*◌, ◌≤◌, ◌<◌}
 use mathlib.Core.Bool.{false}
 use mathlib.Core.List.{List, [], ◌∷◌}
@@ -40,16 +40,19 @@ use Rattle.boot.proofs.Laying.{laid_bare, new_laid}
 use Rattle.boot.proofs.Sheet.{Admitted}
 
 module _ {board : Board} where
-  boots_as : (ms : List MemoryRegion) (w v : World) (y : AnswerOf) → boot_call board ms w ≡ record { world = v; answer = y } → Boots board ms w v (told y)
+  boots_as : (ms : List MemoryRegion) (w v : World) (y : AnswerOf) → boot_call board ms w ≡ record { world = v; answer = y }
+      → Boots board ms w v (told y)
   boots_as ms w v y e = record { world = ap (λ (l : Left). l.world) e; answer = ap (λ (l : Left). told l.answer) e }
 
   module _ (ms : List MemoryRegion) (w : World) where
     pub boots_refused
-        : (n : ℕ) → n ≡ number_if (first_met (boot_sheet board ms (length w.records) (length w.memory))) → (n ≡ 0 → ⊥) → Boots board ms w w (refused_by n)
+        : (n : ℕ) → n ≡ number_if (first_met (boot_sheet board ms (length w.records) (length w.memory))) → (n ≡ 0 → ⊥)
+        → Boots board ms w w (refused_by n)
     unfolding boot_call
     boots_refused n e d = go (one_met (first_met (boot_sheet board ms (length w.records) (length w.memory))) n (sym e) d)
       where
-        go : (r : Refusal) × (first_met (boot_sheet board ms (length w.records) (length w.memory)) ≡ some r) × (number_of r ≡ n) → Boots board ms w w (refused_by n)
+        go : (r : Refusal) × (first_met (boot_sheet board ms (length w.records) (length w.memory)) ≡ some r) × (number_of r ≡ n)
+            → Boots board ms w w (refused_by n)
         go (r, f, m) = rw (← m) (boots_as ms w w (Refused r) (ap (λ (o : Option Refusal). unless_refused w o (booted board ms w)) f))
 
     pub boots_accepted
@@ -59,7 +62,8 @@ module _ {board : Board} where
     unfolding boot_call
     boots_accepted v e d =
         boots_as ms w v (Done 0 (board.page * managed_pages board (kept_regions board ms)))
-        (ap (λ (o : Option Refusal). unless_refused w o (booted board ms w)) (none_met (first_met (boot_sheet board ms (length w.records) (length w.memory))) (sym e))
+        (ap (λ (o : Option Refusal). unless_refused w o (booted board ms w))
+        (none_met (first_met (boot_sheet board ms (length w.records) (length w.memory))) (sym e))
         ∙ ap (λ (x : World). record { world = x; answer = Done 0 (board.page * managed_pages board (kept_regions board ms)) }) d)
 
 -- ---- what is said of regions by their starts and pages
@@ -129,7 +133,8 @@ module _
           room = refl;
           fits = omega (arith, fits, pages_same board.page managed_is);
           memory =
-              memory_same board (regions_of board rows) (lay_rows board (used_rows rows)).regions (laid_bare board (used_rows rows) ∙ sym (bare_twice board (used_rows rows)))
+              memory_same board (regions_of board rows) (lay_rows board (used_rows rows)).regions
+              (laid_bare board (used_rows rows) ∙ sym (bare_twice board (used_rows rows)))
               (memory_of board w.memory (regions_of board rows)) w.memory
               (memory_back board w.memory (regions_of board rows) fits A.apart);
         }

@@ -1,5 +1,5 @@
--- The loop that lays out the regions, the first one first. `Laid` is its invariant: the rows passed stand for their regions in the allocator that the definition
--- makes of all of them, and the records from the next row's first page on are as they were.
+-- The loop that lays out the regions, the first one first. `Laid` is its invariant: the rows passed stand for their regions in the
+-- allocator that the definition makes of all of them, and the records from the next row's first page on are as they were.
 use Prim.Native.Nat.{ℕ, zero, suc, ◌+◌, ◌-◌, ◌/◌, ◌%◌, ◌≤◌, ◌<◌, ◌^◌}
 use mathlib.Core.List.{List, [], ◌∷◌, ◌++◌, map}
 use mathlib.Core.Path.{◌≡◌, refl, sym, ap, ◌∙◌, subst}
@@ -39,7 +39,8 @@ use Rattle.boot.proofs.Laying.{disjoint, laid_many, laid_pages, laid_start, lay_
 -- ---- where the rows' pages begin
 
 module _ (board : Board) where
-  base_next : (base : ℕ) (rows : List Row) (i : ℕ) → i < length rows → base_at board base rows (suc i) ≡ base_at board base rows i + managed board (row_at rows i).pages
+  base_next : (base : ℕ) (rows : List Row) (i : ℕ) → i < length rows → base_at board base rows (suc i)
+      ≡ base_at board base rows i + managed board (row_at rows i).pages
   unfolding base_at
   base_next base [] i h = absurd (omega arith)
   base_next base (row ∷ rows) zero h = base_first board (base + managed board row.pages) rows
@@ -88,8 +89,10 @@ module _
           same =
               record {
                 frames = λ q i. S.same.frames q i ∙ sym (state_frames q i);
-                free = λ k. S.same.free k ∙ ap (λ (h : ℕ → List ℕ). map (shift (from_of board row2) base2) (h k)) (sym (state_free S.sound));
-                inside = λ k. subst (λ (h : ℕ → List ℕ). All (λ (q : ℕ). Inside board base2 row2.pages q) (h k)) (sym (state_free S.sound)) (S.same.inside k);
+                free = λ k. S.same.free k ∙ ap (λ (h : ℕ → List ℕ). map (shift (from_of board row2) base2) (h k))
+                    (sym (state_free S.sound));
+                inside = λ k. subst (λ (h : ℕ → List ℕ). All (λ (q : ℕ). Inside board base2 row2.pages q) (h k))
+                    (sym (state_free S.sound)) (S.same.inside k);
               };
         }
 
@@ -97,7 +100,8 @@ module _
 
 module _ {board : Board} where
   same_after
-      : {f g : ℕ → Record} {n base : ℕ} {row r : Row} {u t : Levels} → Becomes board f base row g n r u → Shifted board (from_of board row) base row.pages u t
+      : {f g : ℕ → Record} {n base : ℕ} {row r : Row} {u t : Levels} → Becomes board f base row g n r u
+      → Shifted board (from_of board row) base row.pages u t
       → Shifted board (from_of board r) base r.pages (state_of g r) t
   same_after {g = g} {base = base} {row = row} {r = r} {u = u} {t = t} B S =
       subst (λ (a : ℕ). Shifted board a base r.pages (state_of g r) t) (sym (from_same B))
@@ -126,13 +130,15 @@ module _
     {board : Board} (ks : List Row) (D : Disjoint board ks) (i : ℕ) (h : i < length ks) (aligned : (row_at ks i).start.0 % board.page ≡ 0)
     {f g : ℕ → Record} {n base : ℕ} {r : Row}
     (small : base + managed board (row_at ks i).pages < 2 ^ 32) (fits : base + managed board (row_at ks i).pages ≤ n)
-    (B : Becomes board f base (empty_row (row_at ks i).start (row_at ks i).pages) g n r (new_state board f base (row_at ks i).start (row_at ks i).pages))
+    (B : Becomes board f base (empty_row (row_at ks i).start (row_at ks i).pages) g n r
+    (new_state board f base (row_at ks i).start (row_at ks i).pages))
   where
     none_free : (l : ℕ) → (blank_state board f base (row_at ks i).start (row_at ks i).pages).free l ≡ []
     none_free l = empty_lists (cleared f base (managed board (row_at ks i).pages)) (row_at ks i).start (row_at ks i).pages l
 
     laid_same
-        : Shifted board (from_of board (empty_row (row_at ks i).start (row_at ks i).pages)) base (row_at ks i).pages (new_state board f base (row_at ks i).start (row_at ks i).pages)
+        : Shifted board (from_of board (empty_row (row_at ks i).start (row_at ks i).pages)) base (row_at ks i).pages
+        (new_state board f base (row_at ks i).start (row_at ks i).pages)
         (levels_of (lay_rows board ks).frames (region_at (lay_rows board ks).regions i))
     laid_same =
         rw (from_empty board (row_at ks i))
@@ -153,9 +159,11 @@ module _
 
 module _ {board : Board} where
   stand_all
-      : {f : ℕ → Record} {n : ℕ} {fs : Frames} (base : ℕ) (ks xs : List Row) (rs : List AllocationRegion) → length xs ≡ length ks → length rs ≡ length ks
+      : {f : ℕ → Record} {n : ℕ} {fs : Frames} (base : ℕ) (ks xs : List Row) (rs : List AllocationRegion) → length xs ≡ length ks
+      → length rs ≡ length ks
       → ((j : ℕ) → j < length ks → (row_at xs j).pages ≡ (row_at ks j).pages)
-      → ((j : ℕ) → j < length ks → StandsRow board f n (base_at board base ks j) (row_at xs j) fs (region_at rs j)) → StandRows board f n fs base xs rs
+      → ((j : ℕ) → j < length ks → StandsRow board f n (base_at board base ks j) (row_at xs j) fs (region_at rs j))
+      → StandRows board f n fs base xs rs
   unfolding base_at
   stand_all base [] [] [] e d p S = stand_none
   stand_all base [] (x ∷ xs) rs e d p S = absurd (omega arith)
@@ -165,7 +173,8 @@ module _ {board : Board} where
   stand_all {f} {n} {fs} base (k ∷ ks) (x ∷ xs) (r ∷ rs) e d p S =
       stand_more (S 0 (omega arith))
       (subst (λ (m : ℕ). StandRows board f n fs (base + managed board m) xs rs) (sym (p 0 (omega arith)))
-      (stand_all (base + managed board k.pages) ks xs rs (omega arith) (omega arith) (λ j h. p (suc j) (omega arith)) (λ j h. S (suc j) (omega arith))))
+      (stand_all (base + managed board k.pages) ks xs rs (omega arith) (omega arith) (λ j h. p (suc j) (omega arith))
+      (λ j h. S (suc j) (omega arith))))
 
 -- ---- the invariant
 
@@ -183,16 +192,19 @@ module _ {board : Board} where
   -- a row that stands has its region's pages
   same_pages
       : (ks xs : List Row) {g : ℕ → Record} {n j : ℕ} → j < length ks
-      → StandsRow board g n (base_at board 0 ks j) (row_at xs j) (lay_rows board ks).frames (region_at (lay_rows board ks).regions j) → (row_at xs j).pages ≡ (row_at ks j).pages
+      → StandsRow board g n (base_at board 0 ks j) (row_at xs j) (lay_rows board ks).frames (region_at (lay_rows board ks).regions j)
+      → (row_at xs j).pages ≡ (row_at ks j).pages
   same_pages ks xs {j = j} h S = sym S.pages ∙ laid_pages board ks j h
 
   -- a turn of the loop, on the rows ks
   module _
-      {f : ℕ → Record} (ks : List Row) (D : Disjoint board ks) {g : ℕ → Record} {n : ℕ} {rows : List Row} {base i : ℕ} (L : Laid board f ks g n rows base i) (h : i < length ks)
+      {f : ℕ → Record} (ks : List Row) (D : Disjoint board ks) {g : ℕ → Record} {n : ℕ} {rows : List Row} {base i : ℕ}
+      (L : Laid board f ks g n rows base i) (h : i < length ks)
       (aligned : (row_at ks i).start.0 % board.page ≡ 0)
       (small : base + managed board (row_at ks i).pages < 2 ^ 32) (fits : base + managed board (row_at ks i).pages ≤ n)
       {g2 : ℕ → Record} {r : Row} (fits_words : NarrowRow r)
-      (B : Becomes board g base (empty_row (row_at ks i).start (row_at ks i).pages) g2 n r (new_state board g base (row_at ks i).start (row_at ks i).pages))
+      (B : Becomes board g base (empty_row (row_at ks i).start (row_at ks i).pages) g2 n r
+      (new_state board g base (row_at ks i).start (row_at ks i).pages))
     where
       inside : i < length rows
       inside = omega (arith, L.long)
@@ -237,7 +249,8 @@ module _ {board : Board} where
             left = λ j l. get_or-set_other rows i j r _ (λ e. omega arith) ∙ L.left j (omega arith);
             stands = stands_next;
             narrow = narrow_next;
-            based = ap (λ (b : ℕ). b + managed board (row_at ks i).pages) L.based ∙ sym (base_next board 0 ks i h) ∙ ap (base_at board 0 ks) (sym (add-one i));
+            based = ap (λ (b : ℕ). b + managed board (row_at ks i).pages) L.based ∙ sym (base_next board 0 ks i h)
+                ∙ ap (base_at board 0 ks) (sym (add-one i));
             outside = λ q l. B.outside q (λ x. absurd (omega (arith, x.high))) ∙ L.outside q (omega arith);
           }
 
@@ -303,7 +316,8 @@ module _ {board : Board} (ks : List Row) (n : ℕ) (R : Ready board ks n) where
 
     pub laid_on
         : {g2 : ℕ → Record} {m : ℕ} {r : Row} → m ≡ n → NarrowRow r
-        → Becomes board g base (empty_row (row_at rows i).start (row_at rows i).pages) g2 m r (new_state board g base (row_at rows i).start (row_at rows i).pages)
+        → Becomes board g base (empty_row (row_at rows i).start (row_at rows i).pages) g2 m r
+        (new_state board g base (row_at rows i).start (row_at rows i).pages)
         → Laid board f ks g2 n (set rows i r) (base + managed board (row_at rows i).pages) (i + 1)
     laid_on {g2} {m} {r} e narrow B =
         let T : Turn (row_at ks i) base = subst (λ (row : Row). Turn row base) same laid_turn in
@@ -313,7 +327,8 @@ module _ {board : Board} (ks : List Row) (n : ℕ) (R : Ready board ks n) where
         (omega (arith, T.end)) (omega (arith, T.fits)) narrow
         (subst (λ (row : Row). Becomes board g base (empty_row row.start row.pages) g2 n r (new_state board g base row.start row.pages))
         same
-        (subst (λ (x : ℕ). Becomes board g base (empty_row (row_at rows i).start (row_at rows i).pages) g2 x r (new_state board g base (row_at rows i).start (row_at rows i).pages)) e B)))
+        (subst (λ (x : ℕ). Becomes board g base (empty_row (row_at rows i).start (row_at rows i).pages) g2 x r
+        (new_state board g base (row_at rows i).start (row_at rows i).pages)) e B)))
 
   pub laid_done : {f g : ℕ → Record} {rows : List Row} {base i : ℕ} → Laid board f ks g n rows base i → i ≡ length ks
       → Lays board f ks g n rows

@@ -48,7 +48,8 @@ module _ {map : List MemoryRegion} {count : ℕ} {ms : List MemoryRegion} (M : M
         pub given_spans : regions_of board r.rows ≡ kept_regions board ms
         given_spans = rw given_kept (kept_spans fit ms (given_near near))
 
-        pub given_rows : (records memory : ℕ) → rows_refusal board r.rows records memory ≡ number_if (first_met (boot_sheet board ms records memory))
+        pub given_rows : (records memory : ℕ) → rows_refusal board r.rows records memory
+            ≡ number_if (first_met (boot_sheet board ms records memory))
         given_rows records memory = sym (near_map board ms records memory (omega (arith, M.long)) (given_near near) r.rows given_spans)
 
         -- of the rows alone
@@ -64,7 +65,8 @@ module _ {map : List MemoryRegion} {count : ℕ} {ms : List MemoryRegion} (M : M
 -- ---- a map that is not refused
 
 module _
-    {board : Board} (fit : Fit board) (map : List MemoryRegion) (count records memory n : ℕ) (eight_long : length map ≡ 8) (E : RefusedAs board map count records memory n) (z : n ≡ 0)
+    {board : Board} (fit : Fit board) (map : List MemoryRegion) (count records memory n : ℕ) (eight_long : length map ≡ 8)
+    (E : RefusedAs board map count records memory n) (z : n ≡ 0)
     (k : Kept) (K : Keeps board (take count map) k)
   where
     itself : Mapped map count (take count map)

@@ -43,14 +43,17 @@ short_loans r m a b = go (dec_le a r) (dec_le b m)
 
 module _ (board : Board) (ms : List MemoryRegion) (records memory : ℕ) where
   abbrev short : Bool
-  short = ltb records (record_size * managed_pages board (kept_regions board ms)) || ltb memory (board.page * managed_pages board (kept_regions board ms))
+  short = ltb records (record_size * managed_pages board (kept_regions board ms))
+      || ltb memory (board.page * managed_pages board (kept_regions board ms))
 
   by_tests
       : number_if (first_met (boot_sheet board ms records memory))
       ≡ cond (ltb most_rows (length ms)) 1
-      (cond (any ends_far ms) 2 (cond (overlap board (kept_regions board ms)) 3 (cond (ltb most_pages (total (kept_regions board ms))) 4 (cond short 5 0))))
+      (cond (any ends_far ms) 2 (cond (overlap board (kept_regions board ms)) 3
+      (cond (ltb most_pages (total (kept_regions board ms))) 4 (cond short 5 0))))
   by_tests =
-      sheet_number (ltb most_rows (length ms)) (any ends_far ms) (overlap board (kept_regions board ms)) (ltb most_pages (total (kept_regions board ms))) short
+      sheet_number (ltb most_rows (length ms)) (any ends_far ms) (overlap board (kept_regions board ms))
+      (ltb most_pages (total (kept_regions board ms))) short
 
   pub long_map : 8 < length ms → number_if (first_met (boot_sheet board ms records memory)) ≡ 1
   long_map h = by_tests ∙ rw (lt-ltb 8 (length ms) h) refl
@@ -68,7 +71,8 @@ module _ (board : Board) (ms : List MemoryRegion) (records memory : ℕ) where
         ∙ rw (le-ltb 8 (length ms) few, f, e)
         (ap
         (λ (x : ℕ). cond (overlap board (kept_regions board ms)) 3 (cond (ltb most_pages (total (kept_regions board ms))) 4 x))
-        (short_loans records memory (record_size * managed_pages board (kept_regions board ms)) (board.page * managed_pages board (kept_regions board ms))))
+        (short_loans records memory (record_size * managed_pages board (kept_regions board ms))
+        (board.page * managed_pages board (kept_regions board ms))))
 
 -- ---- the rows' own refusals
 
@@ -97,7 +101,8 @@ module _ (board : Board) (rows : List Row) (records memory : ℕ) where
   pub admitted : rows_refusal board rows records memory ≡ 0 → Admitted
   unfolding rows_refusal
   admitted z =
-      go (overlap board (regions_of board rows)) (ltb most_pages (total (regions_of board rows))) (loans_long board rows records memory) refl refl refl z
+      go (overlap board (regions_of board rows)) (ltb most_pages (total (regions_of board rows))) (loans_long board rows records memory)
+      refl refl refl z
     where
       go : (a b c : Bool) → overlap board (regions_of board rows) ≡ a → ltb most_pages (total (regions_of board rows)) ≡ b
           → loans_long board rows records memory ≡ c → ◌≡◌ {A = ℕ} (cond a 3 (cond b 4 (cond c 0 5))) 0 → Admitted

@@ -1,4 +1,5 @@
--- What a boot leaves of the words: as they were where it is refused, else the state of a store that has just booted, which is read of them again.
+-- What a boot leaves of the words: as they were where it is refused, else the state of a store that has just booted, which is read of them
+-- again.
 use Prim.Native.Nat.{ℕ, ◌-◌, ◌≤◌}
 use mathlib.Core.Bool.{false≢true}
 use mathlib.Core.List.{List, ◌++◌}

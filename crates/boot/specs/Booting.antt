@@ -1,5 +1,6 @@
--- What a boot is given and what it promises: the map, of which a caller hands over the first eight entries and their number; the rows of the entries that are
--- kept; the refusals by numbers; the layout; and `BootsAll`, that what it leaves and answers is definition's `boot_call` of the map.
+-- What a boot is given and what it promises: the map, of which a caller hands over the first eight entries and their number; the rows of
+-- the entries that are kept; the refusals by numbers; the layout; and `BootsAll`, that what it leaves and answers is definition's
+-- `boot_call` of the map.
 use Rattle.std.specs.Prelude.{ℕ, ◌-◌, ◌*◌, ◌≤◌, ◌<◌, true, false, cond, List, [], ◌∷◌, ◌++◌, ◌≡◌, eqb, ltb, length, take, drop, replicate}
 use Rattle.std.specs.Prelude.{Option, Some, None}
 use Rattle.std.proofs.Math.Option.{none}
@@ -113,4 +114,5 @@ module _ (board : Board) where
 -- and of the words: a boot that is refused leaves them as they are; else they are written whole, from the version to the pass
 pub record BootsOver (ws vs : List ℕ) (y : Answer) : Type 0 where
   pub refused : eqb y.number 0 ≡ false → vs ≡ ws
-  pub written : eqb y.number 0 ≡ true → vs ≡ with_bytes ws 0 (kept_of (length (used_rows (rows_in vs))) (rows_in vs) (queued_in vs) (pass_in vs))
+  pub written : eqb y.number 0 ≡ true → vs ≡ with_bytes ws 0 (kept_of (length (used_rows (rows_in vs))) (rows_in vs) (queued_in vs)
+      (pass_in vs))

@@ -46,27 +46,33 @@ is_booted c = sym c.row_as_boot.ensures ∙ c.if-not-row_as_boot.false
 -- where its pages end
 ends : (c : After-table_pages-tables) →
     let a = c.args in
-    a.seen.managed + (c.row_at-row.result.pages - c.table_pages-tables.result) ≡ a.seen.managed + managed_row (board (goal.at.After-table_pages-tables c).After-row_at-row) c.row_at-row.result
+    a.seen.managed + (c.row_at-row.result.pages - c.table_pages-tables.result)
+    ≡ a.seen.managed + managed_row (board (goal.at.After-table_pages-tables c).After-row_at-row) c.row_at-row.result
 ends c = rw c.table_pages-tables.ensures
 
 -- the loan has its records
 room : (c : Else-records-past) →
     let a = c.args in
-    leb (a.seen.managed + managed_row (board (goal.at.Else-records-past c).After-row_at-row) c.row_at-row.result) (length a.records.now / 16) ≡ true
+    leb (a.seen.managed + managed_row (board (goal.at.Else-records-past c).After-row_at-row) c.row_at-row.result)
+    (length a.records.now / 16) ≡ true
 room c =
     let a = c.args in
-    le-leb (a.seen.managed + managed_row (board (goal.at.Else-records-past c).After-row_at-row) c.row_at-row.result) (length a.records.now / 16)
+    le-leb (a.seen.managed + managed_row (board (goal.at.Else-records-past c).After-row_at-row) c.row_at-row.result)
+    (length a.records.now / 16)
     (omega (arith, ends (goal.at.Else-records-past c).After-table_pages-tables, c.if-records-past.false))
 
 -- the region, whose first managed page is behind those that were seen
 region : (c : After-region_whole-whole) →
     let a = c.args in
-    Audited (board (goal.at.After-region_whole-whole c).After-row_at-row) (record_at a.records.now) (placed_at a.seen.managed c.row_at-row.result) c.region_whole-whole.result
+    Audited (board (goal.at.After-region_whole-whole c).After-row_at-row) (record_at a.records.now)
+    (placed_at a.seen.managed c.row_at-row.result) c.region_whole-whole.result
 region c =
     let a = c.args in
-    audited_row (board (goal.at.After-region_whole-whole c).After-row_at-row) (record_at a.records.now) (placed_at a.seen.managed c.row_at-row.result) (c.page_number.result + c.table_pages-tables.result)
+    audited_row (board (goal.at.After-region_whole-whole c).After-row_at-row) (record_at a.records.now)
+    (placed_at a.seen.managed c.row_at-row.result) (c.page_number.result + c.table_pages-tables.result)
     (a.seen.managed + (c.row_at-row.result.pages - c.table_pages-tables.result)) c.region_whole-whole.result
-    (rw (c.page_number.ensures, c.table_pages-tables.ensures)) (ends (goal.at.After-region_whole-whole c).After-table_pages-tables) c.region_whole-whole.ensures
+    (rw (c.page_number.ensures, c.table_pages-tables.ensures)) (ends (goal.at.After-region_whole-whole c).After-table_pages-tables)
+    c.region_whole-whole.ensures
 
 pub returns-then-not-whole : goal.returns-then-not-whole
 returns-then-not-whole c =
@@ -87,7 +93,8 @@ returns c =
     let p = a.page (whole (goal.at.returns c).Else-not-whole) in
     let k = a.kernel (whole (goal.at.returns c).Else-not-whole) in
     of_row (goal.at.returns c).After-row_at-row _ record {
-      exact = sym (and-true (is_booted (goal.at.returns c).Else-not-row_as_boot) (and-true (room (goal.at.returns c).Else-records-past) (sym a.exact ∙ whole (goal.at.returns c).Else-not-whole)));
+      exact = sym (and-true (is_booted (goal.at.returns c).Else-not-row_as_boot)
+          (and-true (room (goal.at.returns c).Else-records-past) (sym a.exact ∙ whole (goal.at.returns c).Else-not-whole)));
       added = record {
         used = refl;
         total = refl;
