@@ -199,6 +199,7 @@ fn survey(records: &[u8], words: &[u64]) -> Option<Surveyed>
         page: 0,
         kernel: 0,
     };
+    // `seen` counts the rows itself, up to the first that has no pages: a `for` would count them once more.
     while seen.used < 8 && words::pages_at(words, seen.used) != 0 {
         seen = visit(records, words, seen)?;
     }

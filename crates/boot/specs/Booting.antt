@@ -41,7 +41,7 @@ module _ (board : Board) where
   abbrev pub kept_row : MemoryRegion → Row
   kept_row m = empty_row (record { 0 = start_page board m * board.page }) (nr_pages board m)
 
-  -- none of an entry that is not kept
+  -- `None` for an entry that is not kept
   abbrev pub row_of : MemoryRegion → Option Row
   row_of m = cond (is_kept board m) (Some (kept_row m)) None
 
