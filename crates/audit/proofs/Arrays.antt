@@ -1,15 +1,11 @@
--- Rows by value, whatever they are, and rows in words, whatever the words, are eight of six lists each. So the two tests of the sheet that ask for it hold.
+-- Rows in words, whatever the words, are eight of six lists each. So the two tests of the sheet that ask for it hold.
 use Prim.Native.Nat.{ℕ, zero, suc, ◌+◌, ◌*◌}
 use mathlib.Core.Bool.{Bool, true, false, cond, not, ◌&&◌}
-use mathlib.Core.List.{List, [], ◌∷◌}
+use mathlib.Core.List.{List}
 use mathlib.Core.Path.{◌≡◌, refl, ◌∙◌}
 use lib.Dec.{leb, ltb}
 use lib.ListN.{length, drop}
 use borrow.Author.Tests.{eq-eqb}
-use mir.Val.{Val}
-use denote.Laws.{Is}
-use denote.Shadow.{shadow}
-use denote.Array.{Array, each}
 use Rattle.definition.specs.declared.Row.{Row}
 use Rattle.definition.specs.Board.{Board}
 use Rattle.definition.specs.Basics.{all}
@@ -18,9 +14,7 @@ use Rattle.definition.specs.Boot.{overlap}
 use Rattle.definition.specs.World.{no_row, used_rows}
 use Rattle.definition.specs.Torn.{is_no_row, regions_of, row_as_boot, six_lists, rows_as_boot}
 use Rattle.definition.proofs.Tests.{and-true}
-use Rattle.definition.specs.contracts.Row as R
 use Rattle.words.specs.Words.{used_in, row_in, rows_from, rows_in}
-use Rattle.words.proofs.Owned.{rows_eight, row_narrow}
 use Rattle.audit.proofs.Onward.{and_on}
 
 module _ (board : Board) where
@@ -35,18 +29,6 @@ module _ (board : Board) where
   shaped : (rows : List Row) (used : ℕ) → used ≡ length (used_rows rows) → length rows ≡ 8 → all six_lists rows ≡ true → Shaped rows used
   unfolding rows_as_boot
   shaped rows used e eight six = rw e (and_on _ (eq-eqb (length rows) 8 eight) ∙ and_on _ six)
-
--- ---- by value
-
-each_six : (rows : List Row) (vs : List Val) → shadow (each Row (R.the_row).own_val rows vs) → all six_lists rows ≡ true
-unfolding all
-each_six [] vs e = refl
-each_six (row ∷ rows) [] e = absurd e
-each_six (row ∷ rows) (v ∷ vs) e = and-true (eq-eqb _ _ (row_narrow row (v ∷ []) e.0).six) (each_six rows vs e.1)
-
-module _ (board : Board) where
-  pub rows_shaped : (rows : List Row) (used : ℕ) (vs : List Val) → used ≡ length (used_rows rows) → Is (Array R.the_row 8) rows vs → Shaped board rows used
-  rows_shaped rows used vs e p = shaped board rows used e (rows_eight rows vs p) (each_six rows p.0 p.1.1)
 
 -- ---- in words
 

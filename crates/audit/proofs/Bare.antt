@@ -17,16 +17,19 @@ use Rattle.definition.specs.Torn.{bare_regions, regions_of}
 use Rattle.audit.proofs.Onward.{or_on, or_off, sum_on}
 
 module _ (board : Board) where
-  pub any_regions : (test : AllocationRegion → Bool) (rows : List Row) → list_any (λ (t : Row). test (bare_region board t)) rows ≡ any test (bare_regions board rows)
+  pub any_regions : (test : AllocationRegion → Bool) (rows : List Row) → list_any (λ (t : Row). test (bare_region board t)) rows
+      ≡ any test (bare_regions board rows)
   unfolding any bare_regions
   any_regions test [] = refl
   any_regions test (row ∷ rows) = ap (λ (t : Bool). test (bare_region board row) || t) (any_regions test rows)
 
-  pub sum_regions : (weight : AllocationRegion → ℕ) (rows : List Row) → sum_by (λ (t : Row). weight (bare_region board t)) rows ≡ sum weight (bare_regions board rows)
+  pub sum_regions : (weight : AllocationRegion → ℕ) (rows : List Row) → sum_by (λ (t : Row). weight (bare_region board t)) rows
+      ≡ sum weight (bare_regions board rows)
   unfolding sum bare_regions
   sum_regions weight [] = refl
   sum_regions weight (row ∷ rows) =
-      sum_by-cons (λ (t : Row). weight (bare_region board t)) row rows ∙ ap (λ (n : ℕ). weight (bare_region board row) + n) (sum_regions weight rows)
+      sum_by-cons (λ (t : Row). weight (bare_region board t)) row rows ∙ ap (λ (n : ℕ). weight (bare_region board row) + n)
+      (sum_regions weight rows)
 
   module _ {xs ys : List Row} {x : Row} (e : xs ≡ x ∷ ys) where
     pub regions_on : bare_regions board xs ≡ bare_region board x ∷ bare_regions board ys

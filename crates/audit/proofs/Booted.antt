@@ -1,5 +1,5 @@
--- What the test of a row as boot makes it says in numbers, of one row and of each in use. And when it holds, by the numbers that the code compares: its
--- end in pages, where the definition counts it in bytes.
+-- What the test of a row as boot makes it says in numbers, of one row and of each in use. And when it holds, by the numbers that the code
+-- compares: its end in pages, where the definition counts it in bytes.
 use Prim.Native.Nat.{ℕ, ◌+◌, ◌*◌, ◌/◌, ◌%◌, ◌≤◌, ◌<◌}
 use mathlib.Core.Bool.{Bool, true, false, cond, ◌&&◌}
 use mathlib.Core.List.{List, [], ◌∷◌}
@@ -42,7 +42,8 @@ module _ (board : Board) where
       }
 
 -- the end, looked at in pages
-pub ends_by : {board : Board} → Fit board → {row : Row} → Booted board row → row.start.0 / board.page + row.pages ≤ highest_address / board.page
+pub ends_by : {board : Board} → Fit board → {row : Row} → Booted board row
+    → row.start.0 / board.page + row.pages ≤ highest_address / board.page
 ends_by {board} fit {row} b =
     let P = board.page in
     page_reached P (omega (arith, page_least fit)) (omega (arith, b.ends, aligned_is P row.start.0 b.aligned))
@@ -51,7 +52,8 @@ ends_by {board} fit {row} b =
 pub few_pages : {board : Board} → Fit board → {row : Row} → Booted board row → row.start.0 / board.page + row.pages ≤ 268435456
 few_pages {board} fit {row} b =
     let P = board.page in
-    let e = pages_bound P (page_least fit) (row.start.0 / P + row.pages) {n = highest_address} (omega (arith, b.ends, aligned_is P row.start.0 b.aligned)) in
+    let e = pages_bound P (page_least fit) (row.start.0 / P + row.pages) {n = highest_address}
+    (omega (arith, b.ends, aligned_is P row.start.0 b.aligned)) in
     omega (arith, e)
 
 module _ (board : Board) where
@@ -75,14 +77,14 @@ module _ (board : Board) where
   used_booted rows i e h = all_first (row_as_boot board) (used_at rows i h) (all_drop (row_as_boot board) (used_rows rows) i e)
 
 module _ (board : Board) where
-  pub booted_at : (rows : List Row) (i : ℕ) → all (row_as_boot board) (used_rows rows) ≡ true → i < length (used_rows rows) → Booted board (row_at rows i)
-  booted_at rows i e h = booted board (row_at rows i) (used_booted board rows i e h)
-
   -- each row of a list of such
-  pub booted_in : (rows : List Row) (i : ℕ) (d : Row) → all (row_as_boot board) rows ≡ true → i < length rows → Booted board (get_or rows i d)
-  booted_in rows i d e h = booted board (get_or rows i d) (all_first (row_as_boot board) (drop_at rows i d h) (all_drop (row_as_boot board) rows i e))
+  pub booted_in : (rows : List Row) (i : ℕ) (d : Row) → all (row_as_boot board) rows ≡ true → i < length rows
+      → Booted board (get_or rows i d)
+  booted_in rows i d e h =
+      booted board (get_or rows i d) (all_first (row_as_boot board) (drop_at rows i d h) (all_drop (row_as_boot board) rows i e))
 
-  pub few_total : Fit board → (rows : List Row) → all (row_as_boot board) rows ≡ true → total (bare_regions board rows) ≤ length rows * 268435456
+  pub few_total : Fit board → (rows : List Row) → all (row_as_boot board) rows ≡ true
+      → total (bare_regions board rows) ≤ length rows * 268435456
   unfolding all sum bare_regions
   few_total fit [] e = omega arith
   few_total fit (row ∷ rows) e =
@@ -93,5 +95,6 @@ module _ (board : Board) where
   unfolding all used_rows
   booted_used [] e = refl
   booted_used (row ∷ rows) e =
-      ap (λ (t : Bool). cond t [] (row ∷ used_rows rows)) (ne_eqb row.pages 0 (λ z. omega (arith, (booted board row (and_left _ _ e)).more)))
+      ap (λ (t : Bool). cond t [] (row ∷ used_rows rows)) (ne_eqb row.pages 0
+      (λ z. omega (arith, (booted board row (and_left _ _ e)).more)))
       ∙ ap (λ (l : List Row). row ∷ l) (booted_used rows (and_right (row_as_boot board row) _ e))

@@ -1,5 +1,5 @@
--- Laws of a test or a sum over what is left of a list, as a loop over the list keeps it: xs is left, and an equation says that x is its first and ys
--- the rest. A name ends in `on` where the first leaves it to the rest, and in `off` where it settles the test.
+-- Laws of a test or a sum over what is left of a list, as a loop over the list keeps it: xs is left, and an equation says that x is its
+-- first and ys the rest. A name ends in `on` where the first leaves it to the rest, and in `off` where it settles the test.
 use Prim.Native.Nat.{ℕ, zero, suc, ◌+◌, ◌≤◌, ◌<◌}
 use mathlib.Core.Bool.{Bool, true, false, ◌&&◌, ◌||◌}
 use mathlib.Core.List.{List, [], ◌∷◌}

@@ -1,5 +1,5 @@
--- The torn sheet as one test and as a record of its sentences say the same. The audit's tests, in an order of their own, are that one test, whatever the
--- bytes of the memory and the places of the queue.
+-- The torn sheet as one test and as a record of its sentences say the same. The audit's tests, in an order of their own, are that one test,
+-- whatever the bytes of the memory and the places of the queue.
 use Prim.Native.Nat.{ℕ, ◌*◌, ◌/◌}
 use mathlib.Core.Bool.{Bool, true, false, not, ◌&&◌, false≢true}
 use mathlib.Core.List.{List}
@@ -211,7 +211,8 @@ module _ (board : Board) where
     abbrev last_test : Bool
     last_test = not (overlap board regions_in) && leb (total regions_in) 1048576
 
-    -- where there are eight rows of six lists, as their type says, the sheet's test of the rows has four parts, of which the survey makes two
+    -- where there are eight rows of six lists, as their type says, the sheet's test of the rows has four parts, of which the survey makes
+    -- two
     module _ (shape : rows_test ≡ (unused_test && (boot_test && last_test))) where
       last_two : rows_test ≡ true → last_test ≡ true
       last_two t = and_right boot_test last_test (and_right unused_test (boot_test && last_test) (sym shape ∙ t))
@@ -227,7 +228,8 @@ module _ (board : Board) where
           let fit : records_test ≡ true = le-leb (managed_pages board regions_in) (length g.records / 16) m in
           false≢true
           (sym e
-          ∙ and-true {a = unused_test} (and_left unused_test (boot_test && last_test) r) (and-true {a = boot_test} b (and-true {a = records_test} fit w))))
+          ∙ and-true {a = unused_test} (and_left unused_test (boot_test && last_test) r)
+          (and-true {a = boot_test} b (and-true {a = records_test} fit w))))
 
       -- where the survey has passed, the other tests decide
       module _ (s : surveyed ≡ true) where
@@ -241,7 +243,8 @@ module _ (board : Board) where
         loans_left : loans_test ≡ leb (board.page * managed_pages board regions_in) g.memory_len
         unfolding loans_long
         loans_left =
-            let m = leb-true (managed_pages board regions_in) (length g.records / 16) (and_left records_test _ (and_right boot_test _ others)) in
+            let m = leb-true (managed_pages board regions_in) (length g.records / 16)
+            (and_left records_test _ (and_right boot_test _ others)) in
             and_on _ (le-leb (16 * managed_pages board regions_in) (length g.records) (omega arith))
 
         regions_pass : regions_test ≡ true
@@ -251,7 +254,8 @@ module _ (board : Board) where
         five_left =
             ap (λ (t : Bool). t && (loans_test && (regions_test && (counts_test && rest_test)))) rows_left
             ∙ ap (λ (t : Bool). last_test && (t && (regions_test && (counts_test && rest_test)))) loans_left
-            ∙ ap (λ (t : Bool). last_test && (leb (board.page * managed_pages board regions_in) g.memory_len && (t && (counts_test && rest_test)))) regions_pass
+            ∙ ap (λ (t : Bool). last_test && (leb (board.page * managed_pages board regions_in) g.memory_len
+            && (t && (counts_test && rest_test)))) regions_pass
 
         module _ (seen : Surveyed) (h : Found board records g.rows seen) where
           counts_found : counts_as g.counters seen ≡ counts_test
@@ -259,17 +263,20 @@ module _ (board : Board) where
 
           -- the tests that are made of what the survey found
           abbrev pub found_tests : Bool
-          found_tests = ((leb seen.total 1048576 && not (overlap board regions_in)) && leb (board.page * seen.managed) g.memory_len) && counts_as g.counters seen
+          found_tests = ((leb seen.total 1048576 && not (overlap board regions_in)) && leb (board.page * seen.managed) g.memory_len)
+              && counts_as g.counters seen
 
           pub others_decide : (r : Bool) → r ≡ (found_tests && rest_test) → Answers r
           others_decide r e =
               exact r
               (e
               ∙ ap
-              (λ (t : ℕ). (((leb t 1048576 && not (overlap board regions_in)) && leb (board.page * seen.managed) g.memory_len) && counts_as g.counters seen) && rest_test)
+              (λ (t : ℕ). (((leb t 1048576 && not (overlap board regions_in)) && leb (board.page * seen.managed) g.memory_len)
+              && counts_as g.counters seen) && rest_test)
               h.total
               ∙ ap₂
-              (λ (m : ℕ) (t : Bool). (((leb (total regions_in) 1048576 && not (overlap board regions_in)) && leb (board.page * m) g.memory_len) && t) && rest_test)
+              (λ (m : ℕ) (t : Bool). (((leb (total regions_in) 1048576 && not (overlap board regions_in))
+              && leb (board.page * m) g.memory_len) && t) && rest_test)
               h.manages
               counts_found
               ∙ sym

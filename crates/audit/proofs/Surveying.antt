@@ -1,5 +1,5 @@
--- The survey of the rows in use. At each of them what is left decides as the whole does, and what was counted with what is left is the whole: `Surveying` says
--- so, and a turn keeps it or refuses the rows. Where those in use end, the unused ones behind them decide.
+-- The survey of the rows in use. At each of them what is left decides as the whole does, and what was counted with what is left is the
+-- whole: `Surveying` says so, and a turn keeps it or refuses the rows. Where those in use end, the unused ones behind them decide.
 use Prim.Native.Nat.{ℕ, ◌+◌, ◌≤◌, ◌<◌}
 use mathlib.Core.Bool.{Bool, true, false, ◌&&◌, false≢true, and-true as and-true-right}
 use mathlib.Core.List.{List, [], ◌∷◌}
@@ -30,7 +30,8 @@ use Rattle.audit.proofs.Bare.{total_on}
 use Rattle.audit.proofs.Counting.{left_of, left_more, left_none, managed_row, managed_all, idle_row, idle_all}
 
 module _ {board : Board} where
-  pub visited_torn : {f : Records} {n : ℕ} {row : Row} {s : Surveyed} → row_test board f n s.managed row ≡ false → Visited board f n row s None
+  pub visited_torn : {f : Records} {n : ℕ} {row : Row} {s : Surveyed} → row_test board f n s.managed row ≡ false
+      → Visited board f n row s None
   visited_torn d = record { exact = sym d; added = tt }
 
 module _ (board : Board) where
@@ -47,8 +48,10 @@ module _ (board : Board) where
       pub totals : total (regions_of board rows) ≡ s.total + total (bare_regions board (drop s.used used))
       pub manages : s.managed + left_of (managed_row board) rows s.used ≡ managed_pages board (regions_of board rows)
       pub whole : all (whole_row board f) (placed board rows) ≡ all (whole_row board f) (placed_from board s.managed (drop s.used used))
-      pub pages : sum (held_row board false f) (placed board rows) ≡ s.page + sum (held_row board false f) (placed_from board s.managed (drop s.used used))
-      pub kernels : sum (held_row board true f) (placed board rows) ≡ s.kernel + sum (held_row board true f) (placed_from board s.managed (drop s.used used))
+      pub pages : sum (held_row board false f) (placed board rows) ≡ s.page + sum (held_row board false f)
+          (placed_from board s.managed (drop s.used used))
+      pub kernels : sum (held_row board true f) (placed board rows) ≡ s.kernel + sum (held_row board true f)
+          (placed_from board s.managed (drop s.used used))
       pub idles : left_of (idle_row board) rows 0 + s.page + s.kernel ≡ s.total + left_of (idle_row board) rows s.used
       pub count : length used ≡ s.used + length (used_rows (drop s.used rows))
 
@@ -104,10 +107,12 @@ module _ (board : Board) where
             let g = and_right (all (row_as_boot board) used) _ b in
             let most = leb-true (managed_pages board (regions_of board rows)) n (and_left _ _ g) in
             let room : s.managed + managed_row board row ≤ n = omega (arith, v.manages, left_more (managed_row board) rows s.used inside) in
-            let w = sym v.whole ∙ whole_rows board f (placed board rows) ∙ and_right (leb (managed_pages board (regions_of board rows)) n) _ g in
+            let w = sym v.whole ∙ whole_rows board f (placed board rows)
+            ∙ and_right (leb (managed_pages board (regions_of board rows)) n) _ g in
             false≢true
             (seen.exact
-            ∙ and-true (used_booted board rows s.used (and_left _ _ b) inside) (and-true (le-leb _ _ room) (all_first (whole_row board f) next w))) in
+            ∙ and-true (used_booted board rows s.used (and_left _ _ b) inside)
+            (and-true (le-leb _ _ room) (all_first (whole_row board f) next w))) in
             record { exact = refuse refused; found = tt }
 
         pub past_row : Fit board → (r : Surveyed) → Visited board f n (row_at rows s.used) s (Some r) → Surveying r
@@ -133,7 +138,8 @@ module _ (board : Board) where
               booted = rw a.used (v.booted ∙ all_on (row_as_boot board) first_left (and_left _ _ tests));
               totals = rw a.used (omega (arith, v.totals, a.total, total_on board first_left));
               manages = rw a.used (omega (arith, v.manages, a.manages, managed-left));
-              whole = rw (a.used, a.manages) (v.whole ∙ all_on (whole_row board f) next (and_right (leb (s.managed + managed_row board row) n) _ others));
+              whole = rw (a.used, a.manages) (v.whole ∙ all_on (whole_row board f) next
+                  (and_right (leb (s.managed + managed_row board row) n) _ others));
               pages = rw (a.used, a.manages) (omega (arith, v.pages, a.page, sum_on (held_row board false f) next));
               kernels = rw (a.used, a.manages) (omega (arith, v.kernels, a.kernel, sum_on (held_row board true f) next));
               idles = rw a.used (omega (arith, v.idles, a.total, a.page, a.kernel, a.pages, b.tables, idle-left));

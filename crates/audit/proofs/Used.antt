@@ -1,5 +1,5 @@
--- The rows in use are the first of the rows, up to the first that has no pages: each stands at its place, and they end where their number says.
--- And how their number is counted.
+-- The rows in use are the first of the rows, up to the first that has no pages: each stands at its place, and they end where their number
+-- says. And how their number is counted.
 use Prim.Native.Nat.{ℕ, zero, suc, ◌+◌, ◌≤◌, ◌<◌}
 use mathlib.Core.Bool.{Bool, true, false, cond}
 use mathlib.Core.List.{List, [], ◌∷◌}
@@ -7,14 +7,9 @@ use mathlib.Core.Path.{◌≡◌, refl, ap, ◌∙◌}
 use native.Mathlib.Omega.{arith}
 use lib.Dec.{eqb}
 use lib.ListN.{length, get_or, take, drop}
-use mir.Val.{Val}
-use denote.Laws.{Is}
-use denote.Array.{Array}
 use borrow.Author.Tests.{eq-eqb, ne_eqb}
 use Rattle.definition.specs.declared.Row.{Row}
 use Rattle.definition.specs.World.{used_rows}
-use Rattle.definition.specs.contracts.Row as R
-use Rattle.words.proofs.Owned.{rows_eight}
 use Rattle.audit.specs.Sheet.{row_at}
 use Rattle.audit.proofs.Onward.{drop_at}
 
@@ -34,7 +29,8 @@ used_get (r ∷ rs) i h = go (eqb r.pages 0) i h (λ j k. used_get rs j k)
     go false zero k more = refl
     go false (suc j) k more = more j (omega arith)
 
-pub used_at : (rows : List Row) (i : ℕ) → i < length (used_rows rows) → drop i (used_rows rows) ≡ row_at rows i ∷ drop (i + 1) (used_rows rows)
+pub used_at : (rows : List Row) (i : ℕ) → i < length (used_rows rows) → drop i (used_rows rows)
+    ≡ row_at rows i ∷ drop (i + 1) (used_rows rows)
 used_at rows i h =
     drop_at (used_rows rows) i no_place h ∙ ap (λ (r : Row). r ∷ drop (i + 1) (used_rows rows)) (used_get rows i h)
 
@@ -53,12 +49,10 @@ unfolding used_rows
 used_front [] = refl
 used_front (r ∷ rs) = go (eqb r.pages 0) (used_front rs)
   where
-    go : (t : Bool) → take (length (used_rows rs)) rs ≡ used_rows rs → take (length (cond t [] (r ∷ used_rows rs))) (r ∷ rs) ≡ cond t [] (r ∷ used_rows rs)
+    go : (t : Bool) → take (length (used_rows rs)) rs ≡ used_rows rs → take (length (cond t [] (r ∷ used_rows rs))) (r ∷ rs)
+        ≡ cond t [] (r ∷ used_rows rs)
     go true h = refl
     go false h = ap (λ (l : List Row). r ∷ l) h
-
-pub used_eight : (rows : List Row) (vs : List Val) → Is (Array R.the_row 8) rows vs → length (used_rows rows) ≤ 8
-used_eight rows vs p = omega (arith, used_most rows, rows_eight rows vs p)
 
 -- ---- their number, counted from what is left of the rows
 

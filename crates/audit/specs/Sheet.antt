@@ -1,5 +1,6 @@
 -- What the audit is given, as a world of the definition, and what the survey of its rows answers.
-use Rattle.std.specs.Prelude.{ℕ, ◌+◌, ◌-◌, ◌*◌, ◌≤◌, Bool, true, false, ◌&&◌, List, [], ◌≡◌, leb, eqb, get_or, length, drop, Option, is_some, IfSome}
+use Rattle.std.specs.Prelude.{ℕ, ◌+◌, ◌-◌, ◌*◌, ◌≤◌, Bool, true, false, ◌&&◌, List, [], ◌≡◌, leb, eqb, get_or, length, drop}
+use Rattle.std.specs.Prelude.{Option, is_some, IfSome}
 use Rattle.definition.specs.declared.Row.{Row}
 use Rattle.definition.specs.declared.Counters.{Counters}
 use Rattle.definition.specs.declared.Pass.{Pass}
@@ -74,7 +75,8 @@ module _ (board : Board) where
     pub manages : r.managed ≡ s.managed + managed board (bare_region board row)
     pub page : r.page ≡ s.page + held_row board false f (placed_at s.managed row)
     pub kernel : r.kernel ≡ s.kernel + held_row board true f (placed_at s.managed row)
-    pub pages : listed_pages (placed_at 0 row) + held_row board false f (placed_at s.managed row) + held_row board true f (placed_at s.managed row)
+    pub pages : listed_pages (placed_at 0 row) + held_row board false f (placed_at s.managed row) + held_row board true f
+        (placed_at s.managed row)
         ≡ managed board (bare_region board row)
 
   pub record Visited (f : Records) (n : ℕ) (row : Row) (s : Surveyed) (r : Option Surveyed) : Type 0 where
@@ -104,4 +106,5 @@ module _ (board : Board) where
   -- the answer is the sheet's, whatever the bytes of the memory and the places of the queue
   abbrev pub Exact : List Row → Counters → ℕ → Pass → List ℕ → (memory_len queue_len : ℕ) → Bool → Type 0
   Exact rows counters queued pass records memory_len queue_len r =
-      (memory queue : List ℕ) → length memory ≡ memory_len → length queue ≡ queue_len → r ≡ sound board (world_of rows counters queued pass records memory queue)
+      (memory queue : List ℕ) → length memory ≡ memory_len → length queue ≡ queue_len → r
+      ≡ sound board (world_of rows counters queued pass records memory queue)

@@ -50,7 +50,7 @@ fn row_as_boot(board: Board, row: Row) -> bool
         && region::table_pages(board, pages) < pages
 }
 
-// Two rows share a page. Any rows may be asked of, so that no end is counted past 64 bits.
+// Two rows share a page. They are any rows: an end that would pass 64 bits stops at the largest number, past every page.
 fn shares(board: Board, r: Row, t: Row) -> bool
     requires { Fit board }
     ensures { result ≡ shares_def board (bare_region board r) (bare_region board t) }
@@ -196,6 +196,7 @@ fn survey(records: &[u8], words: &[u64]) -> Option<Surveyed>
         page: 0,
         kernel: 0,
     };
+    // `seen` counts the rows itself, up to the first that has no pages: a `for` would count them once more.
     while seen.used < 8 && words::pages_at(words, seen.used) != 0 {
         seen = visit(records, words, seen)?;
     }

@@ -1,5 +1,5 @@
--- Laws of one entry of a map: when it ends past 2^40, and when it is kept, by the numbers that the code compares. An entry that is kept is a row such as boot
--- makes.
+-- Laws of one entry of a map: when it ends past 2^40, and when it is kept, by the numbers that the code compares. An entry that is kept is
+-- a row such as boot makes.
 use Prim.Native.Nat.{ℕ, ◌+◌, ◌-◌, ◌*◌, ◌/◌, ◌%◌, ◌^◌, ◌≤◌, ◌<◌}
 use mathlib.Core.Bool.{true, false, ◌&&◌}
 use mathlib.Core.List.{[]}
@@ -73,7 +73,8 @@ module _ {board : Board} (fit : Fit board) (m : MemoryRegion) where
 
   -- its pages end where it does, or before, and are few
   pub pages_within
-      : ends_far m ≡ false → is_usable m.kind ≡ true → 0 < nr_pages board m → start_page board m * board.page + board.page * nr_pages board m ≤ 2 ^ 40
+      : ends_far m ≡ false → is_usable m.kind ≡ true → 0 < nr_pages board m
+      → start_page board m * board.page + board.page * nr_pages board m ≤ 2 ^ 40
   pages_within f u k =
       let e = start_page board m * board.page in
       omega (
@@ -108,5 +109,6 @@ module _ {board : Board} (fit : Fit board) (m : MemoryRegion) where
           → ◌≡◌ {A = AllocationRegion} (record { start = s * board.page / board.page; pages = nr_pages board m; free = λ k. [] })
           (record { start = s; pages = nr_pages board m; free = λ k. [] })
       go s =
-          let e : s * board.page / board.page ≡ s = ap (λ (x : ℕ). x / board.page) (mul_comm s board.page) ∙ pages_of_lem board.page some_bytes s in
+          let e : s * board.page / board.page ≡ s = ap (λ (x : ℕ). x / board.page) (mul_comm s board.page)
+          ∙ pages_of_lem board.page some_bytes s in
           rw e refl

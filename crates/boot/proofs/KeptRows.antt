@@ -1,12 +1,12 @@
--- Laws of the rows that a map keeps: how the loop over its entries adds one, and that they are rows such as boot makes, the others unused, and the regions of the
--- definition's `kept_regions`.
+-- Laws of the rows that a map keeps: how the loop over its entries adds one, and that they are rows such as boot makes, the others unused,
+-- and the regions of the definition's `kept_regions`.
 use Prim.Native.Nat.{ℕ, zero, suc, ◌+◌, ◌-◌, ◌≤◌, ◌<◌}
-use mathlib.Core.Bool.{Bool, true, false, not, cond, ◌||◌, false≢true}
+use mathlib.Core.Bool.{Bool, true, false, cond, ◌||◌, false≢true}
 use mathlib.Core.List.{List, [], ◌∷◌, ◌++◌, append-nil}
 use mathlib.Core.Path.{◌≡◌, refl, sym, ap, ap₂, ◌∙◌}
 use native.Mathlib.Numerals.{add-one}
 use native.Mathlib.Omega.{arith}
-use borrow.Author.Tests.{eq-eqb, le-leb, ne_eqb}
+use borrow.Author.Tests.{ne_eqb}
 use lib.ListN.{length, get_or, take, drop, set, replicate, length-append, length-replicate}
 use lib.Seq.{append_snoc, take-append_seam, drop-append_seam, set-append_seam, take-suc, take_all, length-take-le}
 use Rattle.std.specs.Prelude.{Option, Some, None}
@@ -21,10 +21,10 @@ use Rattle.definition.specs.declared.MemoryRegionKind.TheVariants.{UsableRam}
 use Rattle.definition.specs.declared.Row.{Row}
 use Rattle.definition.specs.Board.{Board}
 use Rattle.definition.specs.Basics.{all, any}
-use Rattle.definition.specs.Allocator.{AllocationRegion, empty_region, is_kept, total}
-use Rattle.definition.specs.Boot.{ends_far, kept_regions, most_pages, overlap}
+use Rattle.definition.specs.Allocator.{AllocationRegion, empty_region, is_kept}
+use Rattle.definition.specs.Boot.{ends_far, kept_regions}
 use Rattle.definition.specs.World.{no_row, used_rows}
-use Rattle.definition.specs.Torn.{bare_regions, is_no_row, regions_of, row_as_boot, rows_as_boot, six_lists}
+use Rattle.definition.specs.Torn.{bare_regions, is_no_row, regions_of, row_as_boot}
 use Rattle.definition.proofs.Tests.{and_left, and_right, and-true}
 use Rattle.audit.proofs.Booted.{booted, booted_used}
 use Rattle.definition.specs.Board.{Fit}
@@ -60,7 +60,8 @@ module _ (board : Board) where
   kept_append (m ∷ xs) ys = go (is_kept board m) (kept_append xs ys)
     where
       go : (t : Bool) → kept_rows board (xs ++ ys) ≡ kept_rows board xs ++ kept_rows board ys
-          → cond t (kept_row board m ∷ kept_rows board (xs ++ ys)) (kept_rows board (xs ++ ys)) ≡ cond t (kept_row board m ∷ kept_rows board xs) (kept_rows board xs) ++ kept_rows board ys
+          → cond t (kept_row board m ∷ kept_rows board (xs ++ ys)) (kept_rows board (xs ++ ys))
+          ≡ cond t (kept_row board m ∷ kept_rows board xs) (kept_rows board xs) ++ kept_rows board ys
       go true e = ap (λ (l : List Row). kept_row board m ∷ l) e
       go false e = e
 
@@ -69,7 +70,8 @@ module _ (board : Board) where
   kept_most [] = omega arith
   kept_most (m ∷ ms) = go (is_kept board m) (kept_most ms)
     where
-      go : (t : Bool) → length (kept_rows board ms) ≤ length ms → length (cond t (kept_row board m ∷ kept_rows board ms) (kept_rows board ms)) ≤ length (m ∷ ms)
+      go : (t : Bool) → length (kept_rows board ms) ≤ length ms → length
+          (cond t (kept_row board m ∷ kept_rows board ms) (kept_rows board ms)) ≤ length (m ∷ ms)
       go true h = omega arith
       go false h = omega arith
 
@@ -147,7 +149,8 @@ unfolding any
 any_is test [] = refl
 any_is test (x ∷ xs) = ap (λ (t : Bool). test x || t) (any_is test xs)
 
-pub any_none : {A : Type 0} (test : A → Bool) (d : A) (xs : List A) (i : ℕ) → any test xs ≡ false → i < length xs → test (get_or xs i d) ≡ false
+pub any_none : {A : Type 0} (test : A → Bool) (d : A) (xs : List A) (i : ℕ) → any test xs ≡ false → i < length xs → test (get_or xs i d)
+    ≡ false
 unfolding any
 any_none test d [] i e h = absurd (omega arith)
 any_none test d (x ∷ xs) zero e h = (neither (test x) _ e).0
@@ -172,7 +175,8 @@ module _ {board : Board} (fit : Fit board) where
   kept_regions_lem (m ∷ ms) = go (is_kept board m) (kept_regions_lem ms)
     where
       go : (t : Bool) → bare_regions board (kept_rows board ms) ≡ kept_regions board ms
-          → bare_regions board (cond t (kept_row board m ∷ kept_rows board ms) (kept_rows board ms)) ≡ cond t (empty_region board m ∷ kept_regions board ms) (kept_regions board ms)
+          → bare_regions board (cond t (kept_row board m ∷ kept_rows board ms) (kept_rows board ms))
+          ≡ cond t (empty_region board m ∷ kept_regions board ms) (kept_regions board ms)
       go true e = ap₂ (λ (r : AllocationRegion) (rs : List AllocationRegion). r ∷ rs) (kept_region fit m) e
       go false e = e
 
@@ -217,22 +221,6 @@ module _ (board : Board) where
   booted_paged (x ∷ xs) e zero h z = omega (arith, (booted board x (and_left _ _ e)).more)
   booted_paged (x ∷ xs) e (suc j) h z = booted_paged xs (and_right (row_as_boot board x) _ e) j (omega arith) z
 
-  -- each has six lists
-  six_kept : (ms : List MemoryRegion) → all six_lists (kept_rows board ms) ≡ true
-  unfolding all kept_rows
-  six_kept [] = refl
-  six_kept (m ∷ ms) = go (is_kept board m) (six_kept ms)
-    where
-      go : (t : Bool) → all six_lists (kept_rows board ms) ≡ true → all six_lists (cond t (kept_row board m ∷ kept_rows board ms) (kept_rows board ms)) ≡ true
-      go true e = e
-      go false e = e
-
-six_before : (xs : List Row) (k : ℕ) → all six_lists xs ≡ true → all six_lists (xs ++ replicate k no_row) ≡ true
-unfolding all
-six_before [] zero e = refl
-six_before [] (suc k) e = six_before [] k refl
-six_before (x ∷ xs) k e = and-true {a = six_lists x} (and_left (six_lists x) _ e) (six_before xs k (and_right (six_lists x) _ e))
-
 -- ---- what the loop leaves
 
 module _ {board : Board} (fit : Fit board) (ms : List MemoryRegion) (near : any ends_far ms ≡ false) where
@@ -249,27 +237,8 @@ module _ {board : Board} (fit : Fit board) (ms : List MemoryRegion) (near : any 
   pub kept_alone : regions_of board (kept_rows board ms) ≡ kept_regions board ms
   kept_alone = ap (bare_regions board) (booted_used board (kept_rows board ms) (all_booted fit ms near)) ∙ kept_regions_lem fit ms
 
-  kept_six : all six_lists (eight (kept_rows board ms)) ≡ true
-  unfolding eight
-  kept_six = six_before (kept_rows board ms) (8 - length (kept_rows board ms)) (six_kept board ms)
-
-  -- rows such as the sheet of a later call asks for
-  pub kept_whole
-      : length ms ≤ 8 → overlap board (kept_regions board ms) ≡ false → total (kept_regions board ms) ≤ most_pages
-      → rows_as_boot board (eight (kept_rows board ms)) ≡ true
-  unfolding rows_as_boot
-  kept_whole few o h =
-      rw (kept_spans, kept_used, eight_unused (kept_rows board ms))
-      (and-true (eq-eqb (length (eight (kept_rows board ms))) 8 (eight_long (kept_rows board ms) (omega (arith, kept_most board ms))))
-      (and-true kept_six
-      (and-true (none_left (8 - length (kept_rows board ms)))
-      (and-true (all_booted fit ms near) (and-true (ap not o) (le-leb (total (kept_regions board ms)) most_pages h))))))
-
   pub kept_front : (r : Kept) → Keeps board ms r → take r.used r.rows ≡ kept_rows board ms
   kept_front r K = rw (K.rows, K.used) (eight_front (kept_rows board ms))
-
-  pub kept_few : length ms ≤ 8 → (r : Kept) → Keeps board ms r → r.used ≤ 8
-  kept_few few r K = omega (arith, K.used, kept_most board ms)
 
   pub kept_ready : (r : Kept) → Keeps board ms r → RowsKept board r.rows r.used
   kept_ready r K =

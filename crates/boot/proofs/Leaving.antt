@@ -1,5 +1,5 @@
--- What a boot leaves and answers: where the sheet refuses, the refusal and the world as it was (`boots_refused`); else the store that the map makes, written over
--- the world (`boots_done`), of which everything past the managed pages, the memory and the queue's places stay.
+-- What a boot leaves and answers: where the sheet refuses, the refusal and the world as it was (`boots_refused`); else the store that the
+-- map makes, written over the world (`boots_done`), of which everything past the managed pages, the memory and the queue's places stay.
 use Prim.Native.Nat.{ℕ, ◌*◌, ◌≤◌, ◌<◌}
 use mathlib.Core.Bool.{false}
 use mathlib.Core.List.{List, [], ◌∷◌}
@@ -31,17 +31,20 @@ use Rattle.world.proofs.Memory.{memory_back}
 use Rattle.world.proofs.Spans.{OfSpans, bared, managed_spans, memory_same}
 use Rattle.std.specs.Prelude.{Ok, Err}
 use Rattle.exam.specs.Promise.{reply, told}
-use Rattle.boot.specs.Booting.{Boots, Lays, eight, kept_rows, lay_rows}
+use Rattle.boot.specs.Booting.{Boots, eight, kept_rows, lay_rows}
 use Rattle.boot.proofs.KeptRows.{kept_spans, kept_used}
+use Rattle.boot.proofs.OneByOne.{LaysEight}
 use Rattle.boot.proofs.Laying.{laid_bare, new_laid}
 use Rattle.boot.proofs.Sheet.{Admitted}
 
 module _ {board : Board} where
-  boots_as : (ms : List MemoryRegion) (w v : World) (y : AnswerOf) → boot_call board ms w ≡ record { world = v; answer = y } → Boots board ms w v (told y)
+  boots_as : (ms : List MemoryRegion) (w v : World) (y : AnswerOf) → boot_call board ms w ≡ record { world = v; answer = y }
+      → Boots board ms w v (told y)
   boots_as ms w v y e = record { world = ap (λ (l : Left). l.world) e; answer = ap (λ (l : Left). told l.answer) e }
 
   module _ (ms : List MemoryRegion) (w : World) where
-    pub boots_refused : (r : Refusal) → first_met (boot_sheet board ms (length w.records) (length w.memory)) ≡ some r → Boots board ms w w (Err r)
+    pub boots_refused
+        : (r : Refusal) → first_met (boot_sheet board ms (length w.records) (length w.memory)) ≡ some r → Boots board ms w w (Err r)
     unfolding boot_call
     boots_refused r e = boots_as ms w w (Refused r) (ap (λ (o : Option Refusal). unless_refused w o (booted board ms w)) e)
 
@@ -80,7 +83,7 @@ module _ (board : Board) where
 module _
     {board : Board} (w : World) (rows laid : List Row) (records : List ℕ) (pages : ℕ)
     (A : Admitted board rows (length w.records) (length w.memory))
-    (Y : Lays board (record_at w.records) rows (record_at records) (pages_in records) laid)
+    (Y : LaysEight board (record_at w.records) rows (record_at records) (pages_in records) laid)
     (as_long : length records ≡ length w.records)
     (small : (i : ℕ) → get_or w.records i 0 < 256) (small' : (i : ℕ) → get_or records i 0 < 256)
     (counted : pages ≡ total (regions_of board rows))
@@ -122,7 +125,8 @@ module _
           room = refl;
           fits = omega (arith, fits, pages_same board.page managed_is);
           memory =
-              memory_same board (regions_of board rows) (lay_rows board (used_rows rows)).regions (laid_bare board (used_rows rows) ∙ sym (bare_twice board (used_rows rows)))
+              memory_same board (regions_of board rows) (lay_rows board (used_rows rows)).regions
+              (laid_bare board (used_rows rows) ∙ sym (bare_twice board (used_rows rows)))
               (memory_of board w.memory (regions_of board rows)) w.memory
               (memory_back board w.memory (regions_of board rows) fits A.apart);
         }

@@ -12,9 +12,10 @@ use Rattle.definition.specs.Board.{Board}
 use Rattle.definition.specs.Basics.{any}
 use Rattle.definition.specs.Boot.{boot_sheet, ends_far, kept_regions}
 use Rattle.definition.specs.Refusal.{first_met}
-use Rattle.definition.specs.Torn.{regions_of, rows_as_boot}
+use Rattle.definition.specs.Torn.{regions_of}
 use Rattle.definition.specs.World.{used_rows}
 use Rattle.audit.proofs.Regions.{loans_fit}
+use Rattle.audit.proofs.Used.{used_front}
 use Rattle.definition.specs.Board.{Fit}
 use Rattle.std.specs.Prelude.{Result, Ok}
 use mathlib.Core.Option.{none, some}
@@ -23,7 +24,7 @@ use Rattle.definition.specs.declared.Refusal.TheVariants.{LongMap, FarAddress}
 use Rattle.exam.specs.Promise.{refusal_in}
 use Rattle.boot.specs.declared.Kept.{Kept}
 use Rattle.boot.specs.Booting.{Admits, Keeps, KeptOf, Mapped, Ready, RowsKept, eight, kept_rows, rows_admitted}
-use Rattle.boot.proofs.KeptRows.{kept_alone, kept_front, kept_ready, kept_spans, kept_used, kept_whole, mapped_all}
+use Rattle.boot.proofs.KeptRows.{kept_alone, kept_front, kept_ready, kept_spans, kept_used, mapped_all}
 use Rattle.boot.proofs.Sheet.{Admitted, admitted, far_map, long_map, near_map}
 
 module _ {map : List MemoryRegion} {count : ℕ} {ms : List MemoryRegion} (M : Mapped map count ms) where
@@ -51,16 +52,19 @@ module _ {map : List MemoryRegion} {count : ℕ} {ms : List MemoryRegion} (M : M
         pub given_spans : regions_of board r.rows ≡ kept_regions board ms
         given_spans = rw given_kept (kept_spans fit ms (given_near near))
 
-        pub given_rows : (records memory : ℕ) → refusal_in (rows_admitted board r.rows records memory) ≡ first_met (boot_sheet board ms records memory)
+        pub given_rows : (records memory : ℕ) → refusal_in (rows_admitted board r.rows records memory)
+            ≡ first_met (boot_sheet board ms records memory)
         given_rows records memory = sym (near_map board ms records memory (omega (arith, M.long)) (given_near near) r.rows given_spans)
 
         -- of the rows alone
         pub given_used
-            : (records memory : ℕ) → refusal_in (rows_admitted board (take r.used r.rows) records memory) ≡ first_met (boot_sheet board ms records memory)
+            : (records memory : ℕ)
+            → refusal_in (rows_admitted board (take r.used r.rows) records memory) ≡ first_met (boot_sheet board ms records memory)
         given_used records memory =
             ap (λ (rows : List Row). refusal_in (rows_admitted board rows records memory))
             (kept_front fit (take count map) near r K ∙ ap (kept_rows board) all_given)
-            ∙ sym (near_map board ms records memory (omega (arith, M.long)) (given_near near) (kept_rows board ms) (kept_alone fit ms (given_near near)))
+            ∙ sym (near_map board ms records memory (omega (arith, M.long)) (given_near near) (kept_rows board ms)
+            (kept_alone fit ms (given_near near)))
 
 -- ---- a map that is not refused
 
@@ -89,23 +93,18 @@ module _
     pub accepted_kept : RowsKept board k.rows k.used
     accepted_kept = kept_ready fit (take count map) of_map.near k of_map.keeps
 
-    pub accepted_boot : rows_as_boot board k.rows ≡ true
-    accepted_boot =
-        let K = of_map in
-        let A = accepted_admitted in
-        let s = given_spans itself K.few k K.keeps fit K.near in
-        rw K.keeps.rows (kept_whole fit (take count map) K.near (omega (arith, itself.long, K.few)) (rw s at A.apart) (rw s at A.most))
+    -- the rows in use are those that are kept
+    pub accepted_used : used_rows k.rows ≡ kept_rows board (take count map)
+    accepted_used = rw of_map.keeps.rows (kept_used fit (take count map) of_map.near)
 
-    pub accepted_ready : Ready board k.rows k.used (records / 16)
+    pub accepted_ready : Ready board (take k.used k.rows) (records / 16)
     accepted_ready =
-        let K = of_map in
         let A = accepted_admitted in
-        let used : used_rows k.rows ≡ kept_rows board (take count map) = rw K.keeps.rows (kept_used fit (take count map) K.near) in
-        record {
-          shape = K.keeps.rows ∙ ap eight (sym used);
-          many = accepted_kept.many;
+        let e : take k.used k.rows ≡ used_rows k.rows = rw accepted_kept.many (used_front k.rows) in
+        rw e
+        (record {
           booted = accepted_kept.booted;
           apart = A.apart;
           most = A.most;
           fits = loans_fit board k.rows records memory A.long;
-        }
+        })

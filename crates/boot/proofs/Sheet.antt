@@ -1,16 +1,13 @@
 -- The sheet of a boot: of a map of at most eight entries, none of them far, it is the sheet of the rows that it keeps.
 use Prim.Native.Nat.{ℕ, ◌*◌, ◌≤◌, ◌<◌}
-use mathlib.Core.Bool.{Bool, true, false, not, cond, ◌&&◌, ◌||◌}
+use mathlib.Core.Bool.{Bool, true, false, cond, ◌&&◌, ◌||◌}
 use mathlib.Core.List.{List, [], ◌∷◌}
-use mathlib.Core.Path.{◌≡◌, refl, ap, ◌∙◌}
+use mathlib.Core.Path.{◌≡◌, refl, ◌∙◌}
 use native.Mathlib.Decide.{dec_le}
 use native.Mathlib.Omega.{arith}
 use borrow.Author.Tests.{le-leb, le-ltb, lt-leb, lt-ltb, ltb-false}
 use lib.Dec.{leb, ltb}
 use lib.ListN.{length}
-use mir.Val.{Val}
-use denote.Laws.{Is}
-use denote.Array.{Array}
 use Rattle.definition.specs.declared.MemoryRegion.{MemoryRegion}
 use Rattle.definition.specs.declared.Row.{Row}
 use Rattle.definition.specs.declared.Refusal.TheVariants.{LongMap, FarAddress, Overlap, TooManyPages, ShortLoan}
@@ -19,15 +16,12 @@ use Rattle.definition.specs.Basics.{any}
 use Rattle.definition.specs.Allocator.{total}
 use Rattle.definition.specs.Boot.{boot_sheet, ends_far, kept_regions, managed_pages, most_pages, most_rows, overlap, record_size}
 use Rattle.definition.specs.Refusal.{first_met, ◌when◌}
-use Rattle.definition.specs.Torn.{loans_long, regions_of, rows_as_boot}
-use Rattle.definition.specs.contracts.Row as R
-use Rattle.definition.proofs.Tests.{and-true}
-use Rattle.audit.proofs.Arrays.{rows_shaped}
+use Rattle.definition.specs.Torn.{loans_long, regions_of}
 use Rattle.std.specs.Prelude.{Result, Ok, Err, ⊤}
 use mathlib.Core.Option.{Option, none, some}
 use Rattle.definition.specs.declared.Refusal.{Refusal}
 use Rattle.exam.specs.Promise.{refusal_in}
-use Rattle.boot.specs.Booting.{RowsKept, rows_admitted}
+use Rattle.boot.specs.Booting.{rows_admitted}
 
 sheet_by
     : (a b c d e : Bool)
@@ -42,10 +36,13 @@ sheet_by false false false false true = refl
 sheet_by false false false false false = refl
 
 -- a loan is short exactly if not both are long
-short_loans : (r m a b : ℕ) → cond (ltb r a || ltb m b) (some ShortLoan) none ≡ refusal_in {A = ⊤} (cond (leb a r && leb b m) (Ok tt) (Err ShortLoan))
+short_loans
+    : (r m a b : ℕ)
+    → cond (ltb r a || ltb m b) (some ShortLoan) none ≡ refusal_in {A = ⊤} (cond (leb a r && leb b m) (Ok tt) (Err ShortLoan))
 short_loans r m a b = go (dec_le a r) (dec_le b m)
   where
-    go : Dec (a ≤ r) → Dec (b ≤ m) → cond (ltb r a || ltb m b) (some ShortLoan) none ≡ refusal_in {A = ⊤} (cond (leb a r && leb b m) (Ok tt) (Err ShortLoan))
+    go : Dec (a ≤ r) → Dec (b ≤ m)
+        → cond (ltb r a || ltb m b) (some ShortLoan) none ≡ refusal_in {A = ⊤} (cond (leb a r && leb b m) (Ok tt) (Err ShortLoan))
     go (yes h) (yes k) = rw (le-ltb r a h, le-leb a r h, le-ltb m b k, le-leb b m k) refl
     go (yes h) (no k) = rw (le-ltb r a h, le-leb a r h, lt-ltb m b (omega arith), lt-leb b m (omega arith)) refl
     go (no h) k = rw (lt-ltb r a (omega arith), lt-leb a r (omega arith)) refl
@@ -59,7 +56,8 @@ rows_by false false u v e = e
 
 module _ (board : Board) (ms : List MemoryRegion) (records memory : ℕ) where
   abbrev short : Bool
-  short = ltb records (record_size * managed_pages board (kept_regions board ms)) || ltb memory (board.page * managed_pages board (kept_regions board ms))
+  short = ltb records (record_size * managed_pages board (kept_regions board ms))
+      || ltb memory (board.page * managed_pages board (kept_regions board ms))
 
   by_tests
       : first_met (boot_sheet board ms records memory)
@@ -68,7 +66,8 @@ module _ (board : Board) (ms : List MemoryRegion) (records memory : ℕ) where
       (cond (overlap board (kept_regions board ms)) (some Overlap)
       (cond (ltb most_pages (total (kept_regions board ms))) (some TooManyPages) (cond short (some ShortLoan) none))))
   by_tests =
-      sheet_by (ltb most_rows (length ms)) (any ends_far ms) (overlap board (kept_regions board ms)) (ltb most_pages (total (kept_regions board ms))) short
+      sheet_by (ltb most_rows (length ms)) (any ends_far ms) (overlap board (kept_regions board ms))
+      (ltb most_pages (total (kept_regions board ms))) short
 
   pub long_map : 8 < length ms → first_met (boot_sheet board ms records memory) ≡ some LongMap
   long_map h = by_tests ∙ rw (lt-ltb 8 (length ms) h) refl
@@ -85,7 +84,8 @@ module _ (board : Board) (ms : List MemoryRegion) (records memory : ℕ) where
         by_tests
         ∙ rw (le-ltb 8 (length ms) few, f, e)
         (rows_by (overlap board (kept_regions board ms)) (ltb most_pages (total (kept_regions board ms))) _ _
-        (short_loans records memory (record_size * managed_pages board (kept_regions board ms)) (board.page * managed_pages board (kept_regions board ms))))
+        (short_loans records memory (record_size * managed_pages board (kept_regions board ms))
+        (board.page * managed_pages board (kept_regions board ms))))
 
 -- ---- the rows' own refusals
 
@@ -99,7 +99,8 @@ module _ (board : Board) (rows : List Row) (records memory : ℕ) where
   pub admitted : refusal_in (rows_admitted board rows records memory) ≡ none → Admitted
   unfolding rows_admitted
   admitted z =
-      go (overlap board (regions_of board rows)) (ltb most_pages (total (regions_of board rows))) (loans_long board rows records memory) refl refl refl z
+      go (overlap board (regions_of board rows)) (ltb most_pages (total (regions_of board rows))) (loans_long board rows records memory)
+      refl refl refl z
     where
       go : (a b c : Bool) → overlap board (regions_of board rows) ≡ a → ltb most_pages (total (regions_of board rows)) ≡ b
           → loans_long board rows records memory ≡ c
@@ -108,10 +109,3 @@ module _ (board : Board) (rows : List Row) (records memory : ℕ) where
       go false true c x y u z = absurd (let n : ◌≡◌ {A = ℕ} 0 1 = cc in omega arith)
       go false false false x y u z = absurd (let n : ◌≡◌ {A = ℕ} 0 1 = cc in omega arith)
       go false false true x y u z = record { apart = x; most = ltb-false most_pages (total (regions_of board rows)) y; long = u }
-
-  pub ready_rows
-      : (used : ℕ) (vs : List Val) → Is (Array R.the_row 8) rows vs → RowsKept board rows used → overlap board (regions_of board rows) ≡ false
-      → total (regions_of board rows) ≤ most_pages → rows_as_boot board rows ≡ true
-  ready_rows used vs p K o h =
-      rows_shaped board rows used vs K.many p
-      ∙ and-true K.unused (and-true K.booted (and-true (ap not o) (le-leb (total (regions_of board rows)) most_pages h)))

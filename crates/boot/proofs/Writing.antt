@@ -1,10 +1,12 @@
--- What a boot leaves of the words: as they were where it is refused, else the state of a store that has just booted, which is read of them again.
-use Prim.Native.Nat.{ℕ, ◌-◌}
-use mathlib.Core.List.{List}
+-- What a boot leaves of the words: as they were where it is refused, else the state of a store that has just booted, which is read of them
+-- again.
+use Prim.Native.Nat.{ℕ, ◌-◌, ◌≤◌}
+use mathlib.Core.List.{List, ◌++◌}
 use mathlib.Core.Path.{◌≡◌, refl, sym, ap, ◌∙◌, subst}
 use native.Mathlib.Omega.{arith}
-use lib.ListN.{length, drop, replicate}
-use Rattle.definition.specs.Board.{Board}
+use lib.ListN.{length, take, drop, replicate}
+use Rattle.std.proofs.lemmas.List.{length-take}
+use Rattle.definition.specs.Board.{Board, Fit}
 use Rattle.definition.specs.declared.MemoryRegion.{MemoryRegion}
 use Rattle.definition.specs.declared.Pass.{Pass}
 use Rattle.definition.specs.declared.Record.{Record}
@@ -16,11 +18,15 @@ use Rattle.words.specs.Words.{Long, Narrow, kept_of, pass_in, queued_in, rows_in
 use Rattle.words.proofs.Words.{pass_written, queued_written, rows_written}
 use Rattle.allocator.proofs.Arrays.{stand_length}
 use Rattle.allocator.proofs.Turning.{used_most}
-use Rattle.std.specs.Prelude.{Ok, Err}
+use Rattle.std.specs.Prelude.{Result, Ok, Err}
 use Rattle.definition.specs.declared.Refusal.{Refusal}
 use Rattle.exam.specs.declared.Reply.{Reply}
 use Rattle.exam.specs.Promise.{Answer, State, state_with, world_of}
-use Rattle.boot.specs.Booting.{Boots, BootsOver, Lays, state_at_boot}
+use Rattle.boot.specs.Booting.{Admits, Boots, BootsOver, KeptOf, Lays, eight, kept_rows, state_at_boot}
+use Rattle.boot.specs.declared.Kept.{Kept}
+use Rattle.boot.proofs.KeptRows.{eight_unused, kept_front, kept_most, kept_paged}
+use Rattle.boot.proofs.Refusing.{accepted_kept, accepted_used}
+use Rattle.boot.proofs.OneByOne.{LaysEight, eight_laid, eight_narrow}
 use Rattle.boot.proofs.Laying.{laid_many}
 
 pub over_refused : (ws : List ℕ) (r : Refusal) → BootsOver ws ws (Err r)
@@ -28,7 +34,8 @@ over_refused ws r = record { refused = λ e h. refl; written = λ x h. absurd (l
 
 module _ {board : Board} where
   -- the rows that are laid out are as many as were kept
-  pub laid_used : {f g : ℕ → Record} {rows laid : List Row} {n : ℕ} → Lays board f rows g n laid → length (used_rows laid) ≡ length (used_rows rows)
+  pub laid_used : {f g : ℕ → Record} {rows laid : List Row} {n : ℕ} → LaysEight board f rows g n laid → length (used_rows laid)
+      ≡ length (used_rows rows)
   laid_used {f} {g} {rows} Y = sym (stand_length Y.stands) ∙ laid_many board (used_rows rows)
 
 -- the count that is written is that of the rows in use, so that they are read again as they were laid out
@@ -67,3 +74,40 @@ module _
           refused = λ r e. absurd (let n : ◌≡◌ {A = ℕ} 0 1 = cc in omega arith);
           written = λ x e. rw (rows_back, queued_back, pass_back) (ap (λ (k : ℕ). with_bytes ws 0 (kept_of k laid 0 none)) many);
         }
+
+-- ---- the rows that are written: those laid out, and the unused ones that stand behind them
+
+module _
+    {board : Board} (fit : Fit board) (map : List MemoryRegion) (count records memory : ℕ) (long : length map ≡ 8)
+    {x : Result Kept Refusal} (E : Admits board map count records memory x) (k : Kept) (e : x ≡ Ok k)
+    {f g : ℕ → Record} {n : ℕ} (xs : List Row) (Y : Lays board f (take k.used k.rows) g n xs)
+  where
+    abbrev ks : List Row
+    ks = kept_rows board (take count map)
+
+    abbrev of_map : KeptOf board map count k
+    of_map = E.kept k e
+
+    laid : Lays board f ks g n xs
+    laid = subst (λ (l : List Row). Lays board f l g n xs) (kept_front fit (take count map) of_map.near k of_map.keeps) Y
+
+    few : length ks ≤ 8
+    few = omega (arith, kept_most board (take count map), length-take count map, of_map.few)
+
+    pub written_rows : xs ++ drop k.used k.rows ≡ eight xs
+    unfolding eight
+    written_rows =
+        let K = of_map.keeps in
+        let e : drop k.used k.rows ≡ replicate (8 - length ks) no_row = rw (K.rows, K.used) (eight_unused ks) in
+        ap (λ (l : List Row). xs ++ l) e ∙ ap (λ (m : ℕ). xs ++ replicate (8 - m) no_row) (sym laid.long)
+
+    pub written_laid : LaysEight board f k.rows g n (eight xs)
+    written_laid =
+        eight_laid ks xs (kept_paged fit (take count map) of_map.near) few laid k.rows
+        (accepted_used fit map count records memory long E k e)
+
+    pub written_narrow : Narrow (eight xs)
+    written_narrow = eight_narrow ks xs (kept_paged fit (take count map) of_map.near) few laid
+
+    pub written_many : k.used ≡ length (used_rows (eight xs))
+    written_many = (accepted_kept fit map count records memory long E k e).many ∙ sym (laid_used written_laid)

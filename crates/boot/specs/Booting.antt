@@ -1,6 +1,8 @@
--- What a boot is given and what it promises: the map, of which a caller hands over the first eight entries and their number; the rows of the entries that are
--- kept; the refusals; the layout; and `BootsAll`, that what it leaves and answers is definition's `boot_call` of the map.
-use Rattle.std.specs.Prelude.{ℕ, ◌-◌, ◌*◌, ◌≤◌, true, false, cond, List, [], ◌∷◌, ◌++◌, Option, Some, None, Result, Ok, Err, ⊤, ◌≡◌, ltb, length, take, drop, replicate}
+-- What a boot is given and what it promises: the map, of which a caller hands over the first eight entries and their number; the rows of
+-- the entries that are kept; the refusals; the layout; and `BootsAll`, that what it leaves and answers is definition's `boot_call` of the
+-- map.
+use Rattle.std.specs.Prelude.{ℕ, ◌-◌, ◌*◌, ◌≤◌, ◌<◌, true, false, cond, List, [], ◌∷◌, ◌++◌, ⊤, ◌≡◌, ltb, length, take, drop, replicate}
+use Rattle.std.specs.Prelude.{Option, Some, None, Result, Ok, Err}
 use Rattle.std.proofs.Math.Option.{none}
 use Rattle.definition.specs.declared.MemoryRegion.{MemoryRegion}
 use Rattle.definition.specs.declared.Record.{Record}
@@ -13,11 +15,11 @@ use Rattle.definition.specs.Allocator.{PhysicalFrameAllocator, admit_region, is_
 use Rattle.definition.specs.Boot.{boot_sheet, counters_at_boot, ends_far, managed_pages, most_pages, overlap}
 use Rattle.definition.specs.Refusal.{first_met}
 use Rattle.definition.specs.World.{World, bare_region, no_row, used_rows}
-use Rattle.definition.specs.Torn.{boot_call, is_no_row, loans_long, regions_of, row_as_boot}
+use Rattle.definition.specs.Torn.{bare_regions, boot_call, is_no_row, loans_long, regions_of, row_as_boot}
 use Rattle.record.specs.Records.{with_bytes}
 use Rattle.region.specs.Rep.{empty_row}
-use Rattle.words.specs.Words.{kept_of, pass_in, queued_in, rows_in}
-use Rattle.world.specs.Stands.{StandRows}
+use Rattle.words.specs.Words.{NarrowRow, kept_of, pass_in, queued_in, rows_in}
+use Rattle.world.specs.Stands.{StandRows, row_at}
 use Rattle.exam.specs.declared.Reply.{Reply}
 use Rattle.exam.specs.Promise.{Answer, State, refusal_in, told}
 use Rattle.boot.specs.declared.Kept.{Kept}
@@ -40,7 +42,7 @@ module _ (board : Board) where
   abbrev pub kept_row : MemoryRegion → Row
   kept_row m = empty_row (record { 0 = start_page board m * board.page }) (nr_pages board m)
 
-  -- none of an entry that is not kept
+  -- `None` for an entry that is not kept
   abbrev pub row_of : MemoryRegion → Option Row
   row_of m = cond (is_kept board m) (Some (kept_row m)) None
 
@@ -64,7 +66,8 @@ module _ (board : Board) where
   unfoldable pub rows_admitted : List Row → (records memory : ℕ) → Result ⊤ Refusal
   rows_admitted rows records memory =
       cond (overlap board (regions_of board rows)) (Err Overlap)
-      (cond (ltb most_pages (total (regions_of board rows))) (Err TooManyPages) (cond (loans_long board rows records memory) (Ok tt) (Err ShortLoan)))
+      (cond (ltb most_pages (total (regions_of board rows))) (Err TooManyPages)
+      (cond (loans_long board rows records memory) (Ok tt) (Err ShortLoan)))
 
   -- the rows that are kept of a map of at most eight entries, none of them far
   pub record KeptOf (map : List MemoryRegion) (count : ℕ) (k : Kept) : Type 0 where
@@ -86,21 +89,20 @@ module _ (board : Board) where
   lay_rows [] = record { frames = λ p. none; regions = [] }
   lay_rows (row ∷ rows) = admit_region board (bare_region board row) (lay_rows rows)
 
-  -- rows that are not refused, with records of n pages
-  pub record Ready (rows : List Row) (used n : ℕ) : Type 0 where
-    pub shape : rows ≡ eight (used_rows rows)
-    pub many : used ≡ length (used_rows rows)
-    pub booted : all (row_as_boot board) (used_rows rows) ≡ true
-    pub apart : overlap board (regions_of board rows) ≡ false
-    pub most : total (regions_of board rows) ≤ most_pages
-    pub fits : managed_pages board (regions_of board rows) ≤ n
+  -- rows in use that are not refused, with records of n pages
+  pub record Ready (rows : List Row) (n : ℕ) : Type 0 where
+    pub booted : all (row_as_boot board) rows ≡ true
+    pub apart : overlap board (bare_regions board rows) ≡ false
+    pub most : total (bare_regions board rows) ≤ most_pages
+    pub fits : managed_pages board (bare_regions board rows) ≤ n
 
-  -- the records f became g, and the rows became r, which stand for the regions laid out; no record past the managed pages changed
+  -- the records f became g, and the rows in use became r, which stand for the regions laid out; no record past the managed pages changed
   pub record Lays (f : ℕ → Record) (rows : List Row) (g : ℕ → Record) (n : ℕ) (r : List Row) : Type 0 where
-    pub eight : length r ≡ 8
-    pub unused : drop (length (used_rows r)) r ≡ replicate (8 - length (used_rows r)) no_row
-    pub stands : StandRows board g n (lay_rows (used_rows rows)).frames 0 (used_rows r) (lay_rows (used_rows rows)).regions
-    pub outside : (q : ℕ) → managed_pages board (regions_of board rows) ≤ q → g q ≡ f q
+    pub long : length r ≡ length rows
+    pub pages : (j : ℕ) → j < length rows → (row_at r j).pages ≡ (row_at rows j).pages
+    pub narrow : (j : ℕ) → j < length rows → NarrowRow (row_at r j)
+    pub stands : StandRows board g n (lay_rows rows).frames 0 r (lay_rows rows).regions
+    pub outside : (q : ℕ) → managed_pages board (bare_regions board rows) ≤ q → g q ≡ f q
 
 -- ---- what a boot leaves and answers
 
@@ -120,4 +122,5 @@ module _ (board : Board) where
 -- and of the words: a boot that is refused leaves them as they are; else they are written whole, from the version to the pass
 pub record BootsOver (ws vs : List ℕ) (y : Answer) : Type 0 where
   pub refused : (r : Refusal) → y ≡ Err r → vs ≡ ws
-  pub written : (x : Reply) → y ≡ Ok x → vs ≡ with_bytes ws 0 (kept_of (length (used_rows (rows_in vs))) (rows_in vs) (queued_in vs) (pass_in vs))
+  pub written : (x : Reply) → y ≡ Ok x → vs ≡ with_bytes ws 0 (kept_of (length (used_rows (rows_in vs))) (rows_in vs) (queued_in vs)
+      (pass_in vs))

@@ -141,22 +141,19 @@ pub fn admit_map(
 
 // ---- the layout
 
-// The frames of each region, all free, the regions' records one behind another from page 0 on.
-fn lay_out(board: Board, records: &mut [u8], rows: [Row; 8], used: usize) -> [Row; 8]
+// The frames of each region, all free, the regions' records one behind another from page 0 on. The rows are those in use.
+fn lay_out(board: Board, records: &mut [u8], rows: &mut [Row])
     requires fit { Fit board }
-    requires ready { Ready board rows used (pages_in records.old) }
-    ensures { Lays board (record_at records.old) rows (record_at records.new) (pages_in records.new)
-        result }
+    requires ready { Ready board rows.old (pages_in records.old) }
+    ensures { Lays board (record_at records.old) rows.old (record_at records.new) (pages_in records.new)
+        rows.new }
 {
-    let mut next = rows;
     let mut base: usize = 0;
-    for i in 0..used {
-        let row = rows[i];
-        let laid = region::new(board, records, base, row.start, row.pages);
-        next[i] = laid;
-        base += row.pages - region::table_pages(board, row.pages);
+    for row in rows.iter_mut() {
+        let pages = row.pages;
+        *row = region::new(board, records, base, row.start, pages);
+        base += pages - region::table_pages(board, pages);
     }
-    next
 }
 
 // tracker.rs 469, init: of so many pages all are idle.
@@ -195,16 +192,16 @@ pub fn boot(
         (world_of (state_with counters.new words.new) records.new memory.now queue.now) result }
     ensures boots_over { BootsOver words.old words.new result }
 {
-    let kept = admit_map(board, map, count, records.len(), memory.len())?;
-    let rows = &kept.rows[..kept.used];
-    let pages = audit::total_pages(board, rows);
-    let managed = audit::managed_pages(board, rows);
-    let laid = lay_out(board, records, kept.rows, kept.used);
+    let Kept { mut rows, used } = admit_map(board, map, count, records.len(), memory.len())?;
+    let in_use = &mut rows[..used];
+    let pages = audit::total_pages(board, in_use);
+    let managed = audit::managed_pages(board, in_use);
+    lay_out(board, records, in_use);
     let pass = Pass {
         rounds: 0,
         freed: 0,
     };
-    words::put_kept(words, kept.used as u32, laid, 0, pass);
+    words::put_kept(words, used as u32, rows, 0, pass);
     *counters = started(pages);
     Ok(Reply {
         address: 0,

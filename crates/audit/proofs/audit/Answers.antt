@@ -45,18 +45,20 @@ returns-in_default c =
     let s = (goal.at.returns-in_default c).Start in
     torn_survey (board s) (given s) (words_shaped (board s) c.args.words.now) (sym c.in_default.ensures.exact)
 
-few : (c : Joined-board-seen) → let rows = rows_in c.args.words.now in
-    c.if-seen-le1048576.value ≡ (leb c.in-Some.seen.total 1048576 && not (overlap (board_in c.args.words.now) (regions_of (board_in c.args.words.now) rows)))
+few : (c : Joined-board-seen) → let b = board_in c.args.words.now in
+    c.if-seen-le1048576.value ≡ (leb c.in-Some.seen.total 1048576 && not (overlap b (regions_of b (rows_in c.args.words.now))))
 few c =
     elim c.if-seen-le1048576.branch [
       | then-seen-le1048576 w ↦ and_then (le-leb c.in-Some.seen.total 1048576 w.if-seen-le1048576.true) (w.value-is ∙ w.apart.ensures)
       | else-seen-le1048576 w ↦ and_else _ (lt-leb c.in-Some.seen.total 1048576 w.if-seen-le1048576.false) w.value-is
     ]
 
-memory : (c : Joined-board-seen) → c.if-apart.value ≡ (c.if-seen-le1048576.value && leb ((board_in c.args.words.now).page * c.in-Some.seen.managed) c.args.memory_len)
+memory : (c : Joined-board-seen) → let b = board_in c.args.words.now in
+    c.if-apart.value ≡ (c.if-seen-le1048576.value && leb (b.page * c.in-Some.seen.managed) c.args.memory_len)
 memory c =
     elim c.if-apart.branch [
-      | then-apart w ↦ and_then w.if-apart.true (w.value-is ∙ ap (λ (b : Board). leb (b.page * c.in-Some.seen.managed) c.args.memory_len) c.board_in-board.ensures.0)
+      | then-apart w ↦ and_then w.if-apart.true (w.value-is ∙ ap (λ (b : Board). leb (b.page * c.in-Some.seen.managed) c.args.memory_len)
+          c.board_in-board.ensures.0)
       | else-apart w ↦ and_else _ w.if-apart.false w.value-is
     ]
 
@@ -71,19 +73,22 @@ counts c =
 tests : (c : Joined-board-seen) → let seen = c.in-Some.seen in
     let b = board_in c.args.words.now in
     c.if-board-seen.value
-    ≡ (((leb seen.total 1048576 && not (overlap b (regions_of b (rows_in c.args.words.now)))) && leb (b.page * seen.managed) c.args.memory_len)
+    ≡ (((leb seen.total 1048576 && not (overlap b (regions_of b (rows_in c.args.words.now))))
+    && leb (b.page * seen.managed) c.args.memory_len)
     && counts_as c.args.counters seen)
 tests c =
     let seen = c.in-Some.seen in
     let b = board_in c.args.words.now in
-    counts c ∙ ap (λ (t : Bool). t && counts_as c.args.counters seen) (memory c ∙ ap (λ (t : Bool). t && leb (b.page * seen.managed) c.args.memory_len) (few c))
+    counts c ∙ ap (λ (t : Bool). t && counts_as c.args.counters seen)
+    (memory c ∙ ap (λ (t : Bool). t && leb (b.page * seen.managed) c.args.memory_len) (few c))
 
 pub returns-then-counted : goal.returns-then-counted
 returns-then-counted c =
     let s = (goal.at.returns-then-counted c).Start in
     let e = tests (goal.at.returns-then-counted c).Joined-board-seen in
     let surveyed = c.in-Some.ensures in
-    others_decide (board s) (given s) (words_shaped (board s) c.args.words.now) (sym surveyed.exact) c.in-Some.seen surveyed.found c.within.result
+    others_decide (board s) (given s) (words_shaped (board s) c.args.words.now) (sym surveyed.exact) c.in-Some.seen surveyed.found
+    c.within.result
     (and_then (sym e ∙ c.if-counted.true) (rw (c.board_in-board.ensures.0, c.queued_in.ensures, c.pass_in.ensures) at c.within.ensures))
 
 pub returns-else-counted : goal.returns-else-counted
@@ -91,5 +96,6 @@ returns-else-counted c =
     let s = (goal.at.returns-else-counted c).Start in
     let e = tests (goal.at.returns-else-counted c).Joined-board-seen in
     let surveyed = c.in-Some.ensures in
-    others_decide (board s) (given s) (words_shaped (board s) c.args.words.now) (sym surveyed.exact) c.in-Some.seen surveyed.found c.if-board-seen.value
+    others_decide (board s) (given s) (words_shaped (board s) c.args.words.now) (sym surveyed.exact) c.in-Some.seen surveyed.found
+    c.if-board-seen.value
     (and_else _ (sym e ∙ c.if-counted.false) e)

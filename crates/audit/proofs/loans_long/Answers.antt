@@ -1,4 +1,5 @@
--- `loans_long` meets its contract. Its tests are the sheet's, one by one: at most 2^20 pages are managed, so that their bytes can be counted.
+-- `loans_long` meets its contract. Its tests are the sheet's, one by one: at most 2^20 pages are managed, so that their bytes can be
+-- counted.
 use Prim.Native.Nat.{◌*◌}
 use borrow.Author.Tests.{le-leb, lt-leb}
 use Rattle.definition.specs.Torn.{loans_long}

@@ -33,15 +33,22 @@ pub sum-requires-clause-fits : goal.sum-requires-clause-fits
 sum-requires-clause-fits c =
     let a = c.args in
     let few : sum_by (λ (row : Row). managed a.board (bare_region a.board row)) a.rows.now < 18446744073709551616 =
-    omega (arith, sum_regions a.board (managed a.board) a.rows.now, managed_total a.board (bare_regions a.board a.rows.now), c.requires.few) in
+    omega (
+      arith,
+      sum_regions a.board (managed a.board) a.rows.now,
+      managed_total a.board (bare_regions a.board a.rows.now),
+      c.requires.few,
+    ) in
     fits_by_from_yields_list _ _ c.map.result _
-    (YieldsList-from_map _ (λ (row : Row). managed a.board (bare_region a.board row)) (YieldsList-from_slice a.rows.now (cc)) c.map.ensures.closure (λ x r q k. search rules))
+    (YieldsList-from_map _ (λ (row : Row). managed a.board (bare_region a.board row)) (YieldsList-from_slice a.rows.now (cc))
+    c.map.ensures.closure (λ x r q k. search rules))
     few
 
 pub returns : goal.returns
 returns c =
     let a = c.args in
     let e = sum_by_from_yields_List _ _ c.map.result c.sum.result c.sum.ensures.ran
-    (YieldsList-from_map _ (λ (row : Row). managed a.board (bare_region a.board row)) (YieldsList-from_slice a.rows.now (cc)) c.map.ensures.closure (λ x r q k. search rules))
+    (YieldsList-from_map _ (λ (row : Row). managed a.board (bare_region a.board row)) (YieldsList-from_slice a.rows.now (cc))
+    c.map.ensures.closure (λ x r q k. search rules))
     ∙ sum_regions a.board (managed a.board) a.rows.now in
     (e, omega (arith, e, managed_total a.board (bare_regions a.board a.rows.now), c.requires.few))

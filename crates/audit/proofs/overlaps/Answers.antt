@@ -23,7 +23,8 @@ behind : (c : After-shares_any) → let a = c.args in
 behind c =
     let a = c.args in
     let i = c.loop-i.i in
-    let e : take (length a.rows.now - (i + 1)) (drop (i + 1) a.rows.now) ≡ drop (i + 1) a.rows.now = take_all _ _ (omega (arith, length-drop (i + 1) a.rows.now)) in
+    let e : take (length a.rows.now - (i + 1)) (drop (i + 1) a.rows.now) ≡ drop (i + 1) a.rows.now =
+    take_all _ _ (omega (arith, length-drop (i + 1) a.rows.now)) in
     rw e at c.shares_any.ensures
 
 pub returns-then-shares_any : goal.returns-then-shares_any

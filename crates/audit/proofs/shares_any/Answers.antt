@@ -12,6 +12,7 @@ use Rattle.audit.proofs.shares_any.Goals as goal
 pub returns : goal.returns
 returns c =
     let a = c.args in
-    any_from_yields_List (λ (t : Row). shares a.board (bare_region a.board a.row) (bare_region a.board t)) _ _ c.any.result c.any.ensures.ran
+    any_from_yields_List (λ (t : Row). shares a.board (bare_region a.board a.row) (bare_region a.board t)) _ _ c.any.result
+    c.any.ensures.ran
     (YieldsList-from_slice a.others.now (cc)) (λ x b q k. search rules)
     ∙ any_regions a.board (shares a.board (bare_region a.board a.row)) a.others.now

@@ -1,7 +1,6 @@
 -- `survey` meets its contract. The loop's invariant is `Surveying`: what is left decides as the whole does.
 use Prim.Native.Nat.{◌/◌}
 use mathlib.Core.Path.{◌≡◌, sym, ◌∙◌}
-use native.Mathlib.Omega.{arith}
 use lib.ListN.{length}
 use Rattle.definition.specs.World.{record_at, used_rows}
 use Rattle.words.specs.Words.{board_in, rows_in}
@@ -23,24 +22,29 @@ has_pages : (c : Then-pages_at-ne0) → (row_at (rows_in c.args.words.now) c.loo
 has_pages c = rw c.pages_at.ensures at c.if-pages_at-ne0.true
 
 pub visit-requires : goal.visit-requires
-visit-requires c =
-    (c.loop-seen.invariant.few, c.requires, c.loop-seen-test.true, in_use c.args.words.now c.loop-seen.seen.used c.loop-seen-test.true (has_pages c))
+visit-requires c = (
+  c.loop-seen.invariant.few,
+  c.requires,
+  c.loop-seen-test.true,
+  in_use c.args.words.now c.loop-seen.seen.used c.loop-seen-test.true
+      (has_pages c),
+)
 
 pub returns-in_err-seen : goal.returns-in_err-seen
 returns-in_err-seen c =
     let a = c.args in
     rw c.from_residual.ensures
-    (torn_row (board_in a.words.now) (record_at a.records.now) (length a.records.now / 16) (rows_in a.words.now) c.loop-seen.seen c.loop-seen.invariant
+    (torn_row (board_in a.words.now) (record_at a.records.now) (length a.records.now / 16) (rows_in a.words.now) c.loop-seen.seen
+    c.loop-seen.invariant
     c.loop-seen-test.true (has_pages (goal.at.returns-in_err-seen c).Then-pages_at-ne0) c.in_err-seen.ensures)
-
-pub loop-seen-smaller : goal.loop-seen-smaller
-loop-seen-smaller c = omega (arith, c.in_ok-seen.ensures.added.used)
 
 pub loop-seen-preserved : goal.loop-seen-preserved
 loop-seen-preserved c =
     let a = c.args in
-    past_row (board_in a.words.now) (record_at a.records.now) (length a.records.now / 16) (rows_in a.words.now) c.loop-seen.seen c.loop-seen.invariant
-    c.loop-seen-test.true (has_pages (goal.at.loop-seen-preserved c).Then-pages_at-ne0) (fit_in a.words.now) c.in_ok-seen.seen c.in_ok-seen.ensures
+    past_row (board_in a.words.now) (record_at a.records.now) (length a.records.now / 16) (rows_in a.words.now) c.loop-seen.seen
+    c.loop-seen.invariant
+    c.loop-seen-test.true (has_pages (goal.at.loop-seen-preserved c).Then-pages_at-ne0) (fit_in a.words.now) c.in_ok-seen.seen
+    c.in_ok-seen.ensures
 
 pub returns : goal.returns
 returns c =
@@ -52,7 +56,8 @@ returns c =
     let s = c.loop-seen.seen in
     let v = c.loop-seen.invariant in
     let ends : length (used_rows rows) ≡ s.used = elim c.loop-seen-test.branch [
-      | then-loop-seen-test+else-pages_at-ne0 w ↦ ends_before b f n rows s v w.loop-seen-test.true (sym w.pages_at.ensures ∙ w.if-pages_at-ne0.false)
+      | then-loop-seen-test+else-pages_at-ne0 w ↦ ends_before b f n rows s v w.loop-seen-test.true
+          (sym w.pages_at.ensures ∙ w.if-pages_at-ne0.false)
       | else-loop-seen-test w ↦ ends_last b f n rows s v w.loop-seen-test.false
     ] in
     rw c.then_some.ensures (surveys b f n rows s v ends c.is_no_rows.result c.is_no_rows.ensures)

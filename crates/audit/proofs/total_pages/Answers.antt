@@ -15,14 +15,18 @@ use Rattle.audit.proofs.total_pages.Goals as goal
 pub sum-requires-clause-fits : goal.sum-requires-clause-fits
 sum-requires-clause-fits c =
     let a = c.args in
-    let few : sum_by (λ (row : Row). row.pages) a.rows.now < 18446744073709551616 = omega (arith, sum_regions a.board (λ (r : AllocationRegion). r.pages) a.rows.now, few_total a.board c.requires.fit a.rows.now c.requires.booted, c.requires.few) in
+    let e = sum_regions a.board (λ (r : AllocationRegion). r.pages) a.rows.now in
+    let most = few_total a.board c.requires.fit a.rows.now c.requires.booted in
+    let few : sum_by (λ (row : Row). row.pages) a.rows.now < 18446744073709551616 = omega (arith, e, most, c.requires.few) in
     fits_by_from_yields_list _ _ c.map.result _
-    (YieldsList-from_map _ (λ (row : Row). row.pages) (YieldsList-from_slice a.rows.now (cc)) c.map.ensures.closure (λ x r q k. search rules))
+    (YieldsList-from_map _ (λ (row : Row). row.pages) (YieldsList-from_slice a.rows.now (cc)) c.map.ensures.closure
+    (λ x r q k. search rules))
     few
 
 pub returns : goal.returns
 returns c =
     let a = c.args in
     sum_by_from_yields_List _ _ c.map.result _ c.sum.ensures.ran
-    (YieldsList-from_map _ (λ (row : Row). row.pages) (YieldsList-from_slice a.rows.now (cc)) c.map.ensures.closure (λ x r q k. search rules))
+    (YieldsList-from_map _ (λ (row : Row). row.pages) (YieldsList-from_slice a.rows.now (cc)) c.map.ensures.closure
+    (λ x r q k. search rules))
     ∙ sum_regions a.board (λ (r : AllocationRegion). r.pages) a.rows.now

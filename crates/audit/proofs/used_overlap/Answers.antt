@@ -1,6 +1,6 @@
 -- `used_overlap` meets its contract. The rows in use are those up to their number.
 use mathlib.Core.List.{List}
-use mathlib.Core.Path.{◌≡◌, sym, ap, ap₂, ◌∙◌}
+use mathlib.Core.Path.{◌≡◌, sym, ap₂, ◌∙◌}
 use native.Mathlib.Omega.{arith}
 use lib.ListN.{take}
 use lib.Seq.{length-take-le}
@@ -9,7 +9,7 @@ use Rattle.definition.specs.Board.{Board}
 use Rattle.definition.specs.Boot.{overlap}
 use Rattle.definition.specs.World.{used_rows}
 use Rattle.definition.specs.Torn.{bare_regions}
-use Rattle.words.specs.Words.{board_in, rows_in}
+use Rattle.words.specs.Words.{rows_in}
 use Rattle.audit.proofs.Arrays.{words_eight}
 use Rattle.audit.proofs.Used.{used_front, used_most}
 use Rattle.audit.proofs.used_overlap.Goals as goal

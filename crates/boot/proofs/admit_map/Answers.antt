@@ -4,13 +4,12 @@ use mathlib.Core.Bool.{false}
 use mathlib.Core.Path.{◌≡◌, sym, ap, ◌∙◌}
 use native.Mathlib.Omega.{arith}
 use lib.ListN.{take}
-use Rattle.std.proofs.lemmas.List.{length-take}
 use Rattle.std.proofs.lemmas.Result.{err_from_is_err_and}
 use Rattle.definition.specs.Basics.{any}
 use Rattle.definition.specs.Boot.{ends_far}
 use Rattle.exam.specs.Promise.{refusal_in}
 use Rattle.boot.proofs.Refusing.{given_far, given_long, given_used}
-use Rattle.boot.proofs.KeptRows.{all_booted, kept_front, kept_most}
+use Rattle.boot.proofs.KeptRows.{all_booted, kept_front}
 use Rattle.boot.proofs.admit_map.Goals as goal
 use Rattle.boot.proofs.admit_map.Goals.{Else-any_far}
 
@@ -32,25 +31,12 @@ returns-then-any_far c =
 near : (c : Else-any_far) → any ends_far (take c.args.count c.args.map) ≡ false
 near c = sym c.any_far.ensures ∙ c.if-any_far.false
 
-pub kept_rows-kept-requires : goal.kept_rows-kept-requires
-kept_rows-kept-requires c =
-    record {
-      fit = c.requires;
-      few = omega (arith, length-take c.args.count c.args.map, c.if-count-gt8.false);
-      near = near (goal.at.kept_rows-kept-requires c).Else-any_far;
-    }
-
-pub admit_rows-requires : goal.admit_rows-requires
-admit_rows-requires c =
-    let n = near (goal.at.admit_rows-requires c).Else-any_far in
+pub admit_rows-requires-clause-booted : goal.admit_rows-requires-clause-booted
+admit_rows-requires-clause-booted c =
+    let n = near (goal.at.admit_rows-requires-clause-booted c).Else-any_far in
     let ms = take c.args.count c.args.map in
     let k = c.kept_rows-kept in
-    let e = kept_front c.requires ms n k.result k.ensures.keeps in
-    record {
-      fit = c.requires;
-      booted = rw e (all_booted c.requires ms n);
-      few = rw e (omega (arith, kept_most c.args.board ms, length-take c.args.count c.args.map, c.if-count-gt8.false));
-    }
+    rw (kept_front c.requires ms n k.result k.ensures.keeps) (all_booted c.requires ms n)
 
 pub returns-in_err-admit_rows : goal.returns-in_err-admit_rows
 returns-in_err-admit_rows c =
@@ -59,7 +45,9 @@ returns-in_err-admit_rows c =
     let n = near (goal.at.returns-in_err-admit_rows c).Else-any_far in
     let p = err_from_is_err_and c.from_residual.result c.from_residual.ensures.1 in
     rw (p.1, p.2) record {
-      refusal = λ ms M. ap refusal_in c.in_err-admit_rows.ensures ∙ given_used M (omega arith) k.result k.ensures.keeps c.requires n a.records a.memory;
+      refusal = λ ms M.
+          ap refusal_in c.in_err-admit_rows.ensures
+          ∙ given_used M (omega arith) k.result k.ensures.keeps c.requires n a.records a.memory;
       kept = λ x e. absurd (let z : ◌≡◌ {A = ℕ} 0 1 = cc in omega arith);
     }
 
@@ -69,7 +57,9 @@ returns c =
     let k = c.kept_rows-kept in
     let n = near (goal.at.returns c).Else-any_far in
     record {
-      refusal = λ ms M. ap refusal_in c.in_ok-admit_rows.ensures ∙ given_used M (omega arith) k.result k.ensures.keeps c.requires n a.records a.memory;
+      refusal = λ ms M.
+          ap refusal_in c.in_ok-admit_rows.ensures
+          ∙ given_used M (omega arith) k.result k.ensures.keeps c.requires n a.records a.memory;
       kept = λ x e.
           let same : k.result ≡ x = cc in
           rw (← same) record { few = omega arith; near = n; keeps = k.ensures.keeps; room = k.ensures.room };

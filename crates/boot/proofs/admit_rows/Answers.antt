@@ -12,12 +12,15 @@ use Rattle.boot.specs.Booting.{rows_admitted}
 use Rattle.boot.proofs.admit_rows.Goals as goal
 use Rattle.boot.proofs.admit_rows.Goals.{After-overlaps, After-total_pages}
 
-overlaps : (c : After-overlaps) → let a = c.args in overlap a.board (regions_of a.board a.rows.now) ≡ c.overlaps.result
+overlaps : (c : After-overlaps) → let a = c.args in
+    overlap a.board (regions_of a.board a.rows.now) ≡ c.overlaps.result
 overlaps c =
     let a = c.args in
-    ap (λ (rs : List Row). overlap a.board (bare_regions a.board rs)) (booted_used a.board a.rows.now c.requires.booted) ∙ sym c.overlaps.ensures
+    ap (λ (rs : List Row). overlap a.board (bare_regions a.board rs)) (booted_used a.board a.rows.now c.requires.booted)
+    ∙ sym c.overlaps.ensures
 
-pages : (c : After-total_pages) → let a = c.args in total (regions_of a.board a.rows.now) ≡ c.total_pages.result
+pages : (c : After-total_pages) → let a = c.args in
+    total (regions_of a.board a.rows.now) ≡ c.total_pages.result
 pages c =
     let a = c.args in
     ap (λ (rs : List Row). total (bare_regions a.board rs)) (booted_used a.board a.rows.now c.requires.booted) ∙ sym c.total_pages.ensures
@@ -31,7 +34,11 @@ unfolding rows_admitted
 returns-then-total_pages-gt1048576 c =
     let a = c.args in
     let at = goal.at.returns-then-total_pages-gt1048576 c in
-    rw (overlaps at.After-overlaps ∙ c.if-overlaps.false, lt-ltb most_pages (total (regions_of a.board a.rows.now)) (omega (arith, pages at.After-total_pages))) refl
+    rw (
+      overlaps at.After-overlaps ∙ c.if-overlaps.false,
+      lt-ltb most_pages (total (regions_of a.board a.rows.now)) (omega (arith, pages at.After-total_pages)),
+    )
+    refl
 
 pub returns-then-not-loans_long : goal.returns-then-not-loans_long
 unfolding rows_admitted

@@ -25,7 +25,8 @@ keep-requires-clause-value c =
 fits : (c : After-keep) → c.loop-entry.used < 8
 fits c =
     let i = c.loop-entry.invariant in
-    turn_fits c.args.board c.args.map.now c.loop-entry.entry-index no_entry c.loop-entry-test.true (omega (arith, c.loop-entry-test.true, c.requires.few))
+    turn_fits c.args.board c.args.map.now c.loop-entry.entry-index no_entry c.loop-entry-test.true
+    (omega (arith, c.loop-entry-test.true, c.requires.few))
     i.kept i.many
 
 pub offset_bounds-rows-used : goal.offset_bounds-rows-used
