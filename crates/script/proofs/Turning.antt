@@ -1,5 +1,5 @@
--- One line, case by case: what is kept after a bad line, a region, a boot, the statistics and a call stands for the run's own turn, and what
--- was written is its text.
+-- One line, case by case: what is kept after a bad line, a region, a boot, the statistics and a call stands for the run's own turn, and
+-- what was written is its text.
 use Prim.Native.Nat.{ℕ, ◌+◌, ◌≤◌, ◌<◌}
 use mathlib.Core.Bool.{Bool, true, false}
 use mathlib.Core.List.{List, [], ◌∷◌, ◌++◌}

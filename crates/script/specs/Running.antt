@@ -1,6 +1,6 @@
--- What the run of a script keeps between lines, and what it promises: `Stands`, that this is definition's `RunningOn`; `Turns`, of one line;
--- `Ran`, of a whole script: the bytes that it writes and all that it leaves in the loans. `Sure` is what a line asks for: from an accepted
--- boot on, the loans are sound.
+-- What the run of a script keeps between lines, and what it promises: `Stands`, that this is definition's `RunningOn`; `Turns`, of one
+-- line; `Ran`, of a whole script: the bytes that it writes and all that it leaves in the loans. `Sure` is what a line asks for: from an
+-- accepted boot on, the loans are sound.
 use Rattle.std.specs.Prelude.{ℕ, ◌+◌, ◌≤◌, ◌<◌, Bool, true, false, List, [], ◌∷◌, ◌++◌, Ok, Err, ◌≡◌, get_or, length, take, drop, replicate}
 use Rattle.definition.specs.declared.MemoryRegion.{MemoryRegion}
 use Rattle.definition.specs.Board.{Board, standard}
@@ -161,8 +161,8 @@ module _ (board : Board) where
     pub memory : l'.memory ≡ (left_by l script).memory
     pub queue : l'.queue ≡ (left_by l script).queue
 
-  -- the answers stand at the front of the slice, whose rest is as it was, and the loans are as the calls leave them; a slice under 512 bytes
-  -- for each line plus 512 is left as it is, and so are the loans
+  -- the answers stand at the front of the slice, whose rest is as it was, and the loans are as the calls leave them; a slice under 512
+  -- bytes for each line plus 512 is left as it is, and so are the loans
   pub record Ran (script : List ℕ) (l : Loans) (out : List ℕ) (l' : Loans) (out' : List ℕ) (r : ℕ) : Type 0 where
     pub written : room script ≤ length out → r ≡ length (printed l script)
     pub text : room script ≤ length out → out' ≡ printed l script ++ drop r out
