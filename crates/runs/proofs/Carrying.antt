@@ -1,13 +1,12 @@
 -- The words hold what was written over them. A sound world is read again as it was, and the loans stay a state's, with room for an answer (`carried`): so it is
 -- after an accepted boot (`booted_world_lem`), and after a call that leaves a sound world of as many rows in use as the words have (`served_world`).
 use Prim.Native.Nat.{ℕ, ◌-◌, ◌≤◌}
-use mathlib.Core.Bool.{Bool, true, false, cond, false≢true}
+use mathlib.Core.Bool.{Bool, true, false, cond}
 use mathlib.Core.List.{List, [], ◌∷◌}
-use mathlib.Core.Option.{some}
 use mathlib.Core.Path.{◌≡◌, refl, sym, ap, ◌∙◌}
 use native.Mathlib.Omega.{arith}
-use borrow.Author.Tests.{eq-eqb, le-leb, leb-true}
-use lib.Dec.{eqb, leb}
+use borrow.Author.Tests.{le-leb, leb-true}
+use lib.Dec.{leb}
 use lib.ListN.{length, drop, replicate}
 use Rattle.definition.specs.declared.Counters.{Counters}
 use Rattle.definition.specs.declared.MemoryRegion.{MemoryRegion}
@@ -25,12 +24,11 @@ use Rattle.record.specs.Records.{with_bytes}
 use Rattle.record.proofs.Bytes.{with_length}
 use Rattle.definition.proofs.Boards.{standard_fit}
 use Rattle.world.proofs.RoundTrip.{sound_sane}
-use Rattle.world.specs.Refusals.{number_if}
-use Rattle.world.proofs.Calling.{none_met}
+use Rattle.world.proofs.Calling.{numbered}
 use Rattle.allocator.proofs.Turning.{used_most}
 use Rattle.audit.proofs.Sheets.{sound_is}
-use Rattle.exam.specs.declared.Answer.{Answer}
-use Rattle.exam.specs.Promise.{told}
+use Rattle.std.specs.Prelude.{Ok, Err, is_ok}
+use Rattle.exam.specs.Promise.{Answer, told}
 use Rattle.theorems.specs.Demands.{Accepted, world_after}
 use Rattle.theorems.proofs.Bookkeeping.{demand_3}
 use Rattle.words.specs.Words.{Long, Narrow, board_in, state_words, counters_at, counter_words, high_half, is_kept, kept_of, pass_in, queued_in, rows_in, used_in}
@@ -59,13 +57,14 @@ use Rattle.service.specs.Serving.{
   boot_over,
   boot_state_over,
   boot_written,
+  code,
   has_room,
   is_lent,
   is_roomy,
   kept_over,
   refused_as,
   served,
-  short_number,
+  short_refusal,
   tells,
   world_in,
   written,
@@ -123,11 +122,8 @@ module _ (board : Board) (w : World) (s : sound board w ≡ true) {used : ℕ} (
 
 tells_long : (y : Answer) (ys : List ℕ) → 2 ≤ length ys → length (tells y ys) ≡ length ys
 unfolding tells
-tells_long y ys h = go (eqb y.number 0)
-  where
-    go : (t : Bool) → length (cond t (with_bytes ys 0 (y.address ∷ y.bytes ∷ [])) ys) ≡ length ys
-    go true = with_length ys 0 (y.address ∷ y.bytes ∷ []) (omega arith)
-    go false = refl
+tells_long (Ok y) ys h = with_length ys 0 (y.address ∷ y.bytes ∷ []) (omega arith)
+tells_long (Err r) ys h = refl
 
 -- ---- the loans
 
@@ -173,13 +169,13 @@ module _ {board : Board} (c : Call) (l : Lent) (of : board_in l.words ≡ board)
       (call_keeps board x.world s m l.words (lent_words l e) (and_left (is_kept l.words) (has_room l) e) u))
 
   -- the number that it returns
-  pub served_number : (served c l).number ≡ (told (call board (world_in l) c).answer).number
+  pub served_number : (served c l).number ≡ code (told (call board (world_in l) c).answer)
   unfolding served
   served_number = rw (e, of) refl
 
 -- ---- a boot
 
-told_accepted : (a : AnswerOf) → Accepted a → (told a).number ≡ 0
+told_accepted : (a : AnswerOf) → Accepted a → is_ok (told a) ≡ true
 told_accepted (Refused r) ok = absurd (ok r refl)
 told_accepted (Done a n) ok = refl
 told_accepted (Text t) ok = refl
@@ -197,21 +193,15 @@ booted_world_lem ms l e ok m =
     let x = boot_in ms l in
     let long = leb-true state_words (length l.words) (and_left _ _ e) in
     let room = leb-true 2 (length l.answer) (and_right (leb state_words (length l.words)) (has_room l) e) in
-    rw (e, eq-eqb (told x.answer).number 0 (told_accepted x.answer ok))
+    rw (e, told_accepted x.answer ok)
     (carried boot_over l x long room (boot_keeps standard x.world (boot_sound standard_fit ms (world_in l) ok) m l.words long))
 
 -- the two premises, by the number that the boot returns
-never_short : (n : ℕ) → short_number n ≡ 0 → ⊥
-never_short n z = go (eqb n 0) refl z
-  where
-    go : (t : Bool) → eqb n 0 ≡ t → cond t 5 n ≡ 0 → ⊥
-    go true e z = omega arith
-    go false e z = false≢true (sym e ∙ eq-eqb n 0 z)
-
 never_refused : (r : Refusal) → number_of r ≡ 0 → ⊥
-never_refused r z = let e = none_met (some r) z in let y : ◌≡◌ {A = ℕ} 0 1 = cc in omega arith
+never_refused r z = omega (arith, numbered r)
 
-boot_number : (l : Lent) (x : Left) (t : Bool) → (cond t (written boot_state_over l x) (refused_as l (told x.answer).number)).number ≡ (told x.answer).number
+boot_number : (l : Lent) (x : Left) (t : Bool)
+    → (cond t (written boot_state_over l x) (refused_as l (code (told x.answer)))).number ≡ code (told x.answer)
 boot_number l x true = refl
 boot_number l x false = refl
 
@@ -222,10 +212,12 @@ boot_returned ms l z = go (is_roomy l) refl z
     x : Left
     x = boot_in ms l
 
-    go : (t : Bool) → is_roomy l ≡ t
-        → (cond t (boot_written l x) (refused_as l (short_number (number_if (first_met (boot_sheet standard ms (length l.records) (length l.memory))))))).number ≡ 0
+    short : Refusal
+    short = short_refusal (first_met (boot_sheet standard ms (length l.records) (length l.memory)))
+
+    go : (t : Bool) → is_roomy l ≡ t → (cond t (boot_written l x) (refused_as l (number_of short))).number ≡ 0
         → (is_roomy l ≡ true) × Accepted x.answer
-    go false e z = absurd (never_short (number_if (first_met (boot_sheet standard ms (length l.records) (length l.memory)))) z)
+    go false e z = absurd (never_refused short z)
     go true e z =
-        let y : (told x.answer).number ≡ 0 = sym (boot_number l x (eqb (told x.answer).number 0)) ∙ z in
+        let y : code (told x.answer) ≡ 0 = sym (boot_number l x (is_ok (told x.answer))) ∙ z in
         (e, λ r h. never_refused r (rw h at y))

@@ -4,7 +4,7 @@ use Prim.Native.Nat.{ℕ, suc, ◌+◌}
 use mathlib.Core.Bool.{true, not, false≢true}
 use mathlib.Core.List.{List, [], ◌∷◌, map}
 use mathlib.Core.Path.{◌≡◌, refl, sym, ap, ap₂, ◌∙◌, subst}
-use borrow.Author.Tests.{eq-eqb}
+use native.Mathlib.Omega.{arith}
 use lib.ListN.{length, length-map}
 use Rattle.definition.specs.declared.MemoryRegion.{MemoryRegion}
 use Rattle.definition.specs.declared.Record.{Record}
@@ -23,21 +23,23 @@ use Rattle.definition.proofs.Tests.{and_left}
 use Rattle.record.specs.Records.{with_bytes}
 use Rattle.definition.proofs.Boards.{standard_fit}
 use Rattle.words.proofs.Words.{board_is}
+use Rattle.world.proofs.Calling.{numbered}
 use Rattle.world.proofs.Spans.{bare}
 use Rattle.bookkeeping.specs.Claim.{State}
-use Rattle.exam.specs.declared.Answer.{Answer}
-use Rattle.exam.specs.Promise.{told}
+use Rattle.std.specs.Prelude.{Ok, Err, is_ok}
+use Rattle.exam.specs.declared.Reply.{Reply}
+use Rattle.exam.specs.Promise.{Answer, told}
 use Rattle.theorems.specs.Demands.{Accepted, answers_of, ground_all, world_after}
 use Rattle.theorems.proofs.Bookkeeping.{boot_answered, demand_3}
 use Rattle.theorems.proofs.Likeness.{demand_2}
 use Rattle.theorems.proofs.Outside.{emptied_bared}
 use Rattle.theorems.proofs.Runs.{Holds, boot_holds, call_holds, here, holds_decode, holds_sound}
 use Rattle.words.specs.Words.{board_in, word_in}
-use Rattle.service.specs.Serving.{Lent, booted, is_roomy, served, tells, world_in}
+use Rattle.service.specs.Serving.{Lent, booted, code, is_roomy, served, tells, world_in}
 use Rattle.runs.specs.Runs.{boot_in, Carries, Tells, Follows, Demand3Words, Demand2Words, lent_after, numbers_after, held_booted}
 use Rattle.runs.proofs.Carrying.{Bears, booted_world_lem, served_number, served_world}
 
-told_number : (a : AnswerOf) → (told a).number ≡ answer_number a
+told_number : (a : AnswerOf) → code (told a) ≡ answer_number a
 told_number (Refused r) = refl
 told_number (Done a n) = refl
 told_number (Text t) = refl
@@ -99,20 +101,30 @@ module _ {board : Board} (fit : Fit board) (of : (ws : List ℕ) → board_in ws
 
 -- ---- the answer of the next call
 
-module _ (y : Answer) (ys : List ℕ) (z : y.number ≡ 0) where
-  first_told : word_in (tells y ys) 0 ≡ y.address
-  unfolding tells with_bytes
-  first_told = rw (eq-eqb y.number 0 z) refl
+accepted_told : (y : Answer) → code y ≡ 0 → is_ok y ≡ true
+accepted_told (Ok x) z = refl
+accepted_told (Err r) z = absurd (omega (arith, numbered r))
 
-  second_told : word_in (tells y ys) 1 ≡ y.bytes
+module _ (x : Reply) (ys : List ℕ) where
+  first_told : word_in (tells (Ok x) ys) 0 ≡ x.address
   unfolding tells with_bytes
-  second_told = rw (eq-eqb y.number 0 z) refl
+  first_told = refl
+
+  second_told : word_in (tells (Ok x) ys) 1 ≡ x.bytes
+  unfolding tells with_bytes
+  second_told = refl
 
 carries_tells : {v : World} (l : Lent) → Carries l v → (c : Call) → Tells l v c
 unfolding served
 carries_tells l C c =
     let y = told (call standard (world_in l) c).answer in
-    let t : Tells l (world_in l) c = record { address = rw (C.lent, board_is l.words) (first_told y l.answer); bytes = rw (C.lent, board_is l.words) (second_told y l.answer) } in
+    let t : Tells l (world_in l) c =
+    record {
+      accepted = rw (C.lent, board_is l.words) (accepted_told y);
+      address = λ x e. rw (C.lent, board_is l.words, e) (first_told x l.answer);
+      bytes = λ x e. rw (C.lent, board_is l.words, e) (second_told x l.answer);
+    }
+    in
     rw C.world at t
 
 -- ---- from an accepted boot

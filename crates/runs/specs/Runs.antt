@@ -2,7 +2,7 @@
 -- theorems/specs/Demands.antt speaks: the words hold the world that this run leaves, and the numbers returned are its answers'. `Demand3Words` and `Demand2Words`
 -- are the demands over what the words hold. Each call is as `served` says: a read, which promises `Places`, tells a place in the answer instead, and a call over
 -- counters of their own is `served_with`; neither is spoken of here.
-use Rattle.std.specs.Prelude.{ℕ, true, List, [], ◌∷◌, map, ◌≡◌}
+use Rattle.std.specs.Prelude.{ℕ, true, List, [], ◌∷◌, map, Ok, is_ok, ◌≡◌}
 use Rattle.std.proofs.Math.Option.{some}
 use Rattle.definition.specs.declared.MemoryRegion.{MemoryRegion}
 use Rattle.definition.specs.Board.{standard}
@@ -14,6 +14,7 @@ use Rattle.definition.specs.World.{World, decode}
 use Rattle.bookkeeping.specs.Claim.{Bookkeeping}
 use Rattle.theorems.specs.Demands.{Along, after_all, answers_all, book_all, boot_store}
 use Rattle.words.specs.Words.{word_in}
+use Rattle.exam.specs.declared.Reply.{Reply}
 use Rattle.exam.specs.Promise.{told}
 use Rattle.service.specs.Serving.{Lent, world_in, is_lent, served, booted}
 
@@ -45,10 +46,11 @@ pub record Carries (l : Lent) (w : World) : Type 0 where
   pub world : world_in l ≡ w
   pub lent : is_lent l ≡ true
 
--- an accepted call on loans that hold the world w leaves its address and its bytes in front of the answer
+-- a call on loans that hold the world w returns 0 only where it is accepted, and then its address and its bytes stand in front of the answer
 pub record Tells (l : Lent) (w : World) (c : Call) : Type 0 where
-  pub address : (served c l).number ≡ 0 → word_in (served c l).lent.answer 0 ≡ (told (call standard w c).answer).address
-  pub bytes : (served c l).number ≡ 0 → word_in (served c l).lent.answer 1 ≡ (told (call standard w c).answer).bytes
+  pub accepted : (served c l).number ≡ 0 → is_ok (told (call standard w c).answer) ≡ true
+  pub address : (y : Reply) → told (call standard w c).answer ≡ Ok y → word_in (served c l).lent.answer 0 ≡ y.address
+  pub bytes : (y : Reply) → told (call standard w c).answer ≡ Ok y → word_in (served c l).lent.answer 1 ≡ y.bytes
 
 -- a boot over the loans l, and a list of calls behind it
 pub record Follows (ms : List MemoryRegion) (l : Lent) (calls : List Call) : Type 0 where

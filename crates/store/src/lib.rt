@@ -71,7 +71,13 @@ pub extern "C" fn jilakkor_audit(
     ensures { Audits words.now records.now memory_len queue_len result }
 {
     let is_sound = words::is_kept(words)
-        && audit::audit(words::counters_in(words), words, records, memory_len, queue_len);
+        && audit::audit(
+            words::counters_in(words),
+            words,
+            records,
+            memory_len,
+            queue_len,
+        );
     if is_sound { 0 } else { Refusal::Torn.number() }
 }
 
@@ -549,12 +555,10 @@ fn entered(g: Gathered, i: usize, entry: Entry) -> Gathered
 fn gather(map: &[Entry]) -> Gathered
     ensures { result ≡ gathered map.now }
 {
-    let n = map::at_most_eight(map.len());
+    let first = &map[..map::at_most_eight(map.len())];
     let mut g = map::nothing(map.len());
-    let mut i = 0;
-    while i < n {
-        g = entered(g, i, map[i]);
-        i += 1;
+    for (i, entry) in first.iter().enumerate() {
+        g = entered(g, i, *entry);
     }
     g
 }
@@ -608,6 +612,7 @@ impl TryFrom<u64> for Asked {
 
     ghost try_from_gives = { λ op asked. asked ≡ ask_of op };
 
+    #[tactic(auto, unfolding(crate::specs::Lending::ask_of))]
     fn try_from(op: u64) -> Result<Asked, Refusal> {
         Ok(match op {
             0 => Asked::Known(Ask::Alloc),
@@ -670,12 +675,9 @@ fn gather_numbers(numbers: &[u64]) -> Gathered
     ensures { result ≡ gathered (entries_of numbers.now) }
 {
     let count = numbers.len() / 3;
-    let n = map::at_most_eight(count);
     let mut g = map::nothing(count);
-    let mut i: usize = 0;
-    while i < n {
+    for i in 0..map::at_most_eight(count) {
         g = entered(g, i, entry_in(numbers, i));
-        i += 1;
     }
     g
 }
@@ -726,7 +728,14 @@ fn call(
     let len = number_at(n, 2);
     match Asked::try_from(op)? {
         Asked::Known(ask) => service::serve_with(
-            counters, words, records, memory, queue, answer, ask, five_in(n),
+            counters,
+            words,
+            records,
+            memory,
+            queue,
+            answer,
+            ask,
+            five_in(n),
         ),
         Asked::Write => service::serve_write_with(
             *counters, words, records, memory, queue, answer, pa, offset, bytes,
