@@ -3,12 +3,13 @@
 // one for each page, and at most 1,048,576.
 #![tactic(auto)]
 
-ghost use Rattle.std.specs.Prelude.{◌≡◌, ◌+◌, ◌≤◌, ◌<◌, ◌^◌, ◌&&◌, leb};
+ghost use Rattle.std.specs.Prelude.{◌≡◌, ◌+◌, ◌≤◌, ◌<◌, ◌^◌, ◌&&◌, leb, is_some, IfSome};
+ghost use Rattle.definition.specs.Board.{standard};
 ghost use Rattle.definition.specs.World.{record_at};
 ghost use Rattle.record.specs.Records.{pages_in};
 ghost use Rattle.list.specs.Linked.{Sound};
 ghost use Rattle.words.specs.Words.{Long, InUse, row_of, rows_in};
-ghost use Rattle.region.specs.Rep.{SoundAt, WholeAt};
+ghost use Rattle.region.specs.Rep.{SoundAt, SoundRow, WholeAt, WholeRow, managed};
 ghost use Rattle.leaves.specs.Contents.{inside, turns_if, filled, copied};
 
 use address::PhysAddr;
@@ -56,6 +57,7 @@ fn load_all(records: &[u8], count: usize) -> u64
     requires { (count ≤ pages_in records.now) × (count ≤ 1048576) }
 {
     let mut sum: u64 = 0;
+    // Not `(0..count).map(..).sum()`: its bound would be a law of the whole chain, and here it is one line of the loop's invariant.
     for i in 0..count {
         let r = record::load(records, i);
         sum += u64::from(r.marks) + u64::from(r.level) + u64::from(r.earlier) + u64::from(r.later);
@@ -107,8 +109,7 @@ pub extern "C" fn leaves_push(records: &mut [u8], count: usize) -> usize
     if !fits(records, count) {
         return 0;
     }
-    let l = push_all(records, count);
-    l.count as usize
+    push_all(records, count).count as usize
 }
 
 // Pushes the first `count` pages on an empty list, and pops them all.
@@ -121,6 +122,20 @@ pub extern "C" fn leaves_push_pop(records: &mut [u8], count: usize) -> usize
     }
     let l = push_all(records, count);
     pop_all(records, l, count)
+}
+
+// Lays a region out from page 0 on, if it has at most 1,048,576 pages and the loan fits those that it manages.
+fn laid_out(records: &mut [u8], start: u64, pages: usize) -> Option<Row>
+    ensures fits_value { is_some result ≡ (leb pages 1048576
+        && (leb (managed standard pages) (pages_in records.old) && leb (pages_in records.old) 1048576)) }
+    ensures sound { IfSome result (λ row. SoundRow standard (record_at records.new) (pages_in records.new) 0 row) }
+    ensures whole { IfSome result (λ row. WholeRow standard (record_at records.new) 0 row) }
+{
+    let board = definition::standard();
+    if 1048576 < pages || !fits(records, pages - region::table_pages(board, pages)) {
+        return None;
+    }
+    Some(region::new(board, records, 0, PhysAddr::new(start), pages))
 }
 
 // Makes the words those of a state whose one row is `row`.
@@ -174,24 +189,23 @@ pub extern "C" fn leaves_grants(
 ) -> usize
     ensures { result ≤ times }
 {
-    let board = definition::standard();
-    if 2 < level || 1048576 < pages || !fits(records, pages - region::table_pages(board, pages)) {
+    if 2 < level {
         return 0;
     }
-    let row = region::new(board, records, 0, PhysAddr::new(start), pages);
+    let Some(row) = laid_out(records, start, pages) else {
+        return 0;
+    };
     let mut words = [0u64; words::STATE_WORDS];
     keep(&mut words, row);
-    grant_all(board, records, &mut words, level, times)
+    grant_all(definition::standard(), records, &mut words, level, times)
 }
 
 // Lays a region out, and answers how many of its frames are small.
 #[unsafe(no_mangle)]
 pub extern "C" fn leaves_new(records: &mut [u8], start: u64, pages: usize) -> usize {
-    let board = definition::standard();
-    if 1048576 < pages || !fits(records, pages - region::table_pages(board, pages)) {
+    let Some(row) = laid_out(records, start, pages) else {
         return 0;
-    }
-    let row = region::new(board, records, 0, PhysAddr::new(start), pages);
+    };
     row.lists[0].count as usize
 }
 
