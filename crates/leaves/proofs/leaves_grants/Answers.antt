@@ -1,5 +1,4 @@
--- The pages that the test counts are those that the region manages, a new region is sound and whole,
--- and its row stands in the words as it was laid out.
+-- A region laid out is sound and whole, and its row stands in the words as it was laid out.
 use native.Mathlib.Omega.{arith}
 use Rattle.leaves.proofs.leaves_grants.Goals as goal
 
