@@ -129,7 +129,11 @@ impl Refusal {
     pub fn earlier(self, other: Refusal) -> Refusal
         ensures { result ≡ earlier_of self other }
     {
-        if self.rank() < other.rank() { self } else { other }
+        if self.rank() < other.rank() {
+            self
+        } else {
+            other
+        }
     }
 }
 

@@ -55,7 +55,13 @@ pub fn frame_bytes(board: Board, seen: Seen) -> u64
 }
 
 // Refusals 11 to 14 of a frame that must be held, with a range of it, by what was seen at its address.
-fn held(board: Board, seen: Option<Seen>, pa: PhysAddr, offset: u64, len: u64) -> Result<Seen, Refusal>
+fn held(
+    board: Board,
+    seen: Option<Seen>,
+    pa: PhysAddr,
+    offset: u64,
+    len: u64,
+) -> Result<Seen, Refusal>
     requires fit { Fit board }
     requires leveled { Leveled seen }
     ensures { result ≡ held_as board seen pa.0 offset len }
@@ -75,7 +81,13 @@ fn held(board: Board, seen: Option<Seen>, pa: PhysAddr, offset: u64, len: u64) -
 }
 
 // What a call finds at an address: the held frame that starts there and has the range, or the refusal that it meets.
-pub fn look(words: &[u64], records: &[u8], pa: PhysAddr, offset: u64, len: u64) -> Result<Seen, Refusal>
+pub fn look(
+    words: &[u64],
+    records: &[u8],
+    pa: PhysAddr,
+    offset: u64,
+    len: u64,
+) -> Result<Seen, Refusal>
     requires { TableIn words.now records.now }
     ensures { LooksIn words.now records.now pa.0 offset len result }
 {
