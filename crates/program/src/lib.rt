@@ -42,6 +42,7 @@ pub fn read_all<R: Read>(reader: &mut R, buf: &mut [u8]) -> Result<usize, InputE
     ensures below { Below (length buf.new) result }
     ensures bytes { Holds (R.remaining reader.old) (R.remaining reader.new) buf.new result }
 {
+    // Not a `for`: a read says by how much it goes on.
     let mut at: usize = 0;
     while at < buf.len() {
         let n = reader.read(&mut buf[at..])?;

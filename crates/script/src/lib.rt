@@ -291,6 +291,7 @@ fn run_all(
 {
     let mut w = text::put_text(answer, 0, b"op,refusal,address,bytes\n");
     let mut running = fresh();
+    // Not a `for`: a line goes on by its own length.
     let mut at: usize = 0;
     while at < script.len() {
         let cursor = lines::next_line(script, at);

@@ -251,6 +251,7 @@ fn replay<P: Eprint, W: Write>(
     requires { (length file.now ≤ 1048576) × (length answers.old ≡ 4194304) }
     ensures { IfOk result (Replayed file.now) }
 {
+    // Not a `for`: a case goes on by its own length.
     let mut t = Tally::default();
     while t.at < file.len() {
         t = replay_one(console, file, answers, t)?;
