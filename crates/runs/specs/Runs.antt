@@ -46,7 +46,7 @@ pub record Carries (l : Lent) (w : World) : Type 0 where
   pub world : world_in l ≡ w
   pub lent : is_lent l ≡ true
 
--- a call on loans that hold the world w returns 0 only where it is accepted, and then its address and its bytes stand in front of the answer
+-- a call on loans that hold the world w returns 0 only where it is accepted; its address and its bytes then stand in front of the answer
 pub record Tells (l : Lent) (w : World) (c : Call) : Type 0 where
   pub accepted : (served c l).number ≡ 0 → is_ok (told (call standard w c).answer) ≡ true
   pub address : (y : Reply) → told (call standard w c).answer ≡ Ok y → word_in (served c l).lent.answer 0 ≡ y.address

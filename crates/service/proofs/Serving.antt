@@ -161,7 +161,8 @@ module _ (a off len : ℕ) (l : Lent) where
         bytes = λ z. absurd (omega arith);
       }
 
-  module _ (k : Counters) {x : Result ℕ Refusal} (F : Finds (board_in l.words) (world_with k l) (Read a off len) len x) (e : is_lent l ≡ true) where
+  module _ (k : Counters) {x : Result ℕ Refusal} (F : Finds (board_in l.words) (world_with k l) (Read a off len) len x)
+      (e : is_lent l ≡ true) where
     -- a read that is refused
     pub places_not : (r : Refusal) → x ≡ Err r → PlacesWith a off len k l l (number_of r)
     unfolding served_with
@@ -185,7 +186,7 @@ module _ (a off len : ℕ) (l : Lent) where
       unfolding tells
       answered = rw placed told-answer
 
-      pub places : PlacesWith a off len k l (record { words = l.words; records = l.records; memory = l.memory; queue = l.queue; answer = answer }) 0
+      pub places : PlacesWith a off len k l (besides l l.records l.memory l.queue answer) 0
       unfolding served_with
       places =
           record {
@@ -247,7 +248,7 @@ module _ (l : Lent) (text : List ℕ) where
 
       pub reports
           : (next : ℕ) → x ≡ Ok next → {answer : List ℕ} → answer ≡ tells (Ok (reply 0 next)) l.answer
-          → ReportsWith k l text k (record { words = l.words; records = l.records; memory = l.memory; queue = l.queue; answer = answer }) text' 0
+          → ReportsWith k l text k (besides l l.records l.memory l.queue answer) text' 0
       reports next z t =
           let n = le-leb 368 (length text) h in
           let d : next - 0 ≡ next = omega arith in
@@ -276,7 +277,8 @@ boot_or : (b : Board) (ms : List MemoryRegion) (w : World) (o : Option Refusal) 
 boot_or b ms w (some t) r e = refl
 boot_or b ms w none r e = absurd (let z : ◌≡◌ {A = ℕ} 0 1 = cc in omega arith)
 
-boot_leaves_lem : (b : Board) (ms : List MemoryRegion) (w : World) (r : Refusal) → told (boot_call b ms w).answer ≡ Err r → (boot_call b ms w).world ≡ w
+boot_leaves_lem : (b : Board) (ms : List MemoryRegion) (w : World) (r : Refusal)
+    → told (boot_call b ms w).answer ≡ Err r → (boot_call b ms w).world ≡ w
 unfolding boot_call
 boot_leaves_lem b ms w = boot_or b ms w (first_met (boot_sheet b ms (length w.records) (length w.memory)))
 
@@ -317,7 +319,8 @@ module _ (ms : List MemoryRegion) (l : Lent) where
         go (Ok x) z = rw (told-answer, told_number, e, B.answer, z, B.world, ← O.written x z) refl
         go (Err x) z =
             let w = same_world x z in
-            rw (told-answer, told_number, e, B.answer, z, O.refused x z, ap (λ (v : World). v.records) w, ap (λ (v : World). v.counters) w) refl
+            rw (told-answer, told_number, e, B.answer, z, O.refused x z, ap (λ (v : World). v.records) w, ap (λ (v : World). v.counters) w)
+            refl
 
   -- the words with the counters, whether they have room or not
   pub boot_in_words : Long l.words → booted ms l ≡ words_from (booted_with ms (counters_in l.words) l)

@@ -172,7 +172,8 @@ short_refusal (some r) = r
 
 abbrev pub ShortBoots : List MemoryRegion → (count records memory : ℕ) → Refusal → Type 0
 ShortBoots map count records memory r =
-    (ms : List MemoryRegion) → length ms ≡ count → take 8 ms ≡ take count map → r ≡ short_refusal (first_met (boot_sheet standard ms records memory))
+    (ms : List MemoryRegion) → length ms ≡ count → take 8 ms ≡ take count map
+    → r ≡ short_refusal (first_met (boot_sheet standard ms records memory))
 
 abbrev pub boot_written : Lent → Left → Served
 boot_written l x = cond (is_ok (told x.answer)) (written boot_state_over l x) (refused_as l (code (told x.answer)))

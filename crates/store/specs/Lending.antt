@@ -58,7 +58,7 @@ BootsBy g l l' r = (es : List Entry) → g ≡ gathered es → Boots es l l' r
 
 -- ---- the lent counters
 
--- what a number asks for: the calls that answer by numbers, in the order of 01's script, and the four others; 17 is any other number's refusal
+-- what a number asks for: the calls that answer by numbers, in the order of 01's script, and the four others; 17 refuses any other number
 unfoldable pub ask_of : ℕ → Result Asked Refusal
 ask_of n =
     cond (eqb n 0) (Ok (Known Alloc))
@@ -76,7 +76,8 @@ ask_of n =
     (cond (eqb n 12) (Ok (Known Lend))
     (cond (eqb n 13) (Ok (Known Back))
     (cond (eqb n 14) (Ok (Known Low))
-    (cond (eqb n 15) (Ok Write) (cond (eqb n 16) (Ok Read) (cond (eqb n 17) (Ok Stats) (cond (eqb n 18) (Ok Boot) (Err BadLine)))))))))))))))))))
+    (cond (eqb n 15) (Ok Write)
+    (cond (eqb n 16) (Ok Read) (cond (eqb n 17) (Ok Stats) (cond (eqb n 18) (Ok Boot) (Err BadLine)))))))))))))))))))
 
 -- numbers that are not there count as 0
 abbrev pub numbers_of : List ℕ → ℕ → ℕ
@@ -105,14 +106,16 @@ booted_by ns k l = cond (eqb (length ns % 3) 0) (booted_with (map region_of (ent
 abbrev pub BootsFrom : List ℕ → Counters → Lent → Counters → Lent → ℕ → Type 0
 BootsFrom ns k l k' l' r = booted_by ns k l ≡ record { counters = k'; served = record { lent = l'; number = r } }
 
--- what is left in the record, the loans and the bytes, and answered. Only the statistics are written to the bytes, only a write reads them, and 17 is no such call.
+-- what is left in the record, the loans and the bytes, and answered; only the statistics write to the bytes, and only a write reads them
 abbrev pub CallsBy : Result Asked Refusal → List ℕ → Counters → Lent → List ℕ → Counters → Lent → List ℕ → ℕ → Type 0
 CallsBy (Ok (Known a)) ns k l bs k' l' bs' r = ServesWith (call_of a (numbers_of ns)) k l k' l' r × (bs' ≡ bs)
 CallsBy (Ok Write) ns k l bs k' l' bs' r = ServesWith (Calls.Write (numbers_of ns 0) (numbers_of ns 1) bs) k l k' l' r × (bs' ≡ bs)
-CallsBy (Ok Read) ns k l bs k' l' bs' r = PlacesWith (numbers_of ns 0) (numbers_of ns 1) (numbers_of ns 2) k l l' r × (k' ≡ k) × (bs' ≡ bs)
+CallsBy (Ok Read) ns k l bs k' l' bs' r =
+    PlacesWith (numbers_of ns 0) (numbers_of ns 1) (numbers_of ns 2) k l l' r × (k' ≡ k) × (bs' ≡ bs)
 CallsBy (Ok Stats) ns k l bs k' l' bs' r = ReportsWith k l bs k' l' bs' r
 CallsBy (Ok Boot) ns k l bs k' l' bs' r = BootsFrom ns k l k' l' r × (bs' ≡ bs)
-CallsBy (Err e) ns k l bs k' l' bs' r = (stays k l (number_of e) ≡ record { counters = k'; served = record { lent = l'; number = r } }) × (bs' ≡ bs)
+CallsBy (Err e) ns k l bs k' l' bs' r =
+    (stays k l (number_of e) ≡ record { counters = k'; served = record { lent = l'; number = r } }) × (bs' ≡ bs)
 
 abbrev pub CallsWith : ℕ → List ℕ → Counters → Lent → List ℕ → Counters → Lent → List ℕ → ℕ → Type 0
 CallsWith op = CallsBy (ask_of op)

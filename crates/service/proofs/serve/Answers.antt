@@ -32,8 +32,10 @@ counters_in-counters-requires c = lent_words (loans (goal.at.counters_in-counter
 
 pub put_counters-requires : goal.put_counters-requires
 put_counters-requires c =
-    omega (arith, c.serve_with-told.auto.words, lent_words (loans (goal.at.put_counters-requires c).Start) (lent (goal.at.put_counters-requires c).Else-not-is_lent))
+    let l = loans (goal.at.put_counters-requires c).Start in
+    omega (arith, c.serve_with-told.auto.words, lent_words l (lent (goal.at.put_counters-requires c).Else-not-is_lent))
 
 pub returns : goal.returns
 returns c =
-    in_words _ (loans (goal.at.returns c).Start) (lent (goal.at.returns c).Else-not-is_lent) ∙ rw (← c.counters_in-counters.ensures, c.serve_with-told.ensures, c.put_counters.ensures) refl
+    in_words _ (loans (goal.at.returns c).Start) (lent (goal.at.returns c).Else-not-is_lent)
+    ∙ rw (← c.counters_in-counters.ensures, c.serve_with-told.ensures, c.put_counters.ensures) refl

@@ -22,7 +22,8 @@ loans s =
 pub returns-then-words-lt-STATE_WORDS : goal.returns-then-words-lt-STATE_WORDS
 returns-then-words-lt-STATE_WORDS c =
     λ ms e f.
-    boots_short ms (loans (goal.at.returns-then-words-lt-STATE_WORDS c).Start) (rw (lt-leb state_words (length c.args.words.now) c.if-words-lt-STATE_WORDS.true) refl) (ap number_of (c.short_boot.ensures ms e f))
+    boots_short ms (loans (goal.at.returns-then-words-lt-STATE_WORDS c).Start)
+    (rw (lt-leb state_words (length c.args.words.now) c.if-words-lt-STATE_WORDS.true) refl) (ap number_of (c.short_boot.ensures ms e f))
 
 pub returns : goal.returns
 returns c =

@@ -44,4 +44,5 @@ returns c =
     λ ms e f.
     let b = rw c.standard-board.ensures at (c.boot-y.ensures.boots_all ms e f) in
     let s = (goal.at.returns c).Start in
-    boots ms (loans s) s.args.counters.now (roomy (goal.at.returns c).Else-not-is_roomy) b c.boot-y.ensures.boots_over c.tell.ensures.1 (told_code _ c.tell.ensures.0)
+    boots ms (loans s) s.args.counters.now (roomy (goal.at.returns c).Else-not-is_roomy) b c.boot-y.ensures.boots_over c.tell.ensures.1
+    (told_code _ c.tell.ensures.0)

@@ -46,4 +46,5 @@ returns c =
     let else_not_is_lent = (goal.at.returns c).Else-not-is_lent in
     let l = loans (goal.at.returns c).Start in
     kept_in_words _ l (lent else_not_is_lent)
-    (serves_with l (counters_in l.words) (rw c.counters_in-counters.ensures at c.find-y.ensures) c.tell.ensures.1 (told_code _ c.tell.ensures.0) (lent else_not_is_lent) refl beside_same)
+    (serves_with l (counters_in l.words) (rw c.counters_in-counters.ensures at c.find-y.ensures) c.tell.ensures.1
+    (told_code _ c.tell.ensures.0) (lent else_not_is_lent) refl beside_same)

@@ -38,7 +38,8 @@ free-y-requires c =
 
 pub put_counters-requires : goal.put_counters-requires
 put_counters-requires c =
-    omega (arith, c.free-y.auto.words, lent_words (loans (goal.at.put_counters-requires c).Start) (lent (goal.at.put_counters-requires c).Else-not-is_lent))
+    let l = loans (goal.at.put_counters-requires c).Start in
+    omega (arith, c.free-y.auto.words, lent_words l (lent (goal.at.put_counters-requires c).Else-not-is_lent))
 
 pub tell-requires : goal.tell-requires
 tell-requires c =
@@ -50,5 +51,6 @@ returns c =
     let else_not_is_lent = (goal.at.returns c).Else-not-is_lent in
     let l = loans (goal.at.returns c).Start in
     made_in_words _ l (lent else_not_is_lent)
-    (serves_with l (counters_in l.words) (rw c.counters_in-counters.ensures at c.free-y.ensures.leaves) c.tell.ensures.1 (told_code _ c.tell.ensures.0) (lent else_not_is_lent) c.free-y.auto.words c.free-y.ensures.beside)
+    (serves_with l (counters_in l.words) (rw c.counters_in-counters.ensures at c.free-y.ensures.leaves) c.tell.ensures.1
+    (told_code _ c.tell.ensures.0) (lent else_not_is_lent) c.free-y.auto.words c.free-y.ensures.beside)
     ∙ rw c.put_counters.ensures refl

@@ -40,8 +40,8 @@ returns-in_err-at c =
     let s = (goal.at.returns-in_err-at c).Start in
     let p = err_from_is_err_and c.from_residual.result c.from_residual.ensures.1 in
     rw (p.1, p.2)
-    (places_not s.args.pa.0 s.args.offset s.args.len (loans s) s.args.counters c.read_place.ensures (lent (goal.at.returns-in_err-at c).Else-not-is_lent)
-    _ c.in_err-at.was)
+    (places_not s.args.pa.0 s.args.offset s.args.len (loans s) s.args.counters c.read_place.ensures
+    (lent (goal.at.returns-in_err-at c).Else-not-is_lent) _ c.in_err-at.was)
 
 pub returns : goal.returns
 returns c =

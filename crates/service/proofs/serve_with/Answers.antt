@@ -34,4 +34,5 @@ tell-requires c = lent_room (loans (goal.at.tell-requires c).Start) (lent (goal.
 pub returns : goal.returns
 returns c =
     let s = (goal.at.returns c).Start in
-    serves_with (loans s) s.args.counters.now c.ask-y.ensures.leaves c.tell.ensures.1 (told_code _ c.tell.ensures.0) (lent (goal.at.returns c).Else-not-is_lent) c.ask-y.auto.words c.ask-y.ensures.beside
+    serves_with (loans s) s.args.counters.now c.ask-y.ensures.leaves c.tell.ensures.1 (told_code _ c.tell.ensures.0)
+    (lent (goal.at.returns c).Else-not-is_lent) c.ask-y.auto.words c.ask-y.ensures.beside

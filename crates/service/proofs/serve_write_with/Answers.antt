@@ -35,4 +35,5 @@ tell-requires c = lent_room (loans (goal.at.tell-requires c).Start) (lent (goal.
 pub returns : goal.returns
 returns c =
     let s = (goal.at.returns c).Start in
-    serves_with (loans s) s.args.counters c.write-y.ensures c.tell.ensures.1 (told_code _ c.tell.ensures.0) (lent (goal.at.returns c).Else-not-is_lent) refl beside_same
+    serves_with (loans s) s.args.counters c.write-y.ensures c.tell.ensures.1 (told_code _ c.tell.ensures.0)
+    (lent (goal.at.returns c).Else-not-is_lent) refl beside_same

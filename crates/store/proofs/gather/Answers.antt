@@ -27,4 +27,5 @@ loop-i-preserved c =
 pub returns : goal.returns
 returns c =
     let l = c.loop-i in
-    onward_end c.args.map.now c.at_most_eight.result c.at_most_eight.ensures l.i l.g l.invariant (omega (arith, long (goal.at.returns c).At-loop-i))
+    onward_end c.args.map.now c.at_most_eight.result c.at_most_eight.ensures l.i l.g l.invariant
+    (omega (arith, long (goal.at.returns c).At-loop-i))

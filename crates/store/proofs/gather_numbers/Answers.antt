@@ -12,8 +12,8 @@ entry_in-requires c = omega (arith, c.at_most_eight-i-end.ensures.1)
 pub loop-i-preserved : goal.loop-i-preserved
 loop-i-preserved c =
     let l = c.loop-i in
-    numbers_next c.args.numbers.now c.at_most_eight-i-end.result c.at_most_eight-i-end.ensures l.i l.g l.invariant (omega arith) c.entered-g.result
-    (rw c.entry_in.ensures at c.entered-g.ensures)
+    numbers_next c.args.numbers.now c.at_most_eight-i-end.result c.at_most_eight-i-end.ensures l.i l.g l.invariant (omega arith)
+    c.entered-g.result (rw c.entry_in.ensures at c.entered-g.ensures)
 
 pub returns : goal.returns
 returns c =
