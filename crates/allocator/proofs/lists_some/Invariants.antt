@@ -2,9 +2,10 @@
 use Prim.Native.Nat.{◌-◌, ◌*◌}
 use mathlib.Core.Path.{◌≡◌}
 use Rattle.definition.specs.Basics.{any, range}
+use Rattle.level.specs.Level.{rank}
 use Rattle.allocator.proofs.Listing.{counted_at}
 use Rattle.allocator.proofs.lists_some.Given as goal
 
 abbrev pub invariant-loop-k : goal.invariant-loop-k
 invariant-loop-k l =
-    any (counted_at l.row.lists) (range (l.level * 2) (6 - l.level * 2)) ≡ any (counted_at l.row.lists) (range l.k (6 - l.k))
+    any (counted_at l.row.lists) (range (rank l.fn.level * 2) (6 - rank l.fn.level * 2)) ≡ any (counted_at l.row.lists) (range l.k (6 - l.k))

@@ -5,6 +5,7 @@ use native.Mathlib.Omega.{arith}
 use lib.ListN.{length}
 use Rattle.world.proofs.Sheets.{good_few}
 use Rattle.definition.specs.World.{record_at, used_rows}
+use Rattle.level.proofs.Ranks.{rank_below}
 use Rattle.record.specs.Records.{pages_in}
 use Rattle.region.specs.Rep.{managed}
 use Rattle.words.specs.Words.{board_in, rows_in}
@@ -17,10 +18,10 @@ use Rattle.allocator.proofs.pass.Goals.{After-pages_at-pages, Else-pages-eq0}
 
 pub loop-i-init : goal.loop-i-init
 loop-i-init c =
-    record { rows = refl; rest = rows_beside_same; wide = refl; long = refl; gone = gone_none c.requires.long.1 c.requires.level_bound }
+    record { rows = refl; rest = rows_beside_same; wide = refl; long = refl; gone = gone_none c.requires.1 (rank_below c.args.level) }
 
 pub pages_at-pages-requires : goal.pages_at-pages-requires
-pages_at-pages-requires c = (omega (arith, c.requires.long.0, c.loop-i.invariant.wide), omega arith)
+pages_at-pages-requires c = (omega (arith, c.requires.0, c.loop-i.invariant.wide), omega arith)
 
 -- the pages of a turn's row, by the words that were given
 pages_are : (c : After-pages_at-pages) → c.pages_at-pages.result ≡ (row_at (rows_in c.args.words.now) c.loop-i.i).pages
@@ -54,8 +55,8 @@ allocate-got-requires c =
     let g = good e in
     let u = in_use c.loop-i.words c.loop-i.i (omega arith) (rw c.pages_at-pages.ensures at c.if-pages-eq0.false) in
     rw (I.rows, board_is e) record {
-      sound_at = ((omega (arith, c.requires.long.0, I.wide), omega arith, u), g.sound);
-      whole_at = (g.whole, I.gone.few);
+      sound_at = ((omega (arith, c.requires.0, I.wide), omega arith, u), g.sound);
+      whole_at = g.whole;
     }
 
 pub returns-in-Some : goal.returns-in-Some

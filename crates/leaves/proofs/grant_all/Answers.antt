@@ -14,14 +14,14 @@ loop-i-init c =
       words_same = refl;
       used = p.sound_at.0;
       sound = p.sound_at.1;
-      whole = p.whole_at.0;
+      whole = p.whole_at;
     }
 
 pub allocate-got-requires : goal.allocate-got-requires
 allocate-got-requires c =
     let v = c.loop-i.invariant in record {
       sound_at = (v.used, v.sound);
-      whole_at = (v.whole, c.requires.whole_at.1);
+      whole_at = v.whole;
     }
 
 pub returns-then-is_none : goal.returns-then-is_none
