@@ -28,5 +28,5 @@ grant_all-requires c =
     let e = c.keep.ensures in
     rw e.1 record {
       sound_at = (e.0, rep_sound c.new-row.ensures.becomes.rep);
-      whole_at = (c.new-row.ensures.whole_row, omega arith);
+      whole_at = c.new-row.ensures.whole_row;
     }
