@@ -7,6 +7,7 @@
 ghost use Rattle.definition.specs.Basics.{everywhere};
 ghost use Rattle.std.specs.Prelude.{◌≡◌, ◌/◌, ◌<◌};
 ghost use Rattle.definition.specs.Allocator.{do_alloc};
+ghost use Rattle.level.specs.Level.{rank};
 ghost use Rattle.words.specs.Words.{board_in, Long, RowsBeside};
 ghost use Rattle.allocator.specs.Spots.{
   SaneIn,
@@ -25,6 +26,7 @@ ghost use Rattle.allocator.specs.Spots.{
 
 use address::PhysAddr;
 use definition::Row;
+use level::Level;
 
 // A page of a region: the region's row, the page number of its first managed page, and the page's own.
 #[derive(Clone, Copy)]
@@ -71,10 +73,9 @@ pub fn see(words: &[u64], records: &[u8], pa: PhysAddr) -> Option<Seen>
 }
 
 // Whether some list holds a frame of the level or above.
-pub fn is_listed(words: &[u64], records: &[u8], level: usize) -> bool
-    requires long { Long words.now × SaneIn records.now words.now }
-    requires level_bound { level < 3 }
-    ensures { ListedIn records.now words.now level result }
+pub fn is_listed(words: &[u64], records: &[u8], level: Level) -> bool
+    requires { Long words.now × SaneIn records.now words.now }
+    ensures { ListedIn records.now words.now (rank level) result }
 {
     for i in 0..8 {
         let row = words::row_at(words, i);
@@ -89,12 +90,11 @@ pub fn is_listed(words: &[u64], records: &[u8], level: usize) -> bool
 }
 
 // Whether a row lists a frame of the level or above.
-fn lists_some(row: Row, level: usize) -> bool
-    requires { level < 3 }
-    ensures { result ≡ lists_some row level }
+fn lists_some(row: Row, level: Level) -> bool
+    ensures { result ≡ lists_some row (rank level) }
 {
     // Not `row.lists[level * 2..].iter().any(..)`: the row is then copied whole, and the test takes 1.7 times as long.
-    for k in level * 2..6 {
+    for k in level.index() * 2..6 {
         if row.lists[k].count != 0 {
             return true;
         }
@@ -142,13 +142,12 @@ pub fn set_marks(words: &[u64], records: &mut [u8], spot: Spot, zeroed: bool, ke
 fn pass(
     words: &mut [u64],
     records: &mut [u8],
-    level: usize,
+    level: Level,
     try_zero: bool,
     only_zero: bool,
 ) -> Option<Spot>
-    requires long { Long words.old × SaneIn records.old words.old }
-    requires level_bound { level < 3 }
-    ensures picks_in { PicksIn (pass_by level try_zero only_zero) records.old words.old records.new
+    requires { Long words.old × SaneIn records.old words.old }
+    ensures picks_in { PicksIn (pass_by (rank level) try_zero only_zero) records.old words.old records.new
         words.new result }
     ensures rows_beside { RowsBeside words.old words.new }
 {
@@ -176,12 +175,11 @@ fn pass(
 pub fn do_alloc(
     words: &mut [u64],
     records: &mut [u8],
-    level: usize,
+    level: Level,
     needs_zero: bool,
 ) -> Option<Spot>
-    requires long { Long words.old × SaneIn records.old words.old }
-    requires level_bound { level < 3 }
-    ensures picks_in { PicksIn (do_alloc everywhere level needs_zero) records.old words.old records.new
+    requires { Long words.old × SaneIn records.old words.old }
+    ensures picks_in { PicksIn (do_alloc everywhere (rank level) needs_zero) records.old words.old records.new
         words.new result }
     ensures rows_beside { RowsBeside words.old words.new }
 {

@@ -15,7 +15,6 @@ use Rattle.definition.specs.Calls.{Layout, bad_layout, find_level, mine, no_leve
 use Rattle.level.specs.declared.Level.{Level}
 use Rattle.level.specs.Level.{found_level, level_at, rank}
 use Rattle.level.proofs.Choice.{finds}
-use Rattle.level.proofs.Ranks.{rank_below}
 use Rattle.world.proofs.Refusing.{layout_refused}
 use Rattle.allocator.specs.Spots.{ListedAll}
 use Rattle.grants.specs.Granting.{Wants}
@@ -33,7 +32,7 @@ module _ (board : Board) where
       go false false e = let z : ◌≡◌ {A = ℕ} 0 1 = cc in absurd (omega arith)
 
 -- a refusal is no level
-no_level_in : {x : Refusal} {l : ℕ} → ◌≡◌ {A = Result ℕ Refusal} (Err x) (Ok l) → ⊥
+no_level_in : {x : Refusal} {l : Level} → ◌≡◌ {A = Result Level Refusal} (Err x) (Ok l) → ⊥
 no_level_in e = let z : ◌≡◌ {A = ℕ} 0 1 = cc in omega arith
 
 module _ {board : Board} {f : ℕ → Record} {n : ℕ} {rows : List Row} {y : Layout} where
@@ -41,25 +40,23 @@ module _ {board : Board} {f : ℕ → Record} {n : ℕ} {rows : List Row} {y : L
   wants_refused x found =
       record { refusal = λ s T. layout_refused board s y ∙ found_refused board y x _ found; found = λ l e. absurd (no_level_in e) }
 
-  module _ (l : Level) (found : found_level board y ≡ Ok l) {k : ℕ} (e : k ≡ rank l) where
-    pub wants_found : {b : Bool} → ListedAll board f n rows k b → b ≡ true → Wants board f n rows y (Ok k)
+  module _ (l : Level) (found : found_level board y ≡ Ok l) where
+    pub wants_found : {b : Bool} → ListedAll board f n rows (rank l) b → b ≡ true → Wants board f n rows y (Ok l)
     unfolding mine
     wants_found listed t =
         let F = finds board y l found in
-        let d : k ≡ find_level board y = e ∙ F.number in
         record {
-          refusal = λ s T. layout_refused board s y ∙ rw (F.fine, F.within, ← d, ← listed s.allocator T, t) refl;
-          found = λ j z. let same : k ≡ j = cc in rw (← same) (d, omega (arith, e, rank_below l));
+          refusal = λ s T. layout_refused board s y ∙ rw (F.fine, F.within, ← F.number, ← listed s.allocator T, t) refl;
+          found = λ j z. let same : l ≡ j = cc in rw (← same) F.number;
         }
 
     pub wants_none
-        : {b : Bool} → ListedAll board f n rows k b → b ≡ false → {x : Refusal} → x ≡ cond y.flags.wait_ok MustWait NoFrame
+        : {b : Bool} → ListedAll board f n rows (rank l) b → b ≡ false → {x : Refusal} → x ≡ cond y.flags.wait_ok MustWait NoFrame
         → Wants board f n rows y (Err x)
     unfolding mine
     wants_none listed t {x} q =
         let F = finds board y l found in
-        let d : k ≡ find_level board y = e ∙ F.number in
         record {
-          refusal = λ s T. layout_refused board s y ∙ rw (F.fine, F.within, ← d, ← listed s.allocator T, t, q) refl;
+          refusal = λ s T. layout_refused board s y ∙ rw (F.fine, F.within, ← F.number, ← listed s.allocator T, t, q) refl;
           found = λ j z. absurd (no_level_in z);
         }

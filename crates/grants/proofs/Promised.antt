@@ -17,6 +17,8 @@ use Rattle.definition.specs.Store.{Store}
 use Rattle.definition.specs.Tracker.{Granted as GrantedOf, try_alloc_frame, try_alloc_split_frames}
 use Rattle.definition.specs.Calls.{Alloc, Call, Layout, Take, bytes_of_level, done, find_level, hands, mine, perform, step}
 use Rattle.definition.specs.World.{World, record_at}
+use Rattle.level.specs.declared.Level.{Level}
+use Rattle.level.specs.Level.{rank}
 use Rattle.record.specs.Records.{pages_in}
 use Rattle.world.specs.Refusals.{refusal_of}
 use Rattle.world.proofs.Spans.{overlap_spans, spans_bare}
@@ -123,23 +125,23 @@ module _ {board : Board} {w : World} {s : Store} (H : Whole board w s) where
               rw (F.address t d) (left (board.page * p) (bytes_of_level board l) (e ∙ hands_some board l x p (page d)))
           go None d = left 0 0 (e ∙ hands_none board l x (page d))
 
-      module _ {y : Layout} {l : ℕ} (W : Wants board (record_at w.records) (pages_in w.records) w.rows y (Ok l)) where
+      module _ {y : Layout} {l : Level} (W : Wants board (record_at w.records) (pages_in w.records) w.rows y (Ok l)) where
         abbrev Given : (Store → GrantedOf) → Type 0
         Given op = GivesBy board op (record_at w.records) (state_in w) w.memory (record_at bs) (pages_in bs) ms r
 
         pub alloc_made
-            : Given (try_alloc_frame board everywhere l y.flags)
-            → Made board (step board s (Alloc y)) w (left_by r) (Ok (handed board r.frame l))
+            : Given (try_alloc_frame board everywhere (rank l) y.flags)
+            → Made board (step board s (Alloc y)) w (left_by r) (Ok (handed board r.frame (rank l)))
         alloc_made G =
-            handed_made (Alloc y) l (W.refusal s (whole_table H)) (performs_alloc board s y (W.found l refl).0) (G s lends)
-            (try_keeps board l y.flags s)
+            handed_made (Alloc y) (rank l) (W.refusal s (whole_table H)) (performs_alloc board s y (W.found l refl)) (G s lends)
+            (try_keeps board (rank l) y.flags s)
 
         pub take_made
-            : Given (try_alloc_split_frames board everywhere l y.flags)
-            → Made board (step board s (Take y)) w (left_by r) (Ok (handed board r.frame l))
+            : Given (try_alloc_split_frames board everywhere (rank l) y.flags)
+            → Made board (step board s (Take y)) w (left_by r) (Ok (handed board r.frame (rank l)))
         take_made G =
-            handed_made (Take y) l (W.refusal s (whole_table H)) (performs_take board s y (W.found l refl).0) (G s lends)
-            (split_keeps board l y.flags s)
+            handed_made (Take y) (rank l) (W.refusal s (whole_table H)) (performs_take board s y (W.found l refl)) (G s lends)
+            (split_keeps board (rank l) y.flags s)
 
   module _ {y : Layout} {e : Refusal} (W : Wants board (record_at w.records) (pages_in w.records) w.rows y (Err e)) where
     pub asked_refused : (split : Bool) → Made board (step board s (asking split y)) w w (Err e)

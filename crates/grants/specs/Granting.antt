@@ -16,6 +16,8 @@ use Rattle.definition.specs.Store.{Store}
 use Rattle.definition.specs.Tracker.{Granted as GrantedOf}
 use Rattle.definition.specs.Calls.{Alloc, Call, Layout, Take, find_level}
 use Rattle.definition.specs.World.{memory_bytes, record_at}
+use Rattle.level.specs.declared.Level.{Level}
+use Rattle.level.specs.Level.{rank}
 use Rattle.record.specs.Records.{pages_in, with_bytes}
 use Rattle.words.specs.Words.{board_in, rows_in}
 use Rattle.region.specs.Rep.{Inside}
@@ -46,9 +48,9 @@ pub record Granted : Type 0 where
 
 module _ (board : Board) where
   -- the refusal that a layout meets on every store that the table stands for, and where it meets none the level that it gets
-  pub record Wants (f : ℕ → Record) (n : ℕ) (rows : List Row) (y : Layout) (x : Result ℕ Refusal) : Type 0 where
+  pub record Wants (f : ℕ → Record) (n : ℕ) (rows : List Row) (y : Layout) (x : Result Level Refusal) : Type 0 where
     pub refusal : (s : Store) → Table board f n rows s.allocator → refusal_of board s (Alloc y) ≡ refusal_in x
-    pub found : (l : ℕ) → x ≡ Ok l → (l ≡ find_level board y) × (l < 3)
+    pub found : (l : Level) → x ≡ Ok l → rank l ≡ find_level board y
 
   -- the state, the records and the memory's bytes stand for the store s, but for its queue and its pass
   pub record Lends (f : ℕ → Record) (n : ℕ) (st : State) (bytes : List ℕ) (s : Store) : Type 0 where
@@ -108,7 +110,7 @@ module _ (board : Board) where
 
 -- ---- the same of the lent words and records
 
-abbrev pub WantsIn : (words records : List ℕ) → Layout → Result ℕ Refusal → Type 0
+abbrev pub WantsIn : (words records : List ℕ) → Layout → Result Level Refusal → Type 0
 WantsIn words records y x = Wants (board_in words) (record_at records) (pages_in records) (rows_in words) y x
 
 abbrev pub granted_in : MayBe GrantedFrame → Counters → (words : List ℕ) → Granted

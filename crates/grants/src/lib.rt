@@ -9,6 +9,7 @@ ghost use Rattle.definition.specs.Frame.{size as pages_of};
 ghost use Rattle.definition.specs.Tracker.{count_alloc, try_alloc_frame, try_alloc_split_frames};
 ghost use Rattle.definition.specs.Calls.{Alloc, Take};
 ghost use Rattle.definition.specs.World.{record_at};
+ghost use Rattle.level.specs.Level.{rank};
 ghost use Rattle.record.specs.Records.{pages_in};
 ghost use Rattle.words.specs.Words.{board_in, Long, rows_in, Beside};
 ghost use Rattle.allocator.specs.Spots.{HeldIn, TurnsIn, mark_at, number_in};
@@ -29,6 +30,7 @@ ghost use Rattle.grants.specs.Granting.{
 use allocator::Spot;
 use definition::{Board, Counters, FrameAllocFlags, Refusal};
 use exam::{Answer, Reply};
+use level::Level;
 
 // ---- which refusal a layout meets
 
@@ -39,12 +41,12 @@ fn wanted(
     size: u64,
     align: u64,
     flags: FrameAllocFlags,
-) -> Result<usize, Refusal>
+) -> Result<Level, Refusal>
     requires { TableIn words.now records.now }
     ensures { WantsIn words.now records.now (record { size = size; align = align; flags = flags }) result }
 {
     let board = words::board_in(words);
-    let level = level::find_level(board, size, align)?.index();
+    let level = level::find_level(board, size, align)?;
     if allocator::is_listed(words, records, level) {
         return Ok(level);
     }
@@ -76,14 +78,14 @@ fn hand_over(
     records: &mut [u8],
     memory: &mut [u8],
     spot: Spot,
-    level: usize,
+    level: Level,
     flags: FrameAllocFlags,
 )
     requires table_in { TableIn words.now records.old }
     requires room_in { RoomIn words.now memory.old }
-    requires few { Few counters.old × (level < 3) }
+    requires few { Few counters.old }
     requires held_in { HeldIn records.old words.now spot }
-    ensures value { counters.new ≡ count_alloc (pages_of level) flags.kernel counters.old }
+    ensures value { counters.new ≡ count_alloc (pages_of (rank level)) flags.kernel counters.old }
     ensures memory_after { memory.new ≡ zeroed_bytes (board_in words.now)
         flags.zeroed (record_at records.old spot.page) spot.page memory.old }
     ensures turns_in { TurnsIn (mark_at false flags.kernel (number_in words.now spot))
@@ -92,7 +94,7 @@ fn hand_over(
     let board = words::board_in(words);
     zero_if_asked(board, records, memory, spot.page, flags.zeroed);
     allocator::set_marks(words, records, spot, false, flags.kernel);
-    *counters = tracker::count_alloc(*counters, level::pages_at(level), flags.kernel);
+    *counters = tracker::count_alloc(*counters, level.pages(), flags.kernel);
 }
 
 // The first address of a page of a row.
@@ -120,17 +122,17 @@ fn grant(
     words: &mut [u64],
     records: &mut [u8],
     memory: &mut [u8],
-    level: usize,
+    level: Level,
     flags: FrameAllocFlags,
 ) -> Option<Granted>
     requires table_in { TableIn words.old records.old }
     requires room_in { RoomIn words.old memory.old }
-    requires few { Few counters.old × (level < 3) }
+    requires few { Few counters.old }
     ensures finds { Finds (board_in words.old) (state_with counters.old words.old)
         (granted_in result counters.new words.new) }
     ensures holds { Holds (board_in words.old) (record_at records.new) (pages_in records.new)
         (granted_in result counters.new words.new) }
-    ensures gives_by { GivesBy (board_in words.old) (try_alloc_frame (board_in words.old) everywhere level flags)
+    ensures gives_by { GivesBy (board_in words.old) (try_alloc_frame (board_in words.old) everywhere (rank level) flags)
         (record_at records.old) (state_with counters.old words.old) memory.old
         (record_at records.new) (pages_in records.new) memory.new (granted_in result counters.new words.new) }
     ensures beside { Beside words.old words.new }
@@ -147,15 +149,15 @@ fn grant_split(
     words: &mut [u64],
     records: &mut [u8],
     memory: &mut [u8],
-    level: usize,
+    level: Level,
     flags: FrameAllocFlags,
 ) -> Option<Granted>
     requires table_in { TableIn words.old records.old }
     requires room_in { RoomIn words.old memory.old }
-    requires few { Few counters.old × (level < 3) }
+    requires few { Few counters.old }
     ensures finds { Finds (board_in words.old) (state_with counters.old words.old)
         (granted_in result counters.new words.new) }
-    ensures gives_by { GivesBy (board_in words.old) (try_alloc_split_frames (board_in words.old) everywhere level flags)
+    ensures gives_by { GivesBy (board_in words.old) (try_alloc_split_frames (board_in words.old) everywhere (rank level) flags)
         (record_at records.old) (state_with counters.old words.old) memory.old
         (record_at records.new) (pages_in records.new) memory.new (granted_in result counters.new words.new) }
     ensures beside { Beside words.old words.new }
@@ -166,10 +168,9 @@ fn grant_split(
 }
 
 // The answer to a grant: the frame's address and bytes, or two zeros where none was found.
-fn handed(board: Board, granted: Option<Granted>, level: usize) -> Reply
-    requires fit { Fit board }
-    requires level_bound { level < 3 }
-    ensures { result ≡ handed_def board granted level }
+fn handed(board: Board, granted: Option<Granted>, level: Level) -> Reply
+    requires { Fit board }
+    ensures { result ≡ handed_def board granted (rank level) }
 {
     let Some(granted) = granted else {
         return Reply {
@@ -179,7 +180,7 @@ fn handed(board: Board, granted: Option<Granted>, level: usize) -> Reply
     };
     Reply {
         address: granted.address,
-        bytes: (board.page * level::pages_at(level)) as u64,
+        bytes: level.size(board),
     }
 }
 

@@ -14,6 +14,7 @@ ghost use Rattle.leaves.specs.Contents.{inside, turns_if, filled, copied};
 
 use address::PhysAddr;
 use definition::{Board, Links, Pass, Record, Row};
+use level::Level;
 
 // Whether a loan of records has one for each of `count` pages, and at most 1,048,576.
 fn fits(records: &[u8], count: usize) -> bool
@@ -162,11 +163,11 @@ fn grant_all(
     board: Board,
     records: &mut [u8],
     words: &mut [u64],
-    level: usize,
+    level: Level,
     times: usize,
 ) -> usize
     requires sound_at { SoundAt board records.old 0 words.old 0 }
-    requires whole_at { (WholeAt board records.old 0 words.old 0) × (level < 3) }
+    requires whole_at { WholeAt board records.old 0 words.old 0 }
     ensures { result ≤ times }
 {
     for i in 0..times {
@@ -197,7 +198,13 @@ pub extern "C" fn leaves_grants(
     };
     let mut words = [0u64; words::STATE_WORDS];
     keep(&mut words, row);
-    grant_all(definition::standard(), records, &mut words, level, times)
+    grant_all(
+        definition::standard(),
+        records,
+        &mut words,
+        Level::at(level),
+        times,
+    )
 }
 
 // Lays a region out, and answers how many of its frames are small.

@@ -23,6 +23,7 @@ ghost use Rattle.definition.specs.Frame.{
   split as split_def,
 };
 ghost use Rattle.record.specs.Records.{pages_in};
+ghost use Rattle.level.specs.Level.{rank};
 ghost use Rattle.list.specs.Linked.{Out, Pushed, Sound};
 ghost use Rattle.words.specs.Words.{row_of, rows_in};
 ghost use Rattle.region.specs.Rep.{
@@ -58,6 +59,7 @@ ghost use Rattle.region.specs.Rep.{
 
 use address::PhysAddr;
 use definition::{Board, Links, Record, Row};
+use level::Level;
 // pop_back of the list `k`.
 fn pop(records: &mut [u8], first: usize, words: &mut [u64], index: usize, k: usize) -> Option<usize>
     requires sound_some { SoundSome records.old first words.old index }
@@ -71,7 +73,8 @@ fn pop(records: &mut [u8], first: usize, words: &mut [u64], index: usize, k: usi
     Some(page)
 }
 
-// The number of a level's list, dirty or zeroed.
+// The number of a level's list, dirty or zeroed. From here to `split` a level is its number, which stands in the records: as a `Level` it
+// is converted on the way, and a grant of a listed frame takes a third longer.
 fn slot(level: usize, zeroed: bool) -> usize
     requires { level < 3 }
     ensures { (result ≡ slot_def level zeroed) × (result < 6) }
@@ -218,17 +221,25 @@ pub fn allocate(
     first: usize,
     words: &mut [u64],
     index: usize,
-    level: usize,
+    level: Level,
     try_zero: bool,
     only_zero: bool,
 ) -> Option<usize>
     requires sound_at { SoundAt board records.old first words.old index }
-    requires whole_at { (WholeAt board records.old first words.old index) × (level < 3) }
+    requires whole_at { WholeAt board records.old first words.old index }
     ensures finds_at { FindsAt board records.old first words.old index records.new words.new result
-        (allocate_def everywhere level (levels_at records.old words.old index) try_zero only_zero) }
+        (allocate_def everywhere (rank level) (levels_at records.old words.old index) try_zero only_zero) }
     ensures whole_at_2 { WholeAt board records.new first words.new index }
 {
-    let page = do_allocate(records, first, words, index, level, try_zero, only_zero)?;
+    let page = do_allocate(
+        records,
+        first,
+        words,
+        index,
+        level.index(),
+        try_zero,
+        only_zero,
+    )?;
     let marks = record::marks(records, page);
     let held = record::set_allocated(marks);
     record::set_marks(records, page, held);
@@ -327,6 +338,7 @@ fn organize(
         (pages_in records.new) result (organize_def count (state_of (record_at records.old) row) first from count) }
     ensures whole_row { WholeRow board (record_at records.new) first result }
 {
+    // Not a `for`: each frame goes on by its own pages.
     let mut r = row;
     let mut at: usize = 0;
     while at < count {

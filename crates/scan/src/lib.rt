@@ -117,6 +117,7 @@ impl<'a> Region<'a> {
     {
         let mut page: usize = 0;
         let mut kernel: usize = 0;
+        // Not a `for`: each head goes on by its own pages.
         let mut at = self.past_free(self.base);
         while at < self.past {
             if record::is_free_page(self.records, at) {

@@ -1,5 +1,7 @@
--- `is_listed` meets its contract. The loop's invariant: some region lists a frame of the level or above exactly if one of those that are left does.
+-- `is_listed` meets its contract. The loop's invariant: some region lists a frame of the level or above exactly if one of those that are
+-- left does.
 use Rattle.definition.specs.World.{record_at}
+use Rattle.level.specs.Level.{rank}
 use Rattle.record.specs.Records.{pages_in}
 use Rattle.words.specs.Words.{board_in, rows_in}
 use Rattle.allocator.proofs.Arrays.{Onward}
@@ -7,4 +9,4 @@ use Rattle.allocator.proofs.Listing.{lists_in}
 use Rattle.allocator.proofs.is_listed.Given as goal
 
 abbrev pub invariant-loop-i : goal.invariant-loop-i
-invariant-loop-i l = Onward (board_in l.words) (record_at l.records) (pages_in l.records) (rows_in l.words) (lists_in l.level) l.i
+invariant-loop-i l = Onward (board_in l.words) (record_at l.records) (pages_in l.records) (rows_in l.words) (lists_in (rank l.level)) l.i

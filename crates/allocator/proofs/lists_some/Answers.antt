@@ -1,4 +1,5 @@
--- `lists_some` meets its contract. The loop's invariant: a list of the level or above holds a frame exactly if one of those that are left does.
+-- `lists_some` meets its contract. The loop's invariant: a list of the level or above holds a frame exactly if one of those that are left
+-- does.
 use mathlib.Core.Bool.{not}
 use mathlib.Core.Path.{sym, ap, ◌∙◌}
 use native.Mathlib.Omega.{arith}
@@ -7,6 +8,9 @@ use Rattle.definition.specs.Basics.{any}
 use Rattle.allocator.proofs.Arrays.{any_on, any_off, range_at, range_past}
 use Rattle.allocator.proofs.Listing.{counted_at}
 use Rattle.allocator.proofs.lists_some.Goals as goal
+
+pub loop-k-init : goal.loop-k-init
+loop-k-init c = rw c.index-k.ensures
 
 pub returns-then-row-k-ne0 : goal.returns-then-row-k-ne0
 returns-then-row-k-ne0 c =

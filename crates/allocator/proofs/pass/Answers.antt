@@ -1,10 +1,12 @@
--- `pass` meets its contract. The loop's invariant is `Gone`: the regions passed had nothing, so that the records and the rows are as they were.
+-- `pass` meets its contract. The loop's invariant is `Gone`: the regions passed had nothing, so that the records and the rows are as they
+-- were.
 use Prim.Native.Nat.{◌<◌}
 use mathlib.Core.Path.{◌≡◌, refl}
 use native.Mathlib.Omega.{arith}
 use lib.ListN.{length}
 use Rattle.world.proofs.Sheets.{good_few}
 use Rattle.definition.specs.World.{record_at, used_rows}
+use Rattle.level.proofs.Ranks.{rank_below}
 use Rattle.record.specs.Records.{pages_in}
 use Rattle.region.specs.Rep.{managed}
 use Rattle.words.specs.Words.{board_in, rows_in}
@@ -17,10 +19,10 @@ use Rattle.allocator.proofs.pass.Goals.{After-pages_at-pages, Else-pages-eq0}
 
 pub loop-i-init : goal.loop-i-init
 loop-i-init c =
-    record { rows = refl; rest = rows_beside_same; wide = refl; long = refl; gone = gone_none c.requires.long.1 c.requires.level_bound }
+    record { rows = refl; rest = rows_beside_same; wide = refl; long = refl; gone = gone_none c.requires.1 (rank_below c.args.level) }
 
 pub pages_at-pages-requires : goal.pages_at-pages-requires
-pages_at-pages-requires c = (omega (arith, c.requires.long.0, c.loop-i.invariant.wide), omega arith)
+pages_at-pages-requires c = (omega (arith, c.requires.0, c.loop-i.invariant.wide), omega arith)
 
 -- the pages of a turn's row, by the words that were given
 pages_are : (c : After-pages_at-pages) → c.pages_at-pages.result ≡ (row_at (rows_in c.args.words.now) c.loop-i.i).pages
@@ -36,11 +38,13 @@ returns-then-pages-eq0 c =
 
 -- a row that has pages is in use
 used : (c : Else-pages-eq0) → c.loop-i.i < length (used_rows (rows_in c.args.words.now))
-used c = gone_here c.loop-i.invariant.gone c.loop-i-test.true (rw (pages_are (goal.at.Else-pages-eq0 c).After-pages_at-pages) at c.if-pages-eq0.false)
+used c = gone_here c.loop-i.invariant.gone c.loop-i-test.true
+    (rw (pages_are (goal.at.Else-pages-eq0 c).After-pages_at-pages) at c.if-pages-eq0.false)
 
 good
     : (c : Else-pages-eq0)
-    → Good (board_in c.args.words.now) (record_at c.loop-i.records) (pages_in c.loop-i.records) c.loop-i.base (row_at (rows_in c.args.words.now) c.loop-i.i)
+    → Good (board_in c.args.words.now) (record_at c.loop-i.records) (pages_in c.loop-i.records) c.loop-i.base
+    (row_at (rows_in c.args.words.now) c.loop-i.i)
 good c = gone_good c.loop-i.invariant.gone (used c)
 
 -- the board that it is searched with
@@ -54,8 +58,8 @@ allocate-got-requires c =
     let g = good e in
     let u = in_use c.loop-i.words c.loop-i.i (omega arith) (rw c.pages_at-pages.ensures at c.if-pages-eq0.false) in
     rw (I.rows, board_is e) record {
-      sound_at = ((omega (arith, c.requires.long.0, I.wide), omega arith, u), g.sound);
-      whole_at = (g.whole, I.gone.few);
+      sound_at = ((omega (arith, c.requires.0, I.wide), omega arith, u), g.sound);
+      whole_at = g.whole;
     }
 
 pub returns-in-Some : goal.returns-in-Some

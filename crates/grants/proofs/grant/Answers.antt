@@ -1,5 +1,6 @@
 -- The search leaves a table; where it found a frame, that is held in it, and handing it over makes the grant.
 use native.Mathlib.Omega.{arith}
+use Rattle.level.specs.Level.{rank}
 use Rattle.words.proofs.Words.{board_beside}
 use Rattle.grants.proofs.Giving.{
   finds_some,
@@ -21,7 +22,7 @@ returns-in_err-spot-clause-holds c =
     let y = c.do_alloc in
     let P = rw y.auto.records at y.ensures.picks_in in
     rw (c.from_residual.ensures, y.auto.records)
-    (holds_none a.counters.now a.words.now y.new.words a.level a.flags P c.requires.table_in.1)
+    (holds_none a.counters.now a.words.now y.new.words (rank a.level) a.flags P c.requires.table_in.1)
 
 pub returns-in_err-spot-clause-gives_by : goal.returns-in_err-spot-clause-gives_by
 returns-in_err-spot-clause-gives_by c =
@@ -29,7 +30,7 @@ returns-in_err-spot-clause-gives_by c =
     let y = c.do_alloc in
     let P = rw y.auto.records at y.ensures.picks_in in
     rw (c.from_residual.ensures, y.auto.records)
-    (gives_none a.counters.now a.words.now y.new.words a.level a.flags P a.memory.now c.in_err-spot.was)
+    (gives_none a.counters.now a.words.now y.new.words (rank a.level) a.flags P a.memory.now c.in_err-spot.was)
 
 pub address_of-address-requires : goal.address_of-address-requires
 address_of-address-requires c =
@@ -65,9 +66,10 @@ returns c =
     let same = board_beside B.beside in
     let T = rw (same, z.auto.records, y.auto.records) at z.ensures.turns_in in
     rw (z.auto.records, y.auto.records) record {
-      finds = finds_some a.counters.now a.words.now y.new.words a.level a.flags P found z.ensures.value T x.result B (rw same at x.ensures);
-      holds = holds_some a.counters.now a.words.now y.new.words a.level a.flags P found z.ensures.value T x.result S;
-      gives_by = gives_some a.counters.now a.words.now y.new.words a.level a.flags P found z.ensures.value T x.result a.memory.now
+      finds = finds_some a.counters.now a.words.now y.new.words (rank a.level) a.flags P found z.ensures.value T x.result B
+          (rw same at x.ensures);
+      holds = holds_some a.counters.now a.words.now y.new.words (rank a.level) a.flags P found z.ensures.value T x.result S;
+      gives_by = gives_some a.counters.now a.words.now y.new.words (rank a.level) a.flags P found z.ensures.value T x.result a.memory.now
           z.new.memory (rw same at z.ensures.memory_after);
       beside = B.beside;
     }

@@ -1,5 +1,6 @@
 -- The frame that is handed over is held, so its bytes and its record are of the table; the counters have room for its pages.
 use native.Mathlib.Omega.{arith}
+use Rattle.level.proofs.Ranks.{rank_below}
 use Rattle.level.proofs.Sizes.{size_most}
 use Rattle.grants.proofs.Giving.{held_level, held_room, page_in_lem}
 use Rattle.grants.proofs.hand_over.Goals as goal
@@ -17,5 +18,5 @@ zero_if_asked-requires c =
 pub count_alloc-requires : goal.count_alloc-requires
 count_alloc-requires c =
     let p = c.requires.few in
-    let few = size_most p.1 in
-    (omega (arith, p.0.kernel, c.pages_at.ensures, few), omega (arith, p.0.page, c.pages_at.ensures, few))
+    let few = size_most (rank_below c.args.level) in
+    (omega (arith, p.kernel, c.pages.ensures, few), omega (arith, p.page, c.pages.ensures, few))

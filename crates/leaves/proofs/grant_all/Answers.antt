@@ -9,14 +9,14 @@ loop-i-init c =
     record {
       used = p.sound_at.0;
       sound = p.sound_at.1;
-      whole = p.whole_at.0;
+      whole = p.whole_at;
     }
 
 pub allocate-requires : goal.allocate-requires
 allocate-requires c =
     let v = c.loop-i.invariant in record {
       sound_at = (v.used, v.sound);
-      whole_at = (v.whole, c.requires.whole_at.1);
+      whole_at = v.whole;
     }
 
 pub loop-i-preserved : goal.loop-i-preserved

@@ -4,6 +4,8 @@ use Rattle.definition.specs.Basics.{everywhere}
 use Rattle.definition.specs.Frame.{Found, allocate}
 use Rattle.definition.specs.World.{record_at}
 use Rattle.definition.specs.declared.Row.{Row}
+use Rattle.level.specs.Level.{rank}
+use Rattle.level.proofs.Ranks.{rank_below}
 use Rattle.record.specs.Records.{pages_in}
 use Rattle.words.specs.Words.{row_of, rows_in}
 use Rattle.region.specs.Rep.{Whole, from_of, searched, state_of}
@@ -17,10 +19,12 @@ abbrev row : Start → Row
 row s = row_of (rows_in s.args.words.now) s.args.index
 
 abbrev answer : Start → Found
-answer s = allocate everywhere s.args.level (state_of (record_at s.args.records.now) (row s)) s.args.try_zero s.args.only_zero
+answer s = allocate everywhere (rank s.args.level) (state_of (record_at s.args.records.now) (row s)) s.args.try_zero s.args.only_zero
 
 whole : (s : Start) → Whole s.args.board (answer s).levels none (from_of s.args.board (row s)) s.args.first (row s).pages
-whole s = whole_allocate s.args.level s.args.try_zero s.args.only_zero (rep_kept s.requires.sound_at.1) s.requires.whole_at.0 s.requires.whole_at.1
+whole s =
+    whole_allocate (rank s.args.level) s.args.try_zero s.args.only_zero (rep_kept s.requires.sound_at.1) s.requires.whole_at
+    (rank_below s.args.level)
 
 granted
     : (c : In_ok-page) → let e = c.do_allocate.new in
@@ -28,17 +32,17 @@ granted
     (record_at e.records) (pages_in e.records)
     (searched e.words c.args.index c.do_allocate.result) c.in_ok-page.page (answer (goal.at.In_ok-page c).Start)
 granted c =
-    grants c.args.try_zero c.args.only_zero c.requires.sound_at.1 c.requires.whole_at.0 c.requires.whole_at.1
-    (c.do_allocate.ensures c.args.board c.requires.sound_at c.requires.whole_at.0).0 c.in_ok-page.was
+    grants c.args.try_zero c.args.only_zero c.requires.sound_at.1 c.requires.whole_at (rank_below c.args.level)
+    (rw c.index.ensures at (c.do_allocate.ensures c.args.board c.requires.sound_at c.requires.whole_at)).0 c.in_ok-page.was
 
 pub do_allocate-requires : goal.do_allocate-requires
-do_allocate-requires c = (c.args.board, c.requires.sound_at, c.requires.whole_at.0)
+do_allocate-requires c = (c.args.board, c.requires.sound_at, c.requires.whole_at)
 
 pub returns-in_err-page : goal.returns-in_err-page
 returns-in_err-page c =
-    let e = c.do_allocate.ensures c.args.board c.requires.sound_at c.requires.whole_at.0 in
+    let e = rw c.index.ensures at (c.do_allocate.ensures c.args.board c.requires.sound_at c.requires.whole_at) in
     let g =
-    not_granted c.args.try_zero c.args.only_zero c.requires.sound_at.1 c.requires.whole_at.0 c.requires.whole_at.1 e.0 c.in_err-page.was
+    not_granted c.args.try_zero c.args.only_zero c.requires.sound_at.1 c.requires.whole_at (rank_below c.args.level) e.0 c.in_err-page.was
     in
     rw (c.from_residual.ensures, ← c.in_err-page.was) record {
       finds_at = (g, e.1);
@@ -59,6 +63,6 @@ returns c =
     let m = c.set_marks in
     let g = (granted (goal.at.returns c).In_ok-page).answers in
     rw (← c.in_ok-page.was, m.ensures.records, m.auto.records, c.set_allocated-held.ensures, c.marks-marks.ensures) record {
-      finds_at = (g, (c.do_allocate.ensures c.args.board c.requires.sound_at c.requires.whole_at.0).1);
+      finds_at = (g, (rw c.index.ensures at (c.do_allocate.ensures c.args.board c.requires.sound_at c.requires.whole_at)).1);
       whole_at_2 = row_whole g.became (whole (goal.at.returns c).Start);
     }
