@@ -1,6 +1,6 @@
 -- What the calls that change the counters, or nothing, make of a store (`Made`), over plain worlds. `stats_text` is for a caller who made
 -- the torn test: the text that definition's `call` answers is that of the counters that the world has.
-use Prim.Native.Nat.{ℕ, ◌-◌, ◌≤◌, ◌<◌}
+use Prim.Native.Nat.{ℕ, ◌+◌, ◌≤◌, ◌<◌}
 use mathlib.Core.Bool.{Bool, true, cond}
 use mathlib.Core.List.{List}
 use mathlib.Core.Option.{none, some}
@@ -9,7 +9,8 @@ use Rattle.std.specs.Prelude.{Ok, Err}
 use native.Mathlib.Omega.{arith}
 use borrow.Author.Tests.{lt-ltb, le-ltb}
 use lib.Dec.{ltb}
-use lib.ListN.{length}
+use lib.ListN.{take, drop, length}
+use lib.Seq.{take-append_seam}
 use Rattle.definition.specs.declared.Counters.{Counters}
 use Rattle.definition.specs.declared.Refusal.TheVariants.{PagerLow}
 use Rattle.definition.specs.Basics.{bit}
@@ -19,6 +20,7 @@ use Rattle.definition.specs.Store.{Store, with_counters}
 use Rattle.definition.specs.Torn.{Left, call, sound}
 use Rattle.definition.specs.Tracker.{should_reclaim, track_frame_pager, tracker_stats, untrack_frame_pager}
 use Rattle.definition.specs.World.{World, decode}
+use Rattle.record.specs.Records.{with_bytes}
 use Rattle.text.specs.Writing.{Wrote}
 use Rattle.audit.proofs.Sheets.{sound_is}
 use Rattle.world.specs.Refusals.{refusal_of}
@@ -85,11 +87,18 @@ module _ {board : Board} {w : World} {s : Store} (H : Whole board w s) where
 
 -- ---- the statistics
 
+module _ {out text out' : List ℕ} {n : ℕ} (x : Wrote out 0 text out' n) where
+  -- a text that was written from the first byte on
+  long : n ≡ length text
+  long = omega (arith, x.after)
+
+  text_written : take n out' ≡ text
+  unfolding with_bytes
+  text_written = rw (x.bytes, long) (take-append_seam text (drop (0 + length text) out))
+
 pub reports_written
-    : {k : Counters} {bs bs' : List ℕ} {at next : ℕ} → Wrote bs at (tracker_stats k) bs' next → Reports k bs at bs' next
-reports_written {k = k} {at = at} {next = next} x =
-    let long : next - at ≡ length (tracker_stats k) = omega (arith, x.after) in
-    record { makes = λ ws rs m q s H. rw long (stats_made H); wrote = x }
+    : {k : Counters} {out text : List ℕ} {n : ℕ} → Wrote out 0 (tracker_stats k) text n → Reports k (record { len = n; text = text })
+reports_written x = record { makes = λ ws rs m q s H. rw (long x) (stats_made H); text = text_written x }
 
 module _ (board : Board) where
   pub stats_text : (w : World) → sound board w ≡ true → text_of (call board w Stats).answer ≡ tracker_stats w.counters

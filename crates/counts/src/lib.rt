@@ -2,7 +2,7 @@
 // definition's `step` (exam/specs/Making.antt).
 #![tactic(auto)]
 
-ghost use Rattle.std.specs.Prelude.{Ok, ◌≡◌, ◌+◌, ◌≤◌, length};
+ghost use Rattle.std.specs.Prelude.{Ok, ◌≡◌, ◌≤◌};
 ghost use Rattle.definition.specs.Calls.{Lend, Back, Low};
 ghost use Rattle.exam.specs.Making.{Few, Counts, Weighs};
 ghost use Rattle.counts.specs.Counting.{outstanding, Reports};
@@ -54,12 +54,20 @@ pub fn low(counters: Counters, words: &[u64]) -> Reply
     }
 }
 
-// print_tracker_stats, tracker.rs 235: the statistics as text, from `at` on, and the place behind them.
-pub fn stats(counters: Counters, text: &mut [u8], at: usize) -> usize
-    requires few { Few counters }
-    requires room { at + 368 ≤ length text.old }
-    ensures reports { Reports counters text.old at text.new result }
-    ensures upper_bound { result ≤ at + 368 }
+// The statistics as text: the first `len` bytes of `text` are it.
+#[derive(Clone, Copy)]
+pub struct Report {
+    pub len: usize,
+    pub text: [u8; 368],
+}
+
+// print_tracker_stats, tracker.rs 235.
+pub fn stats(counters: Counters) -> Report
+    requires { Few counters }
+    ensures reports { Reports counters result }
+    ensures len_bound { result.len ≤ 368 }
 {
-    tracker::print_tracker_stats(text, at, counters)
+    let mut text = [0u8; 368];
+    let len = tracker::print_tracker_stats(&mut text, 0, counters);
+    Report { len, text }
 }

@@ -1,6 +1,6 @@
 -- What the calls that answer by bytes promise at the door, from what they promise of every store: `Reports` of the statistics, `Finds` and
 -- `Lends` of a read.
-use Prim.Native.Nat.{ℕ}
+use Prim.Native.Nat.{ℕ, ◌≤◌}
 use mathlib.Core.List.{List}
 use mathlib.Core.Path.{◌≡◌, refl, sym, ap, ◌∙◌}
 use Rattle.std.specs.Prelude.{Result, Ok, Err, ⊤}
@@ -17,6 +17,7 @@ use Rattle.exam.specs.Making.{Tests, world}
 use Rattle.exam.specs.Promise.{refusal_in}
 use Rattle.exam.proofs.Making.{sound_whole}
 use Rattle.copies.specs.Copies.{FindsIn}
+use Rattle.counts.specs.declared.Report.{Report}
 use Rattle.counts.specs.Counting.{Reports as Reported}
 use Rattle.counts.proofs.Recounted.{stats_text}
 use Rattle.door.specs.Tested.{Finds, Lends, Reports}
@@ -36,10 +37,10 @@ module _ {k : Counters} {ws rs m q : List ℕ} where
           bytes = λ at e. absurd (grind arith);
         }
 
-    pub reports_torn : {text : List ℕ} {at : ℕ} → Reports (board_in ws) (world k ws rs m q) text at text (Err r)
+    pub reports_torn : Reports (board_in ws) (world k ws rs m q) (Err r)
     reports_torn =
         let L = leaves_torn T Stats in
-        record { world = L.world; answer = L.answer; refused = λ e s. refl; wrote = λ next e. absurd (grind arith) }
+        record { world = L.world; answer = L.answer; text = λ p e. absurd (grind arith); len_bound = λ p e. absurd (grind arith) }
 
   -- ---- passed
 
@@ -60,18 +61,16 @@ module _ {k : Counters} {ws rs m q : List ℕ} where
               F.bytes at e k m q (decode (board_in ws) w) (sound_whole w P.is_sound P.bytes) ∙ rw P.is_sound refl;
         }
 
-    pub reports_passed
-        : {text text2 : List ℕ} {at next : ℕ} → Reported k text at text2 next
-        → Reports (board_in ws) (world k ws rs m q) text at text2 (Ok next)
-    reports_passed {text} {text2} {at} {next} R =
+    pub reports_passed : {p : Report} → Reported k p → p.len ≤ 368 → Reports (board_in ws) (world k ws rs m q) (Ok p)
+    reports_passed {p} R h =
         let P = passed T in
         let L = leaves_passed T {c = Stats} (R.makes ws rs m q) in
         record {
           world = L.world;
           answer = L.answer;
-          refused = λ r e. absurd (grind arith);
-          wrote = λ n e.
-              let same : next ≡ n = grind arith in rw (← same, stats_text (board_in ws) (world k ws rs m q) P.is_sound) R.wrote;
+          text = λ r e.
+              let same : p ≡ r = cc in rw (← same, stats_text (board_in ws) (world k ws rs m q) P.is_sound) R.text;
+          len_bound = λ r e. let same : p ≡ r = cc in rw (← same) h;
         }
 
 -- ---- the part that is lent

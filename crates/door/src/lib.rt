@@ -3,7 +3,7 @@
 // makes most, and those that take or give bytes, go straight.
 #![tactic(auto)]
 
-ghost use Rattle.std.specs.Prelude.{◌+◌, ◌≤◌, get_or, length};
+ghost use Rattle.std.specs.Prelude.{get_or};
 ghost use Rattle.definition.specs.Calls.{Alloc, Free, Find, Write, Read};
 ghost use Rattle.words.specs.Words.{board_in, Long, Beside};
 ghost use Rattle.exam.specs.Promise.{Leaves};
@@ -12,6 +12,7 @@ ghost use Rattle.lines.specs.Reading.{call_of};
 ghost use Rattle.door.specs.Tested.{Finds, Lends, Reports, lent};
 
 use address::PhysAddr;
+use counts::Report;
 use definition::{Counters, FrameAllocFlags, Refusal};
 use exam::Answer;
 use lines::Ask;
@@ -165,22 +166,18 @@ pub fn read<'a>(
     Ok(contents::part(memory, at, len as usize))
 }
 
-// The statistics, written into `text` from `at` on, and the place behind them.
+// The statistics.
 pub fn stats(
     counters: Counters,
     words: &[u64],
     records: &[u8],
     memory: &[u8],
     queue: &[u64],
-    text: &mut [u8],
-    at: usize,
-) -> Result<usize, Refusal>
-    requires long { Long words.now }
-    requires room { at + 368 ≤ length text.old }
+) -> Result<Report, Refusal>
+    requires { Long words.now }
     ensures { Reports (board_in words.now)
-        (world counters words.now records.now memory.now queue.now)
-        text.old at text.new result }
+        (world counters words.now records.now memory.now queue.now) result }
 {
     exam::torn_test(counters, words, records, memory, queue)?;
-    Ok(counts::stats(counters, text, at))
+    Ok(counts::stats(counters))
 }

@@ -19,6 +19,7 @@ use Rattle.definition.specs.Torn.{Left, boot_call, call}
 use Rattle.definition.specs.Tracker.{tracker_stats}
 use Rattle.definition.specs.World.{World}
 use Rattle.boot.specs.Booting.{Boots, BootsAll}
+use Rattle.counts.specs.declared.Report.{Report}
 use Rattle.counts.specs.Counting.{Reports}
 use Rattle.exam.specs.Promise.{Answer, State, Leaves}
 use Rattle.lines.specs.declared.Ask.{Ask as Op}
@@ -131,16 +132,17 @@ module _ (board : Board) where
 
 module _ (board : Board) where
   -- the statistics leave all as it is
-  pub turned_stats : {k : RunningOf} {out out' : List ℕ} {at n : ℕ} → k.booted ≡ true → Reports k.counters out at out' n
-      → TellsAny board k out at out' n
-  turned_stats {k} late R ws l sure small =
+  pub turned_stats
+      : {k : RunningOf} {out out' : List ℕ} {at n : ℕ} {p : Report} → k.booted ≡ true → Reports k.counters p
+      → Wrote out at (take p.len p.text) out' n → TellsAny board k out at out' n
+  turned_stats {k} late R w ws l sure small =
       let r : Running = running_with k ws in
       let v : World = world_by r.state l in
       let e : call board v Stats ≡ record { world = v; answer = Text (tracker_stats k.counters) } =
       stats_call board v (sure late) small
       in
       turned_as board {r = r} {l = l} (bytes_of "stats") Stats late (ap (λ (x : Left). x.world) e)
-      (wrote_as (sym (ap (λ (x : Left). answer_line (bytes_of "stats") x.answer) e)) R.wrote)
+      (wrote_as (R.text ∙ sym (ap (λ (x : Left). answer_line (bytes_of "stats") x.answer) e)) w)
 
 -- ---- the line
 

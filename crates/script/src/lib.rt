@@ -210,7 +210,8 @@ fn stats_now(running: &Running, answer: &mut [u8], at: usize) -> usize
     if !running.booted {
         return bad(answer, at);
     }
-    counts::stats(running.counters, answer, at)
+    let report = counts::stats(running.counters);
+    text::put_text(answer, at, &report.text[..report.len])
 }
 
 // A call tests nothing of the loans: they are the run's own, and are sound from the accepted boot on.

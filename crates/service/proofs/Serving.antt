@@ -1,5 +1,5 @@
 -- What it says of the loans that they are a state's, and what a call over them leaves and answers, by what it leaves of the world and answers there.
-use Prim.Native.Nat.{ℕ, ◌-◌, ◌≤◌, ◌<◌}
+use Prim.Native.Nat.{ℕ, ◌≤◌, ◌<◌}
 use mathlib.Core.Bool.{Bool, true, false, cond, and-false}
 use mathlib.Core.List.{List, [], ◌∷◌}
 use mathlib.Core.Option.{Option, none, some}
@@ -7,7 +7,7 @@ use mathlib.Core.Path.{◌≡◌, refl, sym, ap, ◌∙◌}
 use native.Mathlib.Omega.{arith}
 use borrow.Author.Tests.{leb-true, le-leb, lt-leb, ne_eqb}
 use lib.Dec.{leb}
-use lib.ListN.{length}
+use lib.ListN.{length, take}
 use Rattle.definition.specs.declared.Counters.{Counters}
 use Rattle.definition.specs.declared.MemoryRegion.{MemoryRegion}
 use Rattle.definition.specs.declared.Refusal.{Refusal}
@@ -25,6 +25,7 @@ use Rattle.exam.specs.Promise.{Answer, state_with, world_of, Leaves, reply, told
 use Rattle.boot.specs.Booting.{Boots as BootsOf, BootsOver}
 use Rattle.std.specs.Prelude.{Result, Ok, Err, ⊤, is_ok}
 use Rattle.world.proofs.Calling.{numbered}
+use Rattle.counts.specs.declared.Report.{Report}
 use Rattle.counts.specs.Counting.{text_of}
 use Rattle.door.specs.Tested.{Finds, Reports as ReportsOf}
 use Rattle.service.specs.Serving.{
@@ -227,17 +228,17 @@ unfolding with_bytes
 with_none bs = refl
 
 module _ (l : Lent) (text : List ℕ) where
-  module _ (k : Counters) {text' : List ℕ} {x : Result ℕ Refusal} (R : ReportsOf (board_in l.words) (world_with k l) text 0 text' x)
-      (h : 368 ≤ length text) (e : is_lent l ≡ true)
+  module _ (k : Counters) {x : Result Report Refusal} (R : ReportsOf (board_in l.words) (world_with k l) x) (h : 368 ≤ length text)
+      (e : is_lent l ≡ true)
     where
       -- the statistics are refused
-      pub reports_not : (r : Refusal) → x ≡ Err r → ReportsWith k l text k l text' (number_of r)
+      pub reports_not : (r : Refusal) → x ≡ Err r → ReportsWith k l text k l text (number_of r)
       unfolding tells
       reports_not r z =
           let n = le-leb 368 (length text) h in
           record {
             loans = rw n (serves_with l k (record { world = R.world; answer = rw z at R.answer }) refl refl e refl beside_same);
-            report = rw (n, e) (R.refused r z ∙ no_text);
+            report = rw (n, e) no_text;
           }
         where
           none_told : text_of (call (board_in l.words) (world_with k l) Stats).answer ≡ []
@@ -247,14 +248,14 @@ module _ (l : Lent) (text : List ℕ) where
           no_text = rw none_told (sym (with_none text))
 
       pub reports
-          : (next : ℕ) → x ≡ Ok next → {answer : List ℕ} → answer ≡ tells (Ok (reply 0 next)) l.answer
+          : (p : Report) → x ≡ Ok p → {answer text' : List ℕ} → answer ≡ tells (Ok (reply 0 p.len)) l.answer
+          → text' ≡ with_bytes text 0 (take p.len p.text)
           → ReportsWith k l text k (besides l l.records l.memory l.queue answer) text' 0
-      reports next z t =
+      reports p z t b =
           let n = le-leb 368 (length text) h in
-          let d : next - 0 ≡ next = omega arith in
           record {
-            loans = rw n (serves_with l k (record { world = R.world; answer = rw (z, d) at R.answer }) t refl e refl beside_same);
-            report = rw (n, e) (R.wrote next z).bytes;
+            loans = rw n (serves_with l k (record { world = R.world; answer = rw z at R.answer }) t refl e refl beside_same);
+            report = rw (n, e) (b ∙ ap (with_bytes text 0) (R.text p z));
           }
 
   pub reports_in_words : {records memory queue answer text' : List ℕ} {r : ℕ} → is_lent l ≡ true

@@ -302,12 +302,13 @@ pub fn serve_stats_with(
     if text.len() < 368 || !is_lent(words, answer) {
         return Err(Refusal::Torn);
     }
-    let len = door::stats(counters, words, records, memory, queue, text, 0)?;
+    let report = door::stats(counters, words, records, memory, queue)?;
+    text::put_text(text, 0, &report.text[..report.len]);
     tell(
         answer,
         Ok(Reply {
             address: 0,
-            bytes: len as u64,
+            bytes: report.len as u64,
         }),
     )
 }

@@ -9,4 +9,4 @@ returns-in_err-torn_test c =
     rw (p.1, p.2) (reports_torn c.in_err-torn_test.ensures)
 
 pub returns : goal.returns
-returns c = reports_passed c.in_ok-torn_test.ensures c.stats.ensures.reports
+returns c = reports_passed c.in_ok-torn_test.ensures c.stats.ensures.reports c.stats.ensures.len_bound

@@ -12,4 +12,4 @@ returns-then-not-running-clause-tells_any c ws l sure small =
     does program_board (Ask Stats) (bytes_of "stats") false c.if-not-running.true (c.bad.ensures.bad_any _ ws l)
 
 pub returns-clause-tells_any : goal.returns-clause-tells_any
-returns-clause-tells_any c = turned_stats program_board c.if-not-running.false c.stats.ensures.reports
+returns-clause-tells_any c = turned_stats program_board c.if-not-running.false c.stats-report.ensures.reports c.put_text.ensures

@@ -17,17 +17,17 @@ returns-then-text-lt368 c =
           reports_torn (is_lent l) (world_with k l) c.args.text.now e (serves_with_torn _ l k e)
     ]
 
-pub returns-in_err-len : goal.returns-in_err-len
-returns-in_err-len c =
+pub returns-in_err-report : goal.returns-in_err-report
+returns-in_err-report c =
     let l = loans_of c.args.words.now c.args.records.now c.args.memory.now c.args.queue.now c.args.answer.now in
     let p = err_from_is_err_and c.from_residual.result c.from_residual.ensures.1 in
     rw (p.1, p.2)
     (reports_not l c.args.text.now c.args.counters c.stats.ensures c.if-text-lt368.false (sym c.is_lent.ensures ∙ c.if-not-is_lent.false)
-    _ c.in_err-len.was)
+    _ c.in_err-report.was)
 
 pub returns : goal.returns
 returns c =
     let l = loans_of c.args.words.now c.args.records.now c.args.memory.now c.args.queue.now c.args.answer.now in
     rw c.tell.ensures.0
     (reports l c.args.text.now c.args.counters c.stats.ensures c.if-text-lt368.false (sym c.is_lent.ensures ∙ c.if-not-is_lent.false)
-    c.in_ok-len.len c.in_ok-len.was c.tell.ensures.1)
+    c.in_ok-report.report c.in_ok-report.was c.tell.ensures.1 c.put_text.ensures.bytes)
