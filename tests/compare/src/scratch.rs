@@ -48,7 +48,7 @@ impl Scratch {
         // The definitions' own proofs are not compared, and would fail where a
         // definition is changed on purpose; the code beside them has its own.
         let copied: [(&str, &[&str]); 2] =
-            [("address", &["src", "proofs"]), ("definition", &["src", "specs", "proofs/rank_of"])];
+            [("address", &["src", "proofs"]), ("definition", &["src", "specs", "proofs/Refusal"])];
         for (name, parts) in copied {
             for part in parts {
                 let from = repository.join("crates").join(name).join(part);
