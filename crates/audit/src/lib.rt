@@ -93,24 +93,6 @@ pub fn total_pages(board: Board, rows: &[Row]) -> usize
     rows.iter().map(|row| row.pages).sum()
 }
 
-// Two rows in use share a page.
-fn used_overlap(words: &[u64], used: usize) -> bool
-    requires { Long words.now × (used ≡ length (used_rows (rows_in words.now))) }
-    ensures { result ≡ overlap (board_in words.now) (regions_of (board_in words.now) (rows_in words.now)) }
-{
-    let rows = words::rows_in(words);
-    overlaps(words::board_in(words), &rows[..used])
-}
-
-// No two rows in use share a page. A single row shares none, and then the rows are not read.
-fn apart(words: &[u64], used: usize) -> bool
-    requires { Long words.now × (used ≡ length (used_rows (rows_in words.now))) }
-    ensures { result ≡ not
-        (overlap (board_in words.now) (regions_of (board_in words.now) (rows_in words.now))) }
-{
-    used < 2 || !used_overlap(words, used)
-}
-
 // ---- "and the loans long enough"
 
 // The managed pages of rows in use.
@@ -137,6 +119,14 @@ pub fn loans_long(board: Board, rows: &[Row], records: usize, memory: usize) -> 
 
 // ---- the rows and their regions
 
+// What is lent of a state to be looked at: its words, which are enough for one, and its records.
+#[derive(Clone, Copy)]
+struct Lent<'a> {
+    words: &'a [u64],
+    records: &'a [u8],
+    ghost long: { Long words.now },
+}
+
 // What the rows up to one are found to be: how many are in use, their pages with the tables and without, and the pages that their regions
 // hold.
 #[derive(Clone, Copy)]
@@ -148,59 +138,74 @@ struct Surveyed {
     kernel: usize,
 }
 
-// The row in use behind those that were seen: that it is as boot makes it, that the loan has its records, and that its region is whole.
-fn visit(records: &[u8], words: &[u64], seen: Surveyed) -> Option<Surveyed>
-    requires { Few seen × Long words.now × (seen.used < 8) × (seen.used < used_in words.now) }
-    ensures { Visited (board_in words.now) (record_at records.now) (pages_in records.now)
-        (row_at (rows_in words.now) seen.used) seen result }
-{
-    let board = words::board_in(words);
-    let row = words::row_at(words, seen.used);
-    if !row_as_boot(board, row) {
-        return None;
+impl<'a> Lent<'a> {
+    // The row in use behind those that were seen: that it is as boot makes it, that the loan has its records, and that its region is whole.
+    fn visit(&self, seen: Surveyed) -> Option<Surveyed>
+        requires few { Few seen }
+        requires in_use { (seen.used < 8) × (seen.used < used_in self.now.words.now) }
+        ensures { Visited (board_in self.now.words.now) (record_at self.now.records.now) (pages_in self.now.records.now)
+            (row_at (rows_in self.now.words.now) seen.used) seen result }
+    {
+        let board = words::board_in(self.words);
+        let row = words::row_at(self.words, seen.used);
+        if !row_as_boot(board, row) {
+            return None;
+        }
+        let start = row.start;
+        let tables = region::table_pages(board, row.pages);
+        let past = seen.managed + (row.pages - tables);
+        if self.records.len() / 16 < past {
+            return None;
+        }
+        let held = scan::region_whole(
+            self.records,
+            start.page_number(board.page) + tables,
+            seen.managed,
+            past,
+            row,
+            self.words,
+            seen.used,
+        )?;
+        Some(Surveyed {
+            used: seen.used + 1,
+            total: seen.total + row.pages,
+            managed: past,
+            page: seen.page + held.page,
+            kernel: seen.kernel + held.kernel,
+        })
     }
-    let start = row.start;
-    let tables = region::table_pages(board, row.pages);
-    let past = seen.managed + (row.pages - tables);
-    if records.len() / 16 < past {
-        return None;
-    }
-    let held = scan::region_whole(
-        records,
-        start.page_number(board.page) + tables,
-        seen.managed,
-        past,
-        row,
-        words,
-        seen.used,
-    )?;
-    Some(Surveyed {
-        used: seen.used + 1,
-        total: seen.total + row.pages,
-        managed: past,
-        page: seen.page + held.page,
-        kernel: seen.kernel + held.kernel,
-    })
-}
 
-// The rows in use, each looked at once, and behind them the unused ones, all zeros.
-fn survey(records: &[u8], words: &[u64]) -> Option<Surveyed>
-    requires { Long words.now }
-    ensures { Surveys (board_in words.now) (record_at records.now) (pages_in records.now)
-        (rows_in words.now) result }
-{
-    let mut seen = Surveyed {
-        used: 0,
-        total: 0,
-        managed: 0,
-        page: 0,
-        kernel: 0,
-    };
-    // `seen` counts the rows itself, up to the first that has no pages: a `for` would count them once more.
-    while seen.used < 8 && words::pages_at(words, seen.used) != 0 {
-        seen = visit(records, words, seen)?;
+    // The rows in use, each looked at once, and behind them the unused ones, all zeros.
+    fn survey(&self) -> Option<Surveyed>
+        ensures { Surveys (board_in self.now.words.now) (record_at self.now.records.now) (pages_in self.now.records.now)
+            (rows_in self.now.words.now) result }
+    {
+        let mut seen = Surveyed {
+            used: 0,
+            total: 0,
+            managed: 0,
+            page: 0,
+            kernel: 0,
+        };
+        // `seen` counts the rows itself, up to the first that has no pages: a `for` would count them once more.
+        while seen.used < 8 && words::pages_at(self.words, seen.used) != 0 {
+            seen = self.visit(seen)?;
+        }
+        words::is_no_rows(self.words, seen.used).then_some(seen)
     }
-    words::is_no_rows(words, seen.used).then_some(seen)
+
+    // No two rows in use share a page. A single row shares none, and then the rows are not read.
+    fn apart(&self, used: usize) -> bool
+        requires { used ≡ length (used_rows (rows_in self.now.words.now)) }
+        ensures { result ≡ not
+            (overlap (board_in self.now.words.now) (regions_of (board_in self.now.words.now) (rows_in self.now.words.now))) }
+    {
+        if used < 2 {
+            return true;
+        }
+        let rows = words::rows_in(self.words);
+        !overlaps(words::board_in(self.words), &rows[..used])
+    }
 }
 
 // ---- "idle, total, kernel and page counts equal those of the rows and records"
@@ -248,11 +253,12 @@ pub fn audit(
         (pass_in words.now) records.now memory_len queue_len result }
 {
     let board = words::board_in(words);
-    let Some(seen) = survey(records, words) else {
+    let lent = Lent { words, records };
+    let Some(seen) = lent.survey() else {
         return false;
     };
     seen.total <= 1048576
-        && apart(words, seen.used)
+        && lent.apart(seen.used)
         && board.page * seen.managed <= memory_len
         && counted(counters, seen)
         && within(

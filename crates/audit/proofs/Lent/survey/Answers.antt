@@ -9,30 +9,26 @@ use Rattle.words.proofs.Places.{in_use}
 use Rattle.audit.specs.Sheet.{row_at}
 use Rattle.audit.proofs.Arrays.{words_eight}
 use Rattle.audit.proofs.Surveying.{survey_none, torn_row, past_row, ends_before, ends_last, surveys}
-use Rattle.audit.proofs.survey.Goals as goal
-use Rattle.audit.proofs.survey.Goals.{Then-pages_at-ne0, then-loop-seen-test+else-pages_at-ne0, else-loop-seen-test}
+use Rattle.audit.proofs.Lent.survey.Goals as goal
+use Rattle.audit.proofs.Lent.survey.Goals.{Then-pages_at-ne0, then-loop-seen-test+else-pages_at-ne0, else-loop-seen-test}
 
 pub loop-seen-init : goal.loop-seen-init
 loop-seen-init c =
-    let a = c.args in
+    let a = c.args.self.now in
     survey_none (board_in a.words.now) (record_at a.records.now) (length a.records.now / 16) (rows_in a.words.now) (words_eight a.words.now)
 
 -- the row has pages
-has_pages : (c : Then-pages_at-ne0) → (row_at (rows_in c.args.words.now) c.loop-seen.seen.used).pages ≡ 0 → ⊥
+has_pages : (c : Then-pages_at-ne0) → (row_at (rows_in c.args.self.now.words.now) c.loop-seen.seen.used).pages ≡ 0 → ⊥
 has_pages c = rw c.pages_at.ensures at c.if-pages_at-ne0.true
 
-pub visit-requires : goal.visit-requires
-visit-requires c = (
-  c.loop-seen.invariant.few,
-  c.requires,
-  c.loop-seen-test.true,
-  in_use c.args.words.now c.loop-seen.seen.used c.loop-seen-test.true
-      (has_pages c),
-)
+pub visit-requires-clause-in_use : goal.visit-requires-clause-in_use
+visit-requires-clause-in_use c =
+    let h = c.loop-seen-test.true in
+    (h, in_use c.args.self.now.words.now c.loop-seen.seen.used h (has_pages (goal.at.visit-requires-clause-in_use c).Then-pages_at-ne0))
 
 pub returns-in_err-seen : goal.returns-in_err-seen
 returns-in_err-seen c =
-    let a = c.args in
+    let a = c.args.self.now in
     rw c.from_residual.ensures
     (torn_row (board_in a.words.now) (record_at a.records.now) (length a.records.now / 16) (rows_in a.words.now) c.loop-seen.seen
     c.loop-seen.invariant
@@ -40,7 +36,7 @@ returns-in_err-seen c =
 
 pub loop-seen-preserved : goal.loop-seen-preserved
 loop-seen-preserved c =
-    let a = c.args in
+    let a = c.args.self.now in
     past_row (board_in a.words.now) (record_at a.records.now) (length a.records.now / 16) (rows_in a.words.now) c.loop-seen.seen
     c.loop-seen.invariant
     c.loop-seen-test.true (has_pages (goal.at.loop-seen-preserved c).Then-pages_at-ne0) (fit_in a.words.now) c.in_ok-seen.seen
@@ -48,7 +44,7 @@ loop-seen-preserved c =
 
 pub returns : goal.returns
 returns c =
-    let a = c.args in
+    let a = c.args.self.now in
     let b = board_in a.words.now in
     let f = record_at a.records.now in
     let n = length a.records.now / 16 in
