@@ -168,7 +168,7 @@ pub struct Record {
 }
 
 // One list of free frames, numbered as neighbours are.
-#[derive(Clone, Copy)]
+#[derive(Clone, Copy, PartialEq, Eq)]
 pub struct Links {
     pub front: u32,
     pub back: u32,

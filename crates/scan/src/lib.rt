@@ -5,7 +5,7 @@
 
 ghost use Rattle.std.specs.Prelude.{◌≡◌, ℕ, ◌+◌, ◌-◌, ◌^◌, ◌<◌, ◌≤◌, ◌↔◌, true, IsTrue};
 ghost use Rattle.definition.specs.World.{record_at};
-ghost use Rattle.definition.specs.Torn.{is_no_links, listed_pages};
+ghost use Rattle.definition.specs.Torn.{listed_pages};
 ghost use Rattle.record.specs.Records.{pages_in};
 ghost use Rattle.words.specs.Words.{row_of, rows_in, InUse};
 ghost use Rattle.scan.specs.Sheet.{
@@ -153,11 +153,11 @@ fn list_kind(k: usize) -> u64
 }
 
 // An empty list, which walks.
-fn is_none(links: Links) -> bool
-    ensures { result ≡ is_no_links links }
-{
-    links.front == 0 && links.back == 0 && links.count == 0
-}
+const EMPTY: Links = Links {
+    front: 0,
+    back: 0,
+    count: 0,
+};
 
 impl<'a> Region<'a> {
     // The page that the number `at` names, where it is of the region and an unheld frame, whose marks and level are `kind`, with KERNEL or
@@ -245,7 +245,7 @@ impl<'a> Lists<'a> {
             result ≡ list_at (record_at r.records.now) r.base r.past (row_of (rows_in self.now.words.now) self.now.i).lists k }
     {
         let links = words::list_at(self.words, self.i, k);
-        is_none(links) || self.region.walk(k, links)
+        links == EMPTY || self.region.walk(k, links)
     }
 
     // Whether both lists of a level walk. Where both are empty, they are told together.

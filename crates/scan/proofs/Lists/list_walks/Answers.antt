@@ -5,11 +5,11 @@ use Rattle.words.specs.Words.{row_of, rows_in}
 use Rattle.scan.proofs.Ends.{none_walks}
 use Rattle.scan.proofs.Lists.list_walks.Goals as goal
 
-pub returns-then-is_none : goal.returns-then-is_none
-returns-then-is_none c =
+pub returns-then-eq : goal.returns-then-eq
+returns-then-eq c =
     let s = c.args.self.now in
     let r = s.region.now in
     let lists = (row_of (rows_in s.words.now) s.i).lists in
-    let e = c.if-is_none.true in
+    let e = c.if-eq.true in
     let l = c.list_at-links in
-    e ∙ sym (none_walks (record_at r.records.now) r.base r.past lists c.args.k l.result l.ensures (sym c.is_none.ensures ∙ e))
+    e ∙ sym (none_walks (record_at r.records.now) r.base r.past lists c.args.k l.result l.ensures (sym c.eq.ensures ∙ e))
