@@ -5,7 +5,7 @@ use Prim.Native.Nat.{ℕ, suc, ◌+◌, ◌-◌, ◌*◌, ◌≤◌, ◌<◌}
 use mathlib.Core.List.{List, [], ◌++◌, append_assoc, append-nil}
 use mathlib.Core.Path.{◌≡◌, refl, sym, ap, ◌∙◌}
 use native.Mathlib.Omega.{arith}
-use lib.ListN.{length, take, drop, replicate, take-append-drop, drop_of_length-le}
+use lib.ListN.{length, take, drop, take-append-drop, drop_of_length-le}
 use lib.Seq.{length-take-le}
 use Rattle.definition.specs.Board.{Fit}
 use Rattle.definition.specs.Board.{Board}
@@ -25,24 +25,22 @@ use Rattle.definition.specs.Script.{
 }
 use Rattle.definition.specs.Text.{bytes_of}
 use Rattle.definition.specs.World.{World}
-use Rattle.words.specs.Words.{state_words}
-use Rattle.exam.specs.Promise.{state_with}
 use Rattle.lines.specs.Reading.{NextLine}
 use Rattle.text.specs.Writing.{Wrote}
 use Rattle.theorems.proofs.Scripts.{script_printed}
-use Rattle.script.specs.declared.Running.{Running}
+use Rattle.script.specs.declared.Run.{Run}
+use Rattle.script.specs.Run.{Same}
 use Rattle.script.specs.Running.{
   Bounded,
   Fresh,
   Loans,
   Ran,
   RanAll,
+  Running,
   Stands,
   Turns,
   left_by,
   printed,
-  running_with,
-  turn_with,
   unbooted,
   world_by,
 }
@@ -63,93 +61,81 @@ one_less {s} {at} {end} {next} n =
 
 -- ---- on the way
 
+-- loans that stay the same ones twice
+pub same_then : {a b c : Run} → Same a b → Same b c → Same a c
+same_then S T =
+    record {
+      words = T.words ∙ S.words;
+      records = T.records ∙ S.records;
+      memory = T.memory ∙ S.memory;
+      queue = T.queue ∙ S.queue;
+      answer = T.answer ∙ S.answer;
+    }
+
 module _ (board : Board) where
   -- the run of the lines that are left
   abbrev onwards : RunningOn → List ℕ → ℕ → TurnOn
   onwards x script at = lines_on board x (lines (drop at script))
 
--- the loans are as long as they were
-pub record Same (l l' : Loans) : Type 0 where
-  pub records : length l'.records ≡ length l.records
-  pub memory : length l'.memory ≡ length l.memory
-  pub queue : length l'.queue ≡ length l.queue
-
 module _ (board : Board) where
-  pub record Going
-      (script : List ℕ) (l₀ : Loans) (out₀ : List ℕ) (w₀ : ℕ) (ws : List ℕ) (l : Loans) (out : List ℕ) (w : ℕ) (r : Running) (at : ℕ)
-      : Type 0 where
-    pub words : length ws ≡ state_words
-    pub loans : Same l₀ l
+  pub record Going (script : List ℕ) (r₀ r : Running) (at : ℕ) : Type 0 where
     pub within : at ≤ length script
     pub few : r.count ≤ at
-    pub long : length out ≡ length out₀
-    pub up : w₀ ≤ w
-    pub space : w + 512 * length (lines (drop at script)) ≤ length out
+    pub long : length r.answer ≡ length r₀.answer
+    pub up : r₀.at ≤ r.at
+    pub space : r.at + 512 * length (lines (drop at script)) ≤ length r.answer
     pub run : RunningOn
-    pub stands : Stands (running_with r ws) l run
+    pub stands : Stands r run
     pub reached : ReachedIn board run
-    pub text : take w out ++ (onwards board run script at).text ≡ header ++ (run_on board (world_by unbooted l₀) script).text
-    pub ends : (onwards board run script at).running ≡ (run_on board (world_by unbooted l₀) script).running
-    pub rest : (n : ℕ) → w ≤ n → n ≤ length out → drop n out ≡ drop n out₀
+    pub text : take r.at r.answer ++ (onwards board run script at).text ≡ header ++ (run_on board (world_by unbooted r₀.loans) script).text
+    pub ends : (onwards board run script at).running ≡ (run_on board (world_by unbooted r₀.loans) script).running
+    pub rest : (n : ℕ) → r.at ≤ n → n ≤ length r.answer → drop n r.answer ≡ drop n r₀.answer
 
 module _ {board : Board} where
   -- behind the header
   pub going
-      : {script ws : List ℕ} {l : Loans} {out out₀ : List ℕ} {w : ℕ} {r : Running}
-      → ws ≡ replicate state_words 0 → Wrote out 0 header out₀ w
-      → room script ≤ length out → Fresh (running_with r (replicate state_words 0))
-      → Going board script l out₀ w ws l out₀ w r 0
+      : {script out : List ℕ} {n : ℕ} {r : Running} → Wrote r.answer 0 header out n → room script ≤ length r.answer → Fresh r
+      → Going board script (record r { answer = out; at = n }) (record r { answer = out; at = n }) 0
   unfolding bytes_of
-  going {script} {ws} {l} {out} {out₀} {w} {r} z f h F =
-      let a : w ≡ 25 = f.after in
-      let n : length out₀ ≡ length out = wrote_long f (omega arith) in
+  going {script} {out} {n} {r} f h F =
+      let a : n ≡ 25 = f.after in
+      let k : length out ≡ length r.answer = wrote_long f (omega arith) in
       record {
-        words = ap length z;
-        loans = record { records = refl; memory = refl; queue = refl };
         within = omega arith;
         few = omega (arith, F.count);
         long = refl;
         up = omega arith;
         space = omega arith;
-        run = started_on (world_by unbooted l);
+        run = started_on (world_by unbooted r.loans);
         stands = record {
-          world = ap (λ s. world_by s l) (sym F.state) ∙ ap (λ (vs : List ℕ). world_by (state_with r.counters vs) l) (sym z);
+          world = ap (λ s. world_by s r.loans) (sym F.state);
           booted = sym F.booted;
           long = sym F.count;
           front = rw F.count refl;
         };
-        reached = started_reached (world_by unbooted l);
-        text = ap (λ (t : List ℕ). t ++ (run_on board (world_by unbooted l) script).text) (wrote_take f (omega arith));
+        reached = started_reached (world_by unbooted r.loans);
+        text = ap (λ (t : List ℕ). t ++ (run_on board (world_by unbooted r.loans) script).text) (wrote_take f (omega arith));
         ends = refl;
-        rest = λ k u v. refl;
+        rest = λ i u v. refl;
       }
 
 module _ {board : Board} (fit : Fit board) where
   -- over one line
   pub going_on
-      : {script ws vs : List ℕ} {l₀ l l' : Loans} {out₀ out out' : List ℕ} {w₀ w at end next : ℕ} {r : Running} (r' : Running) (w' : ℕ)
-      → Going board script l₀ out₀ w₀ ws l out w r at → NextLine script at end next
-      → Turns board (running_with r ws) l (take (end - at) (drop at script)) out w l' out' (turn_with r' vs w')
-      → Bounded r w r' w' → length vs ≡ length ws → Same l l'
-      → Going board script l₀ out₀ w₀ vs l' out' w' r' next
+      : {script : List ℕ} {r₀ r r' : Running} {at end next : ℕ} → Going board script r₀ r at → NextLine script at end next
+      → Turns board r (take (end - at) (drop at script)) r' → Bounded r r' → Going board script r₀ r' next
   unfolding lines_on
-  going_on {script} {ws} {vs} {l₀} {l} {l'} {out₀} {out} {out'} {w₀} {w} {at} {end} {next} {r} r' w' g n f b k z =
+  going_on {script} {r₀} {r} {r'} {at} {end} {next} g n f b =
       let q : length (lines (drop at script)) ≡ length (lines (drop next script)) + 1 = one_less n in
       let x = g.run in
       let T = f x g.stands in
       let o : TurnOn = line_on board x (read_line (take (end - at) (drop at script))) in
-      let inside : w' ≤ length out = omega (arith, g.space, b.0) in
-      let m : length out' ≡ length out = wrote_long T.wrote inside in
+      let inside : r'.at ≤ length r.answer = omega (arith, g.space, b.0) in
+      let m : length r'.answer ≡ length r.answer = wrote_long T.wrote inside in
       let rest : TurnOn = onwards board o.running script next in
       let e : onwards board x script at ≡ record { running = rest.running; text = o.text ++ rest.text }
       = ap (λ (ls : List (List ℕ)). lines_on board x ls) n.first in
       record {
-        words = k ∙ g.words;
-        loans = record {
-          records = z.records ∙ g.loans.records;
-          memory = z.memory ∙ g.loans.memory;
-          queue = z.queue ∙ g.loans.queue;
-        };
         within = n.next_by;
         few = omega (arith, g.few, b.1, n.past);
         long = m ∙ g.long;
@@ -160,33 +146,37 @@ module _ {board : Board} (fit : Fit board) where
         reached = line_reached fit x g.reached (read_line (take (end - at) (drop at script)));
         text =
             ap (λ (u : List ℕ). u ++ rest.text) (wrote_take T.wrote inside)
-            ∙ append_assoc (take w out) o.text rest.text
-            ∙ ap (λ (y : TurnOn). take w out ++ y.text) (sym e)
+            ∙ append_assoc (take r.at r.answer) o.text rest.text
+            ∙ ap (λ (y : TurnOn). take r.at r.answer ++ y.text) (sym e)
             ∙ g.text;
         ends = ap (λ (y : TurnOn). y.running) (sym e) ∙ g.ends;
         rest = λ i u v. wrote_drop T.wrote inside i u (omega arith) ∙ g.rest i (omega (arith, T.wrote.after)) (omega arith);
       }
 
-  -- behind the last line, over a slice that the header was written to first
-  pub gone : {script ws : List ℕ} {l₀ l : Loans} {first out₀ out : List ℕ} {w₀ w at : ℕ} {r : Running} → Wrote first 0 header out₀ w₀
-      → room script ≤ length first → length script ≤ at → Going board script l₀ out₀ w₀ ws l out w r at
-      → RanAll board script l₀ first l out w
+  -- behind the last line, from a run whose answer then got the header
+  pub gone : {script out : List ℕ} {n : ℕ} {r₀ r : Running} {at : ℕ} → Wrote r₀.answer 0 header out n
+      → room script ≤ length r₀.answer → length script ≤ at → Going board script (record r₀ { answer = out; at = n }) r at
+      → RanAll board script r₀ r
   unfolding bytes_of lines_on world_after
-  gone {script} {ws} {l₀} {l} {first} {out₀} {out} {w₀} {w} {at} {r} f h e g =
-      let a : w₀ ≡ 25 = f.after in
-      let n : length out₀ ≡ length first = wrote_long f (omega arith) in
+  gone {script} {out} {n} {r₀} {r} {at} f h e g =
+      let l = r₀.loans in
+      let a : n ≡ 25 = f.after in
+      let k : length out ≡ length r₀.answer = wrote_long f (omega arith) in
       let o : onwards board g.run script at ≡ record { running = g.run; text = [] }
       = ap (λ (ls : List (List ℕ)). lines_on board g.run ls) (lines_none script at e) in
-      let t : take w out ≡ printed board l₀ script
-      = sym (append-nil (take w out)) ∙ ap (λ (y : TurnOn). take w out ++ y.text) (sym o) ∙ g.text
-      ∙ script_printed board fit (world_by unbooted l₀) script in
-      let v : world_by (state_with r.counters ws) l ≡ left_by board l₀ script
+      let t : take r.at r.answer ≡ printed board l script
+      = sym (append-nil (take r.at r.answer)) ∙ ap (λ (y : TurnOn). take r.at r.answer ++ y.text) (sym o) ∙ g.text
+      ∙ script_printed board fit (world_by unbooted l) script in
+      let v : world_by r.state r.loans ≡ left_by board l script
       = sym g.stands.world ∙ ap (λ (y : TurnOn). y.running.world) (sym o) ∙ ap (λ (y : RunningOn). y.world) g.ends in
-      let d : drop w out ≡ drop w first
-      = g.rest w (omega arith) (omega (arith, g.space)) ∙ wrote_drop f (omega arith) w g.up (omega (arith, g.space, g.long)) in
+      let d : drop r.at r.answer ≡ drop r.at r₀.answer
+      = g.rest r.at (omega arith) (omega (arith, g.space)) ∙ wrote_drop f (omega arith) r.at g.up (omega (arith, g.space, g.long)) in
       record {
-        written = sym (length-take-le w out (omega (arith, g.space))) ∙ ap length t;
-        text = sym (take-append-drop w out) ∙ ap (λ (u : List ℕ). u ++ drop w out) t ∙ ap (λ (u : List ℕ). printed board l₀ script ++ u) d;
+        written = sym (length-take-le r.at r.answer (omega (arith, g.space))) ∙ ap length t;
+        text =
+            sym (take-append-drop r.at r.answer)
+            ∙ ap (λ (u : List ℕ). u ++ drop r.at r.answer) t
+            ∙ ap (λ (u : List ℕ). printed board l script ++ u) d;
         records = ap (λ (u : World). u.records) v;
         memory = ap (λ (u : World). u.memory) v;
         queue = ap (λ (u : World). u.queue) v;
@@ -195,15 +185,17 @@ module _ {board : Board} (fit : Fit board) where
 -- ---- with room and without
 
 module _ {board : Board} where
-  pub ran_all : {script : List ℕ} {l l' : Loans} {out out' : List ℕ} {r : ℕ} → room script ≤ length out
-      → RanAll board script l out l' out' r → Ran board script l out l' out' r
-  ran_all h A =
+  -- the loans end as the run leaves them
+  pub ran_all : {script out : List ℕ} {r r' : Running} {l : Loans} → room script ≤ length r.answer → RanAll board script r r'
+      → out ≡ r'.answer → l.records ≡ r'.loans.records → l.memory ≡ r'.loans.memory → l.queue ≡ r'.loans.queue
+      → Ran board script r.loans r.answer l out r'.at
+  ran_all h A answer records memory queue =
       record {
         written = λ k. A.written;
-        text = λ k. A.text;
-        records = λ k. A.records;
-        memory = λ k. A.memory;
-        queue = λ k. A.queue;
+        text = λ k. answer ∙ A.text;
+        records = λ k. records ∙ A.records;
+        memory = λ k. memory ∙ A.memory;
+        queue = λ k. queue ∙ A.queue;
         too_short = λ k. absurd (omega arith);
       }
 

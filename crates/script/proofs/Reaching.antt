@@ -20,7 +20,7 @@ use Rattle.exam.specs.Promise.{Answer, Leaves}
 use Rattle.exam.proofs.Making.{leaves_made, sound_ready}
 use Rattle.theorems.proofs.Runs.{Holds, boot_holds, call_holds, holds_sound}
 use Rattle.words.specs.Words.{Long, board_in}
-use Rattle.script.specs.Running.{Loans, Running, Stands, Sure, program_board}
+use Rattle.script.specs.Running.{Running, Stands, Sure, program_board}
 
 module _ (board : Board) where
   -- the world v is one that calls left of an accepted boot
@@ -68,7 +68,7 @@ module _ {board : Board} (fit : Fit board) where
   line_reached x R (some a) = command_reached x R a.name a.command x.booted refl
 
   -- what is kept is sure, where it stands for such a run
-  pub reached_sure : {r : Running} {l : Loans} {x : RunningOn} → Stands r l x → ReachedIn board x → Sure board r l
+  pub reached_sure : {r : Running} {x : RunningOn} → Stands r x → ReachedIn board x → Sure board r
   reached_sure S R e = subst (λ (w : World). sound board w ≡ true) S.world (holds_sound fit (R (S.booted ∙ e)).holds)
 
 -- ---- a call on sound loans

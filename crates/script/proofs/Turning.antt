@@ -8,14 +8,14 @@ use mathlib.Core.Path.{◌≡◌, sym, ap, subst, ◌∙◌}
 use native.Mathlib.Omega.{arith}
 use native.Mathlib.Numerals.{add-one}
 use Rattle.std.specs.Prelude.{is_ok}
-use lib.ListN.{length, take, set, length-append}
+use lib.ListN.{get_or, length, take, set, length-append}
 use lib.Seq.{take_all, take-append-le, take-suc-set}
 use Rattle.definition.specs.declared.MemoryRegion.{MemoryRegion}
 use Rattle.definition.specs.Board.{Board}
 use Rattle.definition.specs.Calls.{Call, Stats, Text}
 use Rattle.definition.specs.Script.{AddRegion, BootNow, Ask, Asked, Command, RunningOn, answer_line, bad_line, command_on, line_on}
 use Rattle.definition.specs.Text.{bytes_of}
-use Rattle.definition.specs.Torn.{Left, boot_call, call}
+use Rattle.definition.specs.Torn.{Left, boot_call, call, sound}
 use Rattle.definition.specs.Tracker.{tracker_stats}
 use Rattle.definition.specs.World.{World}
 use Rattle.boot.specs.Booting.{Boots, BootsAll}
@@ -28,24 +28,21 @@ use Rattle.lines.specs.declared.Op.{Op as OpOf}
 use Rattle.lines.specs.Reading.{Reads, asks_if, call_of, command_of, name_of, numbers_of}
 use Rattle.text.specs.Writing.{Wrote}
 use Rattle.text.proofs.Writing.{wrote_as}
-use Rattle.script.specs.declared.Running.{Running as RunningOf}
-use Rattle.script.specs.Running.{Running, Turn, Bad, Does, Enters, Loans, Stands, TellsAny, Turned, Turns, line_by, running_with, world_by}
+use Rattle.script.specs.Running.{Running, Bad, Does, Enters, Loans, Stands, Turned, Turns, line_by, world_by}
 use Rattle.script.proofs.Answers.{accepted, boot_line, call_line, stats_call}
 use Rattle.script.proofs.Writing.{wrote_nothing}
 
 module _ (board : Board) where
   -- a command where it is known whether a boot was accepted
   pub does
-      : (c : Command) (name : List ℕ) {r : Running} {l : Loans} (b : Bool) → r.booted ≡ b
-      → {out out' : List ℕ} {at : ℕ} {l' : Loans} {t : Turn}
-      → ((x : RunningOn) → Stands r l x → Turned (command_on board x name c b) out at l' out' t) → Does board c name r l out at l' out' t
-  does c name b e {out} {out'} {at} {l'} {t} f x S =
-      subst (λ (y : Bool). Turned (command_on board x name c y) out at l' out' t) (sym (S.booted ∙ e)) (f x S)
+      : (c : Command) (name : List ℕ) {r r' : Running} (b : Bool) → r.booted ≡ b
+      → ((x : RunningOn) → Stands r x → Turned (command_on board x name c b) r r') → Does board c name r r'
+  does c name {r} {r'} b e f x S = subst (λ (y : Bool). Turned (command_on board x name c y) r r') (sym (S.booted ∙ e)) (f x S)
 
 pub turned_bad
-    : {r : Running} {out out' : List ℕ} {at n : ℕ} → Wrote out at bad_line out' n
-    → Bad r out at out' (record { running = r; at = n })
-turned_bad w l x S = record { stands = S; wrote = w }
+    : {r : Running} {out : List ℕ} {n : ℕ} → Wrote r.answer r.at bad_line out n
+    → Bad r (record r { answer = out; at = n })
+turned_bad w x S = record { stands = record { world = S.world; booted = S.booted; long = S.long; front = S.front }; wrote = w }
 
 -- ---- a region
 
@@ -62,12 +59,9 @@ enters_none map n m k h xs l e =
 
 module _ (board : Board) where
   pub turned_region
-      : {r : Running} {l : Loans} (out : List ℕ) (at : ℕ) (name : List ℕ) {m : MemoryRegion} {map : List MemoryRegion}
-      → r.booted ≡ false
-      → Enters r.map r.count m map
-      → Does board (AddRegion m) name r l out at l out
-      (record { running = record { map = map; count = r.count + 1; booted = r.booted; state = r.state }; at = at })
-  turned_region out at name {m} early f =
+      : {r : Running} (name : List ℕ) {m : MemoryRegion} {map : List MemoryRegion} → r.booted ≡ false → Enters r.map r.count m map
+      → Does board (AddRegion m) name r (record r { map = map; count = r.count + 1 })
+  turned_region {r} name {m} early f =
       does board (AddRegion m) name false early
       (λ x S. record {
         stands = record {
@@ -76,25 +70,24 @@ module _ (board : Board) where
           long = length-append x.map (m ∷ []) ∙ ap (λ (k : ℕ). k + 1) S.long;
           front = f x.map S.long S.front;
         };
-        wrote = wrote_nothing out at;
+        wrote = wrote_nothing r.answer r.at;
       })
 
 -- ---- the calls
 
 module _ (board : Board) where
-  module _ {r : Running} {l l' : Loans} {out out' : List ℕ} {at n : ℕ} {s : State} (name : List ℕ) where
+  module _ {r : Running} {l : Loans} {out : List ℕ} {n : ℕ} {s : State} (name : List ℕ) where
     pub turned_boot
         : {y : Answer} {b : Bool} → r.booted ≡ false → b ≡ is_ok y
-        → BootsAll board r.map r.count (world_by r.state l) (world_by s l') y → Wrote out at (line_by name y) out' n
-        → Does board BootNow name r l out at l' out'
-        (record { running = record { map = r.map; count = r.count; booted = b; state = s }; at = n })
+        → BootsAll board r.map r.count (world_by r.state r.loans) (world_by s l) y → Wrote r.answer r.at (line_by name y) out n
+        → Does board BootNow name r (record r { booted = b; state = s; loans = l; answer = out; at = n })
     turned_boot {y} {b} early e B w = does board BootNow name false early f
       where
-        f : (x : RunningOn) → Stands r l x → Turned (command_on board x name BootNow false) out at l' out'
-            (record { running = record { map = r.map; count = r.count; booted = b; state = s }; at = n })
+        f : (x : RunningOn) → Stands r x → Turned (command_on board x name BootNow false) r
+            (record r { booted = b; state = s; loans = l; answer = out; at = n })
         f x S =
-            let o : Boots board x.map x.world (world_by s l') y
-            = subst (λ (v : World). Boots board x.map v (world_by s l') y) (sym S.world) (B x.map S.long S.front) in
+            let o : Boots board x.map x.world (world_by s l) y
+            = subst (λ (v : World). Boots board x.map v (world_by s l) y) (sym S.world) (B x.map S.long S.front) in
             record {
               stands = record {
                 world = o.world;
@@ -106,10 +99,9 @@ module _ (board : Board) where
             }
 
     -- a call whose text is the one that its answer has
-    turned_as : (c : Call) → r.booted ≡ true → (call board (world_by r.state l) c).world ≡ world_by s l'
-        → Wrote out at (answer_line name (call board (world_by r.state l) c).answer) out' n
-        → Does board (Ask c) name r l out at l' out'
-        (record { running = record { map = r.map; count = r.count; booted = r.booted; state = s }; at = n })
+    turned_as : (c : Call) → r.booted ≡ true → (call board (world_by r.state r.loans) c).world ≡ world_by s l
+        → Wrote r.answer r.at (answer_line name (call board (world_by r.state r.loans) c).answer) out n
+        → Does board (Ask c) name r (record r { state = s; loans = l; answer = out; at = n })
     turned_as c late v w =
         does board (Ask c) name true late
         (λ x S. record {
@@ -124,24 +116,21 @@ module _ (board : Board) where
 
     pub turned_call
         : {y : Answer} (op : Op) (k : ℕ → ℕ) → r.booted ≡ true
-        → Leaves board (world_by r.state l) (call_of op k) (world_by s l') y → Wrote out at (line_by name y) out' n
-        → Does board (Ask (call_of op k)) name r l out at l' out'
-        (record { running = record { map = r.map; count = r.count; booted = r.booted; state = s }; at = n })
+        → Leaves board (world_by r.state r.loans) (call_of op k) (world_by s l) y → Wrote r.answer r.at (line_by name y) out n
+        → Does board (Ask (call_of op k)) name r (record r { state = s; loans = l; answer = out; at = n })
     turned_call op k late L w =
-        turned_as (call_of op k) late L.world (wrote_as (call_line board name op k (world_by r.state l) L.answer) w)
+        turned_as (call_of op k) late L.world (wrote_as (call_line board name op k (world_by r.state r.loans) L.answer) w)
 
 module _ (board : Board) where
   -- the statistics leave all as it is
   pub turned_stats
-      : {k : RunningOf} {out out' : List ℕ} {at n : ℕ} {p : Report} → k.booted ≡ true → Reports k.counters p
-      → Wrote out at (take p.len p.text) out' n → TellsAny board k out at out' n
-  turned_stats {k} late R w ws l sure small =
-      let r : Running = running_with k ws in
-      let v : World = world_by r.state l in
-      let e : call board v Stats ≡ record { world = v; answer = Text (tracker_stats k.counters) } =
-      stats_call board v (sure late) small
-      in
-      turned_as board {r = r} {l = l} (bytes_of "stats") Stats late (ap (λ (x : Left). x.world) e)
+      : {r : Running} {p : Report} {out : List ℕ} {n : ℕ} → r.booted ≡ true → sound board (world_by r.state r.loans) ≡ true
+      → ((i : ℕ) → get_or r.loans.records i 0 < 256) → Reports r.state.counters p → Wrote r.answer r.at (take p.len p.text) out n
+      → Does board (Ask Stats) (bytes_of "stats") r (record r { answer = out; at = n })
+  turned_stats {r} late sure small R w =
+      let v : World = world_by r.state r.loans in
+      let e : call board v Stats ≡ record { world = v; answer = Text (tracker_stats r.state.counters) } = stats_call board v sure small in
+      turned_as board {r = r} {l = r.loans} {s = r.state} (bytes_of "stats") Stats late (ap (λ (x : Left). x.world) e)
       (wrote_as (R.text ∙ sym (ap (λ (x : Left). answer_line (bytes_of "stats") x.answer) e)) w)
 
 -- ---- the line
@@ -149,10 +138,9 @@ module _ (board : Board) where
 module _ (board : Board) where
   -- a line turns out as what it was read as
   pub turns
-      : {r : Running} {l l' : Loans} (line : List ℕ) {out out' : List ℕ} {at : ℕ} {t : Turn} (q : Line) → Reads line q
-      → (o : OpOf) → q.op ≡ o
-      → ((x : RunningOn) → Stands r l x → Turned (line_on board x (asks_if (name_of o) (command_of o (numbers_of q)))) out at l' out' t)
-      → Turns board r l line out at l' out' t
-  turns {r} {l} {l'} line {out} {out'} {at} {t} q R o e f x S =
-      subst (λ (a : Option Asked). Turned (line_on board x a) out at l' out' t)
+      : {r r' : Running} (line : List ℕ) (q : Line) → Reads line q → (o : OpOf) → q.op ≡ o
+      → ((x : RunningOn) → Stands r x → Turned (line_on board x (asks_if (name_of o) (command_of o (numbers_of q)))) r r')
+      → Turns board r line r'
+  turns {r} {r'} line q R o e f x S =
+      subst (λ (a : Option Asked). Turned (line_on board x a) r r')
       (sym (R ∙ ap (λ (p : OpOf). asks_if (name_of p) (command_of p (numbers_of q))) e)) (f x S)

@@ -2,29 +2,27 @@
 // is exported for C and Rust by script_c, and the program `jilakkor` calls it.
 #![tactic(auto)]
 
-ghost use Rattle.std.specs.Prelude.{true, ◌≡◌, ◌+◌, ◌≤◌, ◌<◌, ◌^◌, length, get_or, replicate};
-ghost use Rattle.definition.specs.Script.{BootNow, Ask as Asks, room};
-ghost use Rattle.exam.specs.Making.{Few};
-ghost use Rattle.words.specs.Words.{Long, state_words};
+ghost use Rattle.std.specs.Prelude.{◌≡◌, ◌+◌, ◌≤◌, ◌<◌, ◌^◌, length, get_or};
+ghost use Rattle.definition.specs.Calls.{Stats};
+ghost use Rattle.definition.specs.Script.{AddRegion, BootNow, Ask as Asks, room};
+ghost use Rattle.words.specs.Words.{Long};
 ghost use Rattle.text.specs.Writing.{Wrote};
 ghost use Rattle.lines.specs.Reading.{ask_name, name_of, call_of};
 ghost use Rattle.script.specs.Running.{
   program_board,
+  Bytes,
   Names,
   Fresh,
   Bounded,
-  BadAny,
+  Bad,
   Enters,
-  AddsAny,
-  TellsAny,
+  entry_of,
   Does,
   Sure,
   Turns,
   line_by,
   RanAll,
   Ran,
-  running_with,
-  turn_with,
 };
 
 use address::PhysAddr;
@@ -98,43 +96,31 @@ fn put_line(out: &mut [u8], at: usize, op: Op, y: Answer) -> usize
 
 // ---- what is kept
 
-// What is kept from line to line beside the loans and the words: the first eight entries of the map and how many were read, whether a boot
-// was accepted, and the store's counters.
-#[derive(Clone, Copy)]
-pub struct Running {
+// A run between two lines: the first eight entries of the map and how many were read, whether a boot was accepted, the store's counters, the
+// loans, and the answer with the place behind what was printed.
+#[derive(Drop)]
+pub struct Run<'a> {
     pub map: [MemoryRegion; 8],
     pub count: usize,
     pub booted: bool,
     pub counters: Counters,
+    pub words: &'a mut [u64],
+    pub records: &'a mut [u8],
+    pub memory: &'a mut [u8],
+    pub queue: &'a mut [u64],
+    pub answer: &'a mut [u8],
+    pub at: usize,
+    ghost long: { Long words.now },
 }
 
-// What is kept before the first line, where the words are zeros.
-fn fresh() -> Running
-    ensures { Fresh (running_with result (replicate state_words 0)) }
-{
+// No entry yet.
+fn no_map() -> [MemoryRegion; 8] {
     let unused = MemoryRegion {
         start: PhysAddr(0),
         length: 0,
         kind: MemoryRegionKind::Reserved,
     };
-    let map = [unused; 8];
-    Running {
-        map,
-        count: 0,
-        booted: false,
-        counters: boot::started(0),
-    }
-}
-
-// ---- the lines
-
-// A line that can't be read, or that may not come now: `bad,17,0,0`. Each of these functions answers the place behind what it printed.
-fn bad(answer: &mut [u8], at: usize) -> usize
-    requires { at + 512 ≤ length answer.old }
-    ensures bad_any { BadAny answer.old at answer.new result }
-    ensures upper_bound { result ≤ at + 512 }
-{
-    put_line(answer, at, Op::Bad, Err(Refusal::BadLine))
+    [unused; 8]
 }
 
 // The first eight entries of the map, with one more read; past the eighth there is no place for it.
@@ -146,169 +132,150 @@ fn enter(map: &mut [MemoryRegion; 8], count: usize, entry: MemoryRegion)
     }
 }
 
-// An entry more of the map, which prints nothing.
-fn region(running: &mut Running, n: [u64; 5], answer: &mut [u8], at: usize) -> usize
-    requires { (at + 512 ≤ length answer.old) × (running.old.count + 1 < 2 ^ 64) }
-    ensures adds_any { AddsAny program_board running.old (λ i. get_or n i 0) answer.old at answer.new running.new result }
-    ensures bounded { Bounded running.old at running.new result }
-{
-    if running.booted {
-        return bad(answer, at);
-    }
-    let entry = MemoryRegion {
-        start: PhysAddr(n[0]),
-        length: n[1] as usize,
-        kind: MemoryRegionKind::from(n[2]),
-    };
-    enter(&mut running.map, running.count, entry);
-    running.count += 1;
-    at
-}
+// Nothing is done: a proof reads of a slice that its bytes are bytes, but not of a field that lends one.
+fn are_bytes(records: &[u8])
+    ensures { Bytes records.now }
+{}
 
-fn boot_now(
-    running: &mut Running,
-    words: &mut [u64],
-    records: &mut [u8],
-    memory: &[u8],
-    queue: &[u64],
-    answer: &mut [u8],
-    at: usize,
-) -> usize
-    requires long { Long words.old }
-    requires at_in_bounds { at + 512 ≤ length answer.old }
-    ensures does { Does program_board BootNow (name_of (Op.Boot)) (running_with running.old words.old)
-        (record { records = records.old; memory = memory.now; queue = queue.now }) answer.old at
-        (record { records = records.new; memory = memory.now; queue = queue.now }) answer.new
-        (turn_with running.new words.new result) }
-    ensures bounded { Bounded running.old at running.new result }
-{
-    if running.booted {
-        return bad(answer, at);
-    }
-    let board = definition::standard();
-    let y = boot::boot(
-        board,
-        &mut running.counters,
-        words,
-        running.map,
-        running.count,
-        records,
-        memory,
-        queue,
-    );
-    running.booted = y.is_ok();
-    put_line(answer, at, Op::Boot, y)
-}
+// ---- the lines
 
-// The statistics answer by a text, of at most 368 bytes.
-fn stats_now(running: &Running, answer: &mut [u8], at: usize) -> usize
-    requires few { running.now.booted ≡ true → Few running.now.counters }
-    requires at_in_bounds { at + 512 ≤ length answer.old }
-    ensures tells_any { TellsAny program_board running.now answer.old at answer.new result }
-    ensures upper_bound { result ≤ at + 512 }
-{
-    if !running.booted {
-        return bad(answer, at);
-    }
-    let report = counts::stats(running.counters);
-    text::put_text(answer, at, &report.text[..report.len])
-}
+impl<'a> Run<'a> {
+    ghost use Rattle.script.specs.Run.{Same, running_of};
 
-// A call tests nothing of the loans: they are the run's own, and are sound from the accepted boot on.
-fn call_now(
-    running: &mut Running,
-    op: Ask,
-    n: [u64; 5],
-    words: &mut [u64],
-    records: &mut [u8],
-    memory: &mut [u8],
-    queue: &mut [u64],
-    answer: &mut [u8],
-    at: usize,
-) -> usize
-    requires long { Long words.old }
-    requires sure { Sure program_board (running_with running.old words.old)
-        (record { records = records.old; memory = memory.old; queue = queue.old }) }
-    requires at_in_bounds { at + 512 ≤ length answer.old }
-    ensures does { Does program_board (Asks (call_of op (λ i. get_or n i 0))) (ask_name op) (running_with running.old words.old)
-        (record { records = records.old; memory = memory.old; queue = queue.old }) answer.old at
-        (record { records = records.new; memory = memory.new; queue = queue.new }) answer.new
-        (turn_with running.new words.new result) }
-    ensures bounded { Bounded running.old at running.new result }
-{
-    if !running.booted {
-        return bad(answer, at);
+    // A line that can't be read, or that may not come now: `bad,17,0,0`.
+    fn bad(&mut self)
+        requires { self.old.at + 512 ≤ length self.old.answer.now }
+        ensures same { Same self.old self.new }
+        ensures bad { Bad (running_of self.old) (running_of self.new) }
+        ensures bounded { Bounded (running_of self.old) (running_of self.new) }
+    {
+        self.at = put_line(self.answer, self.at, Op::Bad, Err(Refusal::BadLine));
     }
-    let y = calls::make(&mut running.counters, words, records, memory, queue, op, n);
-    put_line(answer, at, Op::Call(op), y)
-}
 
-// One line: read, done and answered.
-fn take_turn(
-    line: &[u8],
-    running: &mut Running,
-    words: &mut [u64],
-    records: &mut [u8],
-    memory: &mut [u8],
-    queue: &mut [u64],
-    answer: &mut [u8],
-    at: usize,
-) -> usize
-    requires long { Long words.old }
-    requires sure { Sure program_board (running_with running.old words.old)
-        (record { records = records.old; memory = memory.old; queue = queue.old }) }
-    requires at_in_bounds { (at + 512 ≤ length answer.old) × (running.old.count + 1 < 2 ^ 64) }
-    ensures turns { Turns program_board (running_with running.old words.old)
-        (record { records = records.old; memory = memory.old; queue = queue.old }) line.now
-        answer.old at (record { records = records.new; memory = memory.new; queue = queue.new })
-        answer.new (turn_with running.new words.new result) }
-    ensures bounded { Bounded running.old at running.new result }
-{
-    let read = lines::read_line(line);
-    let n = read.numbers;
-    match read.op {
-        Op::Bad => bad(answer, at),
-        Op::Region => region(running, n, answer, at),
-        Op::Boot => boot_now(running, words, records, memory, queue, answer, at),
-        Op::Stats => stats_now(running, answer, at),
-        Op::Call(a) => call_now(running, a, n, words, records, memory, queue, answer, at),
+    // An entry more of the map, which prints nothing.
+    fn region(&mut self, n: [u64; 5])
+        requires { (self.old.at + 512 ≤ length self.old.answer.now) × (self.old.count + 1 < 2 ^ 64) }
+        ensures same { Same self.old self.new }
+        ensures does { Does program_board (AddRegion (entry_of (λ i. get_or n i 0))) (name_of (Op.Region))
+            (running_of self.old) (running_of self.new) }
+        ensures bounded { Bounded (running_of self.old) (running_of self.new) }
+    {
+        if self.booted {
+            return self.bad();
+        }
+        let entry = MemoryRegion {
+            start: PhysAddr(n[0]),
+            length: n[1] as usize,
+            kind: MemoryRegionKind::from(n[2]),
+        };
+        enter(&mut self.map, self.count, entry);
+        self.count += 1;
     }
-}
 
-// The lines, one after the other, behind the header, from words that are zeros.
-fn run_all(
-    script: &[u8],
-    words: &mut [u64],
-    records: &mut [u8],
-    memory: &mut [u8],
-    queue: &mut [u64],
-    answer: &mut [u8],
-) -> usize
-    requires words_value { words.old ≡ replicate state_words 0 }
-    requires script_in_bounds { room script.now ≤ length answer.old }
-    ensures { RanAll program_board script.now
-        (record { records = records.old; memory = memory.old; queue = queue.old }) answer.old
-        (record { records = records.new; memory = memory.new; queue = queue.new }) answer.new result }
-{
-    let mut w = text::put_text(answer, 0, b"op,refusal,address,bytes\n");
-    let mut running = fresh();
-    // Not a `for`: a line goes on by its own length.
-    let mut at: usize = 0;
-    while at < script.len() {
-        let cursor = lines::next_line(script, at);
-        w = take_turn(
-            &script[at..cursor.end],
-            &mut running,
-            words,
-            records,
+    fn boot_now(&mut self)
+        requires { self.old.at + 512 ≤ length self.old.answer.now }
+        ensures same { Same self.old self.new }
+        ensures does { Does program_board BootNow (name_of (Op.Boot)) (running_of self.old) (running_of self.new) }
+        ensures bounded { Bounded (running_of self.old) (running_of self.new) }
+    {
+        if self.booted {
+            return self.bad();
+        }
+        let board = definition::standard();
+        let memory = &mut *self.memory;
+        let queue = &mut *self.queue;
+        let y = boot::boot(
+            board,
+            &mut self.counters,
+            self.words,
+            self.map,
+            self.count,
+            self.records,
             memory,
             queue,
-            answer,
-            w,
         );
-        at = cursor.next;
+        self.booted = y.is_ok();
+        self.at = put_line(self.answer, self.at, Op::Boot, y);
     }
-    w
+
+    // The statistics answer by a text, of at most 368 bytes.
+    fn stats_now(&mut self)
+        requires sure { Sure program_board (running_of self.old) }
+        requires at_in_bounds { self.old.at + 512 ≤ length self.old.answer.now }
+        ensures same { Same self.old self.new }
+        ensures does { Does program_board (Asks Stats) (name_of (Op.Stats)) (running_of self.old) (running_of self.new) }
+        ensures bounded { Bounded (running_of self.old) (running_of self.new) }
+    {
+        if !self.booted {
+            return self.bad();
+        }
+        let records = &mut *self.records;
+        are_bytes(records);
+        let report = counts::stats(self.counters);
+        self.at = text::put_text(self.answer, self.at, &report.text[..report.len]);
+    }
+
+    // A call tests nothing of the loans: they are the run's own, and are sound from the accepted boot on.
+    fn call_now(&mut self, op: Ask, n: [u64; 5])
+        requires sure { Sure program_board (running_of self.old) }
+        requires at_in_bounds { self.old.at + 512 ≤ length self.old.answer.now }
+        ensures same { Same self.old self.new }
+        ensures does { Does program_board (Asks (call_of op (λ i. get_or n i 0))) (ask_name op)
+            (running_of self.old) (running_of self.new) }
+        ensures bounded { Bounded (running_of self.old) (running_of self.new) }
+    {
+        if !self.booted {
+            return self.bad();
+        }
+        let records = &mut *self.records;
+        are_bytes(records);
+        let y = calls::make(
+            &mut self.counters,
+            self.words,
+            records,
+            self.memory,
+            self.queue,
+            op,
+            n,
+        );
+        self.at = put_line(self.answer, self.at, Op::Call(op), y);
+    }
+
+    // One line: read, done and answered.
+    fn take_turn(&mut self, line: &[u8])
+        requires sure { Sure program_board (running_of self.old) }
+        requires at_in_bounds { (self.old.at + 512 ≤ length self.old.answer.now) × (self.old.count + 1 < 2 ^ 64) }
+        ensures same { Same self.old self.new }
+        ensures turns { Turns program_board (running_of self.old) line.now (running_of self.new) }
+        ensures bounded { Bounded (running_of self.old) (running_of self.new) }
+    {
+        let read = lines::read_line(line);
+        let n = read.numbers;
+        match read.op {
+            Op::Bad => self.bad(),
+            Op::Region => self.region(n),
+            Op::Boot => self.boot_now(),
+            Op::Stats => self.stats_now(),
+            Op::Call(a) => self.call_now(a, n),
+        }
+    }
+
+    // The lines, one after the other, behind the header.
+    fn run_all(&mut self, script: &[u8])
+        requires fresh { Fresh (running_of self.old) }
+        requires script_in_bounds { room script.now ≤ length self.old.answer.now }
+        ensures same { Same self.old self.new }
+        ensures ran_all { RanAll program_board script.now (running_of self.old) (running_of self.new) }
+    {
+        self.at = text::put_text(self.answer, 0, b"op,refusal,address,bytes\n");
+        // Not a `for`: a line goes on by its own length.
+        let mut at: usize = 0;
+        while at < script.len() {
+            let cursor = lines::next_line(script, at);
+            self.take_turn(&script[at..cursor.end]);
+            at = cursor.next;
+        }
+    }
 }
 
 // The whole script. Returns the bytes written; 0 with nothing written and nothing run where the answer slice is under 512 bytes for each
@@ -328,5 +295,18 @@ pub fn jilakkor_run(
         return 0;
     }
     let mut words = [0u64; words::STATE_WORDS];
-    run_all(script, &mut words, records, memory, queue, answer)
+    let mut run = Run {
+        map: no_map(),
+        count: 0,
+        booted: false,
+        counters: boot::started(0),
+        words: &mut words,
+        records,
+        memory,
+        queue,
+        answer,
+        at: 0,
+    };
+    run.run_all(script);
+    run.at
 }

@@ -1,0 +1,27 @@
+-- A run of the code as what is kept between lines (`running_of`), and that its loans stay the ones that it was made of (`Same`): what a run
+-- leaves in them is what its maker finds there.
+use Rattle.std.specs.Prelude.{◌≡◌}
+use Rattle.exam.specs.Promise.{state_with}
+use Rattle.script.specs.declared.Run.{Run}
+use Rattle.script.specs.Running.{Running}
+
+-- the state has the counters that are kept, and the words
+abbrev pub running_of : Run → Running
+running_of r =
+    record {
+      map = r.map;
+      count = r.count;
+      booted = r.booted;
+      state = state_with r.counters r.words.now;
+      loans = record { records = r.records.now; memory = r.memory.now; queue = r.queue.now };
+      answer = r.answer.now;
+      at = r.at;
+    }
+
+-- the same loans, whatever they hold
+pub record Same (r r' : Run) : Type 0 where
+  pub words : r'.words.ghost_name ≡ r.words.ghost_name
+  pub records : r'.records.ghost_name ≡ r.records.ghost_name
+  pub memory : r'.memory.ghost_name ≡ r.memory.ghost_name
+  pub queue : r'.queue.ghost_name ≡ r.queue.ghost_name
+  pub answer : r'.answer.ghost_name ≡ r.answer.ghost_name
