@@ -109,6 +109,7 @@ fn handed(board: Board, granted: Option<Granted>, level: Level) -> Reply
 
 // ---- a grant
 
+// A field that is passed as `&` is not known to stay as it is. So each method first names the words and records that it passes so.
 impl Lent<'_> {
     ghost use Rattle.grants.specs.Loans.{Same, FindsIn, GivesIn, GrantsIn};
 
