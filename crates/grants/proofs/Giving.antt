@@ -25,11 +25,12 @@ use Rattle.definition.specs.Allocator.{Allocated, AllocationRegion, PhysicalFram
 use Rattle.definition.specs.Store.{Memory}
 use Rattle.definition.specs.Tracker.{count_alloc, try_alloc_frame, try_alloc_split_frames}
 use Rattle.definition.specs.Torn.{regions_of}
-use Rattle.definition.specs.World.{frame_of}
+use Rattle.definition.specs.World.{frame_of, record_at}
 use Rattle.definition.proofs.Basics.{upd_same}
 use Rattle.record.specs.Records.{with_bytes}
 use Rattle.region.specs.Rep.{marked, state_of}
-use Rattle.words.specs.Words.{RowsBeside, rows_in}
+use Rattle.words.specs.Words.{Beside, RowsBeside, board_in, rows_in}
+use Rattle.words.proofs.Words.{board_beside}
 use Rattle.world.specs.Stands.{StandsRow, region_at, row_at}
 use Rattle.world.specs.Tables.{Sane, Table, Turned}
 use Rattle.world.proofs.Places.{Lies, Runs, frame_runs, managed_bytes, runs_end, runs_lies}
@@ -37,13 +38,26 @@ use Rattle.world.proofs.Spans.{runs_bare}
 use Rattle.world.proofs.Tables.{used_row}
 use Rattle.world.proofs.Writing.{Fronts, Rewritten, memory_filled}
 use Rattle.allocator.specs.declared.Spot.{Spot}
-use Rattle.allocator.specs.Spots.{HeldAt, InRows, Picked, PicksBy, PicksPage, TurnsBy, mark_at, number_at, split_at}
+use Rattle.allocator.specs.Spots.{
+  HeldAt,
+  InRows,
+  Picked,
+  PicksBy,
+  PicksIn,
+  PicksPage,
+  TurnsBy,
+  TurnsIn,
+  mark_at,
+  number_at,
+  split_at,
+}
 use Rattle.allocator.proofs.Standing.{sane_table, standing}
 use Rattle.allocator.proofs.TwoPasses.{turned_then}
 use Rattle.allocator.proofs.Turning.{spot_good, spot_index, stands_at, table_held}
+use Rattle.exam.specs.Making.{RoomIn, TableIn}
 use Rattle.exam.specs.Promise.{State, state_with}
 use Rattle.grants.specs.declared.Granted.{Granted as GrantedFrame}
-use Rattle.grants.specs.Granting.{Finds, GivesBy, Granted, Holds, Near, page_of, zeroed_bytes}
+use Rattle.grants.specs.Granting.{Finds, GivesBy, Granted, Near, page_of, zeroed_bytes}
 use Rattle.grants.proofs.Marking.{none_left, split_none, split_some, try_none, try_some}
 
 -- ---- the frame at a spot
@@ -154,6 +168,22 @@ module _ {board : Board} {op : PhysicalFrameAllocator → Allocated} {f g : ℕ 
       pub picked_held : HeldAt board g r.rows t
       picked_held = picked_page.held
 
+-- ---- the table and the room that a part of a grant leaves
+
+pub turned_table
+    : {op : PhysicalFrameAllocator → PhysicalFrameAllocator} (ws rs gs : List ℕ) → TurnsIn op rs ws gs ws → length gs ≡ length rs
+    → TableIn ws rs → TableIn ws gs
+turned_table ws rs gs T as_long S =
+    let U = rw as_long at T in
+    rw as_long (S.0, (U (standing (board_in ws) (record_at rs) (rows_in ws)) (sane_table S.1)).table.sane)
+
+pub picked_lent
+    : {op : PhysicalFrameAllocator → Allocated} {o : MayBe Spot} (ws rs vs gs m : List ℕ) → PicksIn op rs ws gs vs o → Beside ws vs
+    → length vs ≡ length ws → length gs ≡ length rs → TableIn ws rs → RoomIn ws m → TableIn vs gs × RoomIn vs m
+picked_lent ws rs vs gs m P B long as_long S room =
+    let Q = rw as_long at P in
+    rw (board_beside B, as_long, long) ((S.0, picked_sane Q S.1), picked_room Q S.1 room)
+
 -- ---- a grant
 
 -- of the frame that was found, if one was
@@ -175,9 +205,6 @@ module _ {board : Board} where
       -- nothing is found
       abbrev nothing : Granted
       nothing = record { state = state_with counters vs; frame = None }
-
-      pub holds_none : Sane board f n (rows_in ws) → Holds board g n nothing
-      holds_none S = record { sane = picked_sane P S; spot = λ t z. absurd (no_frame z); held = λ t z. absurd (no_frame z) }
 
       pub gives_none
           : (bytes : List ℕ) → o ≡ None → GivesBy board (try_alloc_frame board everywhere l flags) f st bytes g n bytes nothing
@@ -207,23 +234,18 @@ module _ {board : Board} where
             pub finds_some : RowsBeside ws vs → address ≡ board.page * number_at board (rows_in vs) spot → Finds board st frame
             finds_some B d = record { queued = B.queued; pass = B.pass; address = λ t z. rw (← same_frame z) d }
 
-            pub holds_some : Sane board f n (rows_in ws) → Holds board h n frame
-            holds_some S =
+            pub held_some : Sane board f n (rows_in ws) → InRows board (rows_in vs) spot × HeldAt board h (rows_in vs) spot
+            held_some S =
                 let U = (picked_turned P S).table in
                 let a = (do_alloc everywhere l flags.zeroed (standing board f (rows_in ws))).allocator in
                 let N = (T a U).table in
                 let p = number_at board (rows_in vs) spot in
                 let I = picked_spot P S e in
-                let held : is_allocated (a.frames p) ≡ true = rw (table_frame I U) (is_held g (rows_in vs) spot (picked_held P S e)) in
-                record {
-                  sane = N.sane;
-                  spot = λ t z. rw (← same_frame z) I;
-                  held = λ t z.
-                      rw (← same_frame z)
-                      (table_held N spot I
-                      (rw (upd_same a.frames p (marked false flags.kernel (a.frames p)))
-                      (held_still false flags.kernel (a.frames p) held)));
-                }
+                let held : is_allocated (a.frames p) ≡ true = rw (table_frame I U) (is_held g (rows_in vs) spot (picked_held P S e)) in (
+                  I,
+                  table_held N spot I
+                      (rw (upd_same a.frames p (marked false flags.kernel (a.frames p))) (held_still false flags.kernel (a.frames p) held)),
+                )
 
             pub gives_some
                 : (bytes bytes2 : List ℕ) → bytes2 ≡ zeroed_bytes board flags.zeroed (g spot.page) spot.page bytes

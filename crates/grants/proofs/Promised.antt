@@ -8,6 +8,9 @@ use mathlib.Core.Path.{◌≡◌, refl, sym, ap, ◌∙◌}
 use Rattle.std.specs.Prelude.{Ok, Err, Some, None}
 use Rattle.std.specs.Prelude.{Option as MayBe}
 use lib.ListN.{length, get_or, take}
+use mir.Syntax.{w8}
+use mir.Val.{Fits}
+use Rattle.definition.specs.declared.Counters.{Counters}
 use Rattle.definition.specs.declared.FrameAllocFlags.{FrameAllocFlags}
 use Rattle.definition.specs.declared.Refusal.{Refusal}
 use Rattle.definition.specs.Allocator.{do_alloc}
@@ -23,9 +26,9 @@ use Rattle.record.specs.Records.{pages_in}
 use Rattle.world.specs.Refusals.{refusal_of}
 use Rattle.world.proofs.Spans.{overlap_spans, spans_bare}
 use Rattle.allocator.specs.Spots.{number_at}
-use Rattle.exam.specs.Making.{Made, Whole}
-use Rattle.exam.specs.Promise.{State, reply, world_of}
-use Rattle.exam.proofs.Making.{made_left, made_refused, table_as_long, whole_table}
+use Rattle.exam.specs.Making.{Grants, Made, Whole}
+use Rattle.exam.specs.Promise.{Answer, State, reply, world_of}
+use Rattle.exam.proofs.Making.{bytes_small, made_left, made_refused, table_as_long, whole_table}
 use Rattle.grants.specs.declared.Granted.{Granted as GrantedFrame}
 use Rattle.grants.specs.Granting.{Finds, Gives, GivesBy, Granted, Lends, Wants, asking, handed, page_of}
 use Rattle.grants.proofs.Marking.{split_none, split_some, try_none, try_some}
@@ -147,3 +150,12 @@ module _ {board : Board} {w : World} {s : Store} (H : Whole board w s) where
     pub asked_refused : (split : Bool) → Made board (step board s (asking split y)) w w (Err e)
     asked_refused true = made_refused H (Take y) e (W.refusal s (whole_table H))
     asked_refused false = made_refused H (Alloc y) e (W.refusal s (whole_table H))
+
+-- ---- of the loans that a call was given, which are as they were left
+
+pub grants_lent
+    : (c : Call) {k k1 k2 : Counters} (ws rs m ws1 rs1 m1 : List ℕ) {ws2 rs2 m2 : List ℕ} {y : Answer}
+    → (((i : ℕ) → get_or rs1 i 0 < 256) → Grants c k ws rs m k1 ws1 rs1 m1 y) → k2 ≡ k1 → ws2 ≡ ws1 → rs2 ≡ rs1 → m2 ≡ m1
+    → ((i : ℕ) → Fits w8 (get_or rs2 i 0)) → Grants c k ws rs m k2 ws2 rs2 m2 y
+grants_lent c ws rs m ws1 rs1 m1 G same words records memory fits q s H =
+    rw (same, words, records, memory) (G (bytes_small rs1 (rw records at fits)) q s H)

@@ -23,9 +23,9 @@ use Rattle.words.specs.Words.{board_in, rows_in}
 use Rattle.region.specs.Rep.{Inside}
 use Rattle.world.specs.Refusals.{refusal_of}
 use Rattle.world.specs.Stands.{row_at}
-use Rattle.world.specs.Tables.{Sane, Table, Turned}
+use Rattle.world.specs.Tables.{Table, Turned}
 use Rattle.allocator.specs.declared.Spot.{Spot}
-use Rattle.allocator.specs.Spots.{HeldAt, InRows, number_at}
+use Rattle.allocator.specs.Spots.{number_at}
 use Rattle.exam.specs.declared.Reply.{Reply}
 use Rattle.exam.specs.Promise.{State, refusal_in, reply, state_with}
 use Rattle.grants.specs.declared.Granted.{Granted as GrantedFrame}
@@ -101,12 +101,6 @@ module _ (board : Board) where
     pub queued : r.state.queued ≡ st.queued
     pub pass : r.state.pass ≡ st.pass
     pub address : (t : GrantedFrame) → r.frame ≡ Some t → t.address ≡ board.page * number_at board r.state.rows t.spot
-
-  -- the frame that was found is held
-  pub record Holds (g : ℕ → Record) (n : ℕ) (r : Granted) : Type 0 where
-    pub sane : Sane board g n r.state.rows
-    pub spot : (t : GrantedFrame) → r.frame ≡ Some t → InRows board r.state.rows t.spot
-    pub held : (t : GrantedFrame) → r.frame ≡ Some t → HeldAt board g r.state.rows t.spot
 
 -- ---- the same of the lent words and records
 

@@ -1,1 +1,3 @@
 pub mod Granting
+pub mod Sanity
+pub mod Loans

@@ -2,8 +2,7 @@
 // (exam/specs/Making.antt).
 #![tactic(auto)]
 
-ghost use Rattle.std.specs.Prelude.{false, Ok, ◌≡◌, ◌+◌, ◌*◌, ◌<◌, ◌≤◌, length};
-ghost use Rattle.definition.specs.Basics.{everywhere};
+ghost use Rattle.std.specs.Prelude.{false, ◌≡◌, ◌+◌, ◌*◌, ◌<◌, ◌≤◌, length, IfSome};
 ghost use Rattle.definition.specs.Board.{Fit};
 ghost use Rattle.definition.specs.Frame.{size as pages_of};
 ghost use Rattle.definition.specs.Tracker.{count_alloc, try_alloc_frame, try_alloc_split_frames};
@@ -13,19 +12,9 @@ ghost use Rattle.level.specs.Level.{rank};
 ghost use Rattle.record.specs.Records.{pages_in};
 ghost use Rattle.words.specs.Words.{board_in, Long, rows_in, Beside};
 ghost use Rattle.allocator.specs.Spots.{HeldIn, TurnsIn, mark_at, number_in};
-ghost use Rattle.exam.specs.Promise.{state_with};
 ghost use Rattle.exam.specs.Making.{TableIn, RoomIn, Few, Grants};
-ghost use Rattle.grants.specs.Granting.{
-  WantsIn,
-  asking,
-  granted_in,
-  zeroed_bytes,
-  Near,
-  handed as handed_def,
-  GivesBy,
-  Finds,
-  Holds,
-};
+ghost use Rattle.grants.specs.Sanity.{TableIn-prop};
+ghost use Rattle.grants.specs.Granting.{WantsIn, asking, zeroed_bytes, Near, handed as handed_def};
 
 use allocator::Spot;
 use definition::{Board, Counters, FrameAllocFlags, Refusal};
@@ -71,32 +60,6 @@ fn zero_if_asked(board: Board, records: &[u8], memory: &mut [u8], page: usize, z
     }
 }
 
-// frame.rs 715 clears the ZEROED mark; tracker.rs 73 to 80 set KERNEL as asked, and count the pages of the level that was asked for.
-fn hand_over(
-    counters: &mut Counters,
-    words: &[u64],
-    records: &mut [u8],
-    memory: &mut [u8],
-    spot: Spot,
-    level: Level,
-    flags: FrameAllocFlags,
-)
-    requires table_in { TableIn words.now records.old }
-    requires room_in { RoomIn words.now memory.old }
-    requires few { Few counters.old }
-    requires held_in { HeldIn records.old words.now spot }
-    ensures value { counters.new ≡ count_alloc (pages_of (rank level)) flags.kernel counters.old }
-    ensures memory_after { memory.new ≡ zeroed_bytes (board_in words.now)
-        flags.zeroed (record_at records.old spot.page) spot.page memory.old }
-    ensures turns_in { TurnsIn (mark_at false flags.kernel (number_in words.now spot))
-        records.old words.now records.new words.now }
-{
-    let board = words::board_in(words);
-    zero_if_asked(board, records, memory, spot.page, flags.zeroed);
-    allocator::set_marks(words, records, spot, false, flags.kernel);
-    *counters = tracker::count_alloc(*counters, level.pages(), flags.kernel);
-}
-
 // The first address of a page of a row.
 fn address_of(words: &[u64], spot: Spot) -> u64
     requires { Long words.now × Near (board_in words.now) (rows_in words.now) spot }
@@ -107,64 +70,24 @@ fn address_of(words: &[u64], spot: Spot) -> u64
     region::start_address(board, row, spot.base, spot.page).raw()
 }
 
-// ---- a grant
+// ---- what a grant works on
+
+// The loans of a call that grants: a sane table, and a memory in which every managed page has its bytes.
+#[derive(Drop)]
+struct Lent<'a> {
+    counters: &'a mut Counters,
+    words: &'a mut [u64],
+    records: &'a mut [u8],
+    memory: &'a mut [u8],
+    ghost table: { TableIn words.now records.now } by { TableIn-prop words.now records.now },
+    ghost room: { RoomIn words.now memory.now },
+}
 
 // The frame that a grant found, and its address.
 #[derive(Clone, Copy)]
 pub struct Granted {
     pub spot: Spot,
     pub address: u64,
-}
-
-// A frame of the level, its contents and marks as asked, and its pages counted.
-fn grant(
-    counters: &mut Counters,
-    words: &mut [u64],
-    records: &mut [u8],
-    memory: &mut [u8],
-    level: Level,
-    flags: FrameAllocFlags,
-) -> Option<Granted>
-    requires table_in { TableIn words.old records.old }
-    requires room_in { RoomIn words.old memory.old }
-    requires few { Few counters.old }
-    ensures finds { Finds (board_in words.old) (state_with counters.old words.old)
-        (granted_in result counters.new words.new) }
-    ensures holds { Holds (board_in words.old) (record_at records.new) (pages_in records.new)
-        (granted_in result counters.new words.new) }
-    ensures gives_by { GivesBy (board_in words.old) (try_alloc_frame (board_in words.old) everywhere (rank level) flags)
-        (record_at records.old) (state_with counters.old words.old) memory.old
-        (record_at records.new) (pages_in records.new) memory.new (granted_in result counters.new words.new) }
-    ensures beside { Beside words.old words.new }
-{
-    let spot = allocator::do_alloc(words, records, level, flags.zeroed)?;
-    let address = address_of(words, spot);
-    hand_over(counters, words, records, memory, spot, level, flags);
-    Some(Granted { spot, address })
-}
-
-// The same, and a frame above the first level becomes 512 held ones.
-fn grant_split(
-    counters: &mut Counters,
-    words: &mut [u64],
-    records: &mut [u8],
-    memory: &mut [u8],
-    level: Level,
-    flags: FrameAllocFlags,
-) -> Option<Granted>
-    requires table_in { TableIn words.old records.old }
-    requires room_in { RoomIn words.old memory.old }
-    requires few { Few counters.old }
-    ensures finds { Finds (board_in words.old) (state_with counters.old words.old)
-        (granted_in result counters.new words.new) }
-    ensures gives_by { GivesBy (board_in words.old) (try_alloc_split_frames (board_in words.old) everywhere (rank level) flags)
-        (record_at records.old) (state_with counters.old words.old) memory.old
-        (record_at records.new) (pages_in records.new) memory.new (granted_in result counters.new words.new) }
-    ensures beside { Beside words.old words.new }
-{
-    let granted = grant(counters, words, records, memory, level, flags)?;
-    allocator::split_frame(words, records, granted.spot);
-    Some(granted)
 }
 
 // The answer to a grant: the frame's address and bytes, or two zeros where none was found.
@@ -184,32 +107,80 @@ fn handed(board: Board, granted: Option<Granted>, level: Level) -> Reply
     }
 }
 
-// A grant to the layout, its frame split where that is asked.
-fn given<const SPLIT: bool>(
-    counters: &mut Counters,
-    words: &mut [u64],
-    records: &mut [u8],
-    memory: &mut [u8],
-    size: u64,
-    align: u64,
-    flags: FrameAllocFlags,
-) -> Answer
-    requires table_in { TableIn words.old records.old }
-    requires room_in { RoomIn words.old memory.old }
-    requires few { Few counters.old }
-    ensures grants { Grants (asking SPLIT (record { size = size; align = align; flags = flags }))
-        counters.old words.old records.old memory.old
-        counters.new words.new records.new memory.new result }
-    ensures beside { Beside words.old words.new }
-{
-    let level = wanted(words, records, size, align, flags)?;
-    let board = words::board_in(words);
-    if SPLIT {
-        let split = grant_split(counters, words, records, memory, level, flags);
-        return Ok(handed(board, split, level));
+// ---- a grant
+
+// A field that is passed as `&` is not known to stay as it is. So each method first names the words and records that it passes so.
+impl Lent<'_> {
+    ghost use Rattle.grants.specs.Loans.{Same, FindsIn, GivesIn, GrantsIn};
+
+    // frame.rs 715 clears the ZEROED mark; tracker.rs 73 to 80 set KERNEL as asked, and count the pages of the level that was asked for.
+    fn hand_over(&mut self, spot: Spot, level: Level, flags: FrameAllocFlags)
+        requires few { Few self.old.counters.now }
+        requires held_in { HeldIn self.old.records.now self.old.words.now spot }
+        ensures same { Same self.old self.new }
+        ensures words { self.new.words.now ≡ self.old.words.now }
+        ensures value { self.new.counters.now ≡ count_alloc (pages_of (rank level)) flags.kernel self.old.counters.now }
+        ensures memory_after { self.new.memory.now ≡ zeroed_bytes (board_in self.old.words.now)
+            flags.zeroed (record_at self.old.records.now spot.page) spot.page self.old.memory.now }
+        ensures turns_in { TurnsIn (mark_at false flags.kernel (number_in self.old.words.now spot))
+            self.old.records.now self.old.words.now self.new.records.now self.new.words.now }
+    {
+        let words = &mut *self.words;
+        let records = &mut *self.records;
+        let board = words::board_in(words);
+        zero_if_asked(board, records, self.memory, spot.page, flags.zeroed);
+        allocator::set_marks(words, records, spot, false, flags.kernel);
+        *self.counters = tracker::count_alloc(*self.counters, level.pages(), flags.kernel);
     }
-    let whole = grant(counters, words, records, memory, level, flags);
-    Ok(handed(board, whole, level))
+
+    // A frame of the level, its contents and marks as asked, and its pages counted.
+    fn grant(&mut self, level: Level, flags: FrameAllocFlags) -> Option<Granted>
+        requires { Few self.old.counters.now }
+        ensures same { Same self.old self.new }
+        ensures finds { FindsIn self.old self.new result }
+        ensures held { IfSome result (λ t. HeldIn self.new.records.now self.new.words.now t.spot) }
+        ensures gives_by { GivesIn try_alloc_frame level flags self.old self.new result }
+        ensures beside { Beside self.old.words.now self.new.words.now }
+    {
+        let words = &mut *self.words;
+        let spot = allocator::do_alloc(words, self.records, level, flags.zeroed)?;
+        let address = address_of(words, spot);
+        self.hand_over(spot, level, flags);
+        Some(Granted { spot, address })
+    }
+
+    // The same, and a frame above the first level becomes 512 held ones.
+    fn grant_split(&mut self, level: Level, flags: FrameAllocFlags) -> Option<Granted>
+        requires { Few self.old.counters.now }
+        ensures same { Same self.old self.new }
+        ensures finds { FindsIn self.old self.new result }
+        ensures gives_by { GivesIn try_alloc_split_frames level flags self.old self.new result }
+        ensures beside { Beside self.old.words.now self.new.words.now }
+    {
+        let granted = self.grant(level, flags)?;
+        let words = &mut *self.words;
+        allocator::split_frame(words, self.records, granted.spot);
+        Some(granted)
+    }
+
+    // A grant to the layout, its frame split where that is asked.
+    fn given<const SPLIT: bool>(&mut self, size: u64, align: u64, flags: FrameAllocFlags) -> Answer
+        requires { Few self.old.counters.now }
+        ensures same { Same self.old self.new }
+        ensures grants { GrantsIn (asking SPLIT (record { size = size; align = align; flags = flags })) self.old self.new result }
+        ensures beside { Beside self.old.words.now self.new.words.now }
+    {
+        let words = &mut *self.words;
+        let records = &mut *self.records;
+        let level = wanted(words, records, size, align, flags)?;
+        let board = words::board_in(words);
+        if SPLIT {
+            let split = self.grant_split(level, flags);
+            return Ok(handed(board, split, level));
+        }
+        let whole = self.grant(level, flags);
+        Ok(handed(board, whole, level))
+    }
 }
 
 // ---- the calls
@@ -232,7 +203,13 @@ pub fn alloc(
         counters.new words.new records.new memory.new result }
     ensures beside { Beside words.old words.new }
 {
-    given::<false>(counters, words, records, memory, size, align, flags)
+    let mut lent = Lent {
+        counters,
+        words,
+        records,
+        memory,
+    };
+    lent.given::<false>(size, align, flags)
 }
 
 // try_alloc_split_frames, tracker.rs 98.
@@ -253,5 +230,11 @@ pub fn take(
         counters.new words.new records.new memory.new result }
     ensures beside { Beside words.old words.new }
 {
-    given::<true>(counters, words, records, memory, size, align, flags)
+    let mut lent = Lent {
+        counters,
+        words,
+        records,
+        memory,
+    };
+    lent.given::<true>(size, align, flags)
 }
