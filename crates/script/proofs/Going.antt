@@ -65,6 +65,7 @@ one_less {s} {at} {end} {next} n =
 pub same_then : {a b c : Run} → Same a b → Same b c → Same a c
 same_then S T =
     record {
+      running = T.running ∙ S.running;
       words = T.words ∙ S.words;
       records = T.records ∙ S.records;
       memory = T.memory ∙ S.memory;

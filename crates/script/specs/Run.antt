@@ -9,10 +9,10 @@ use Rattle.script.specs.Running.{Running}
 abbrev pub running_of : Run → Running
 running_of r =
     record {
-      map = r.map;
-      count = r.count;
-      booted = r.booted;
-      state = state_with r.counters r.words.now;
+      map = r.running.now.map;
+      count = r.running.now.count;
+      booted = r.running.now.booted;
+      state = state_with r.running.now.counters r.words.now;
       loans = record { records = r.records.now; memory = r.memory.now; queue = r.queue.now };
       answer = r.answer.now;
       at = r.at;
@@ -20,6 +20,7 @@ running_of r =
 
 -- the same loans, whatever they hold
 pub record Same (r r' : Run) : Type 0 where
+  pub running : r'.running.ghost_name ≡ r.running.ghost_name
   pub words : r'.words.ghost_name ≡ r.words.ghost_name
   pub records : r'.records.ghost_name ≡ r.records.ghost_name
   pub memory : r'.memory.ghost_name ≡ r.memory.ghost_name

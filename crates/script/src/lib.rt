@@ -96,14 +96,21 @@ fn put_line(out: &mut [u8], at: usize, op: Op, y: Answer) -> usize
 
 // ---- what is kept
 
-// A run between two lines: the first eight entries of the map and how many were read, whether a boot was accepted, the store's counters, the
-// loans, and the answer with the place behind what was printed.
-#[derive(Drop)]
-pub struct Run<'a> {
+// What is kept from line to line beside the loans and the words: the first eight entries of the map and how many were read, whether a boot
+// was accepted, and the store's counters.
+#[derive(Clone, Copy)]
+pub struct Running {
     pub map: [MemoryRegion; 8],
     pub count: usize,
     pub booted: bool,
     pub counters: Counters,
+}
+
+// A run between two lines: what it keeps, its words and loans, and the answer with the place behind what was printed. What is kept is lent
+// too, so that the places of all the others stay known where a call writes its counters.
+#[derive(Drop)]
+pub struct Run<'a> {
+    pub running: &'a mut Running,
     pub words: &'a mut [u64],
     pub records: &'a mut [u8],
     pub memory: &'a mut [u8],
@@ -154,13 +161,13 @@ impl<'a> Run<'a> {
 
     // An entry more of the map, which prints nothing.
     fn region(&mut self, n: [u64; 5])
-        requires { (self.old.at + 512 ≤ length self.old.answer.now) × (self.old.count + 1 < 2 ^ 64) }
+        requires { (self.old.at + 512 ≤ length self.old.answer.now) × (self.old.running.now.count + 1 < 2 ^ 64) }
         ensures same { Same self.old self.new }
         ensures does { Does program_board (AddRegion (entry_of (λ i. get_or n i 0))) (name_of (Op.Region))
             (running_of self.old) (running_of self.new) }
         ensures bounded { Bounded (running_of self.old) (running_of self.new) }
     {
-        if self.booted {
+        if self.running.booted {
             return self.bad();
         }
         let entry = MemoryRegion {
@@ -168,8 +175,9 @@ impl<'a> Run<'a> {
             length: n[1] as usize,
             kind: MemoryRegionKind::from(n[2]),
         };
-        enter(&mut self.map, self.count, entry);
-        self.count += 1;
+        let running = &mut *self.running;
+        enter(&mut running.map, running.count, entry);
+        running.count += 1;
     }
 
     fn boot_now(&mut self)
@@ -178,23 +186,24 @@ impl<'a> Run<'a> {
         ensures does { Does program_board BootNow (name_of (Op.Boot)) (running_of self.old) (running_of self.new) }
         ensures bounded { Bounded (running_of self.old) (running_of self.new) }
     {
-        if self.booted {
+        if self.running.booted {
             return self.bad();
         }
         let board = definition::standard();
+        let running = &mut *self.running;
         let memory = &mut *self.memory;
         let queue = &mut *self.queue;
         let y = boot::boot(
             board,
-            &mut self.counters,
+            &mut running.counters,
             self.words,
-            self.map,
-            self.count,
+            running.map,
+            running.count,
             self.records,
             memory,
             queue,
         );
-        self.booted = y.is_ok();
+        running.booted = y.is_ok();
         self.at = put_line(self.answer, self.at, Op::Boot, y);
     }
 
@@ -206,12 +215,12 @@ impl<'a> Run<'a> {
         ensures does { Does program_board (Asks Stats) (name_of (Op.Stats)) (running_of self.old) (running_of self.new) }
         ensures bounded { Bounded (running_of self.old) (running_of self.new) }
     {
-        if !self.booted {
+        if !self.running.booted {
             return self.bad();
         }
         let records = &mut *self.records;
         are_bytes(records);
-        let report = counts::stats(self.counters);
+        let report = counts::stats(self.running.counters);
         self.at = text::put_text(self.answer, self.at, &report.text[..report.len]);
     }
 
@@ -224,13 +233,13 @@ impl<'a> Run<'a> {
             (running_of self.old) (running_of self.new) }
         ensures bounded { Bounded (running_of self.old) (running_of self.new) }
     {
-        if !self.booted {
+        if !self.running.booted {
             return self.bad();
         }
         let records = &mut *self.records;
         are_bytes(records);
         let y = calls::make(
-            &mut self.counters,
+            &mut self.running.counters,
             self.words,
             records,
             self.memory,
@@ -244,7 +253,7 @@ impl<'a> Run<'a> {
     // One line: read, done and answered.
     fn take_turn(&mut self, line: &[u8])
         requires sure { Sure program_board (running_of self.old) }
-        requires at_in_bounds { (self.old.at + 512 ≤ length self.old.answer.now) × (self.old.count + 1 < 2 ^ 64) }
+        requires at_in_bounds { (self.old.at + 512 ≤ length self.old.answer.now) × (self.old.running.now.count + 1 < 2 ^ 64) }
         ensures same { Same self.old self.new }
         ensures turns { Turns program_board (running_of self.old) line.now (running_of self.new) }
         ensures bounded { Bounded (running_of self.old) (running_of self.new) }
@@ -295,11 +304,14 @@ pub fn jilakkor_run(
         return 0;
     }
     let mut words = [0u64; words::STATE_WORDS];
-    let mut run = Run {
+    let mut running = Running {
         map: no_map(),
         count: 0,
         booted: false,
         counters: boot::started(0),
+    };
+    let mut run = Run {
+        running: &mut running,
         words: &mut words,
         records,
         memory,

@@ -12,4 +12,4 @@ returns-then-self-clause-does c = does program_board BootNow (bytes_of "boot") t
 pub returns-clause-does : goal.returns-clause-does
 returns-clause-does c =
     let B = rw c.standard-board.ensures at c.boot-y.ensures.boots_all in
-    turned_boot program_board (bytes_of "boot") c.if-self.false c.is_ok-self.ensures.value B c.put_line-self.ensures.wrote
+    turned_boot program_board (bytes_of "boot") c.if-self.false c.is_ok-running.ensures.value B c.put_line-self.ensures.wrote

@@ -10,7 +10,7 @@ pub loop-at-init : goal.loop-at-init
 unfolding bytes_of
 loop-at-init c =
     record {
-      same = record { words = refl; records = refl; memory = refl; queue = refl; answer = refl };
+      same = record { running = refl; words = refl; records = refl; memory = refl; queue = refl; answer = refl };
       going = going c.put_text-self.ensures c.requires.script_in_bounds c.requires.fresh;
     }
 
