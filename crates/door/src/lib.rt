@@ -12,6 +12,7 @@ ghost use Rattle.lines.specs.Reading.{call_of};
 ghost use Rattle.door.specs.Tested.{Finds, Lends, Reports, lent};
 
 use address::PhysAddr;
+use allocator::Table;
 use counts::Report;
 use definition::{Counters, FrameAllocFlags, Refusal};
 use exam::Answer;
@@ -57,7 +58,7 @@ pub fn find(
         (world counters words.now records.now memory.now queue.now) result }
 {
     exam::torn_test(counters, words, records, memory, queue)?;
-    frames::find(words, records, pa)
+    frames::find(Table { words, records }, pa)
 }
 
 #[tactic(auto, using(crate::proofs::Testing::leaves_torn))]
@@ -142,7 +143,7 @@ pub fn read_place(
         (Read pa.0 offset len) len result }
 {
     exam::torn_test(counters, words, records, memory, queue)?;
-    copies::read_place(words, records, pa, offset, len)
+    copies::read_place(Table { words, records }, pa, offset, len)
 }
 
 // 01, "Added `read`": the part of the lent memory that starts at the frame's offset.

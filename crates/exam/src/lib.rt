@@ -6,10 +6,10 @@ ghost use Rattle.std.specs.Prelude.{◌≡◌, ◌+◌, ◌*◌, ◌<◌, ◌^�
 ghost use Rattle.definition.specs.Board.{Fit};
 ghost use Rattle.words.specs.Words.{board_in, Long};
 ghost use Rattle.exam.specs.Promise.{LevelKnown, Leveled, both_held, bytes_if, held_as};
-ghost use Rattle.exam.specs.Making.{LooksIn, TableIn, Tests};
+ghost use Rattle.exam.specs.Making.{LooksIn, Tests};
 
 use address::PhysAddr;
-use allocator::Seen;
+use allocator::{Seen, Table};
 use definition::{Board, Counters, Refusal};
 
 // What an accepted call answers: an address and a count of bytes, as 01's script prints them.
@@ -81,18 +81,11 @@ fn held(
 }
 
 // What a call finds at an address: the held frame that starts there and has the range, or the refusal that it meets.
-pub fn look(
-    words: &[u64],
-    records: &[u8],
-    pa: PhysAddr,
-    offset: u64,
-    len: u64,
-) -> Result<Seen, Refusal>
-    requires { TableIn words.now records.now }
-    ensures { LooksIn words.now records.now pa.0 offset len result }
+pub fn look(table: Table, pa: PhysAddr, offset: u64, len: u64) -> Result<Seen, Refusal>
+    ensures { LooksIn table.entry.words.now table.entry.records.now pa.0 offset len result }
 {
-    let seen = allocator::see(words, records, pa);
-    held(words::board_in(words), seen, pa, offset, len)
+    let seen = table.see(pa);
+    held(words::board_in(table.words), seen, pa, offset, len)
 }
 
 // Where a byte of a page stands in the lent memory.

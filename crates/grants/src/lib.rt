@@ -27,7 +27,7 @@ ghost use Rattle.grants.specs.Granting.{
   Holds,
 };
 
-use allocator::Spot;
+use allocator::{Spot, Table};
 use definition::{Board, Counters, FrameAllocFlags, Refusal};
 use exam::{Answer, Reply};
 use level::Level;
@@ -35,19 +35,12 @@ use level::Level;
 // ---- which refusal a layout meets
 
 // 7 to 10: the level that the layout gets, where something is listed at it or above.
-fn wanted(
-    words: &[u64],
-    records: &[u8],
-    size: u64,
-    align: u64,
-    flags: FrameAllocFlags,
-) -> Result<Level, Refusal>
-    requires { TableIn words.now records.now }
-    ensures { WantsIn words.now records.now (record { size = size; align = align; flags = flags }) result }
+fn wanted(table: Table, size: u64, align: u64, flags: FrameAllocFlags) -> Result<Level, Refusal>
+    ensures { WantsIn table.entry.words.now table.entry.records.now (record { size = size; align = align; flags = flags }) result }
 {
-    let board = words::board_in(words);
+    let board = words::board_in(table.words);
     let level = level::find_level(board, size, align)?;
-    if allocator::is_listed(words, records, level) {
+    if table.is_listed(level) {
         return Ok(level);
     }
     Err(if flags.wait_ok {
@@ -202,7 +195,7 @@ fn given<const SPLIT: bool>(
         counters.new words.new records.new memory.new result }
     ensures beside { Beside words.old words.new }
 {
-    let level = wanted(words, records, size, align, flags)?;
+    let level = wanted(Table { words, records }, size, align, flags)?;
     let board = words::board_in(words);
     if SPLIT {
         let split = grant_split(counters, words, records, memory, level, flags);
