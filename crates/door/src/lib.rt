@@ -163,12 +163,7 @@ pub fn read_place(loans: &Loans, pa: PhysAddr, offset: u64, len: u64) -> Result<
 
 // 01, "Added `read`": the part of the lent memory that starts at the frame's offset.
 #[tactic(auto, using(crate::proofs::Reporting::lends_part))]
-pub fn read<'a>(
-    loans: &Loans<'a>,
-    pa: PhysAddr,
-    offset: u64,
-    len: u64,
-) -> Result<&'a [u8], Refusal>
+pub fn read<'a>(loans: &Loans<'a>, pa: PhysAddr, offset: u64, len: u64) -> Result<&'a [u8], Refusal>
     ensures { Lends (board_in loans.now.words.now) (world_lent loans.now) (Read pa.0 offset len) (lent result) }
 {
     let at = read_place(loans, pa, offset, len)?;

@@ -153,9 +153,9 @@ module _ {board : Board} {f : ℕ → Record} {n : ℕ} {rows : List Row} (N : �
       : (r : Seen) → SeesAll board f n rows (a / board.page) (Some r) → r.marks % 2 ≡ 1 → r.marks / 2 % 2 ≡ 1 → HeldSeen board f rows r
   page_held r all admitted allocated =
       ∥∥₁_elim N (hlevel props) (λ S.
-        let P = all (standing board f rows) (sane_table S) in
-        let h = sees_held P admitted allocated in
-        record { inside = h.0; held = h.1; leveled = page_leveled board f rows S P admitted; marks = P.marks; level = P.level })
+      let P = all (standing board f rows) (sane_table S) in
+      let h = sees_held P admitted allocated in
+      record { inside = h.0; held = h.1; leveled = page_leveled board f rows S P admitted; marks = P.marks; level = P.level })
 
   page_found : (r : Seen) → SeesAll board f n rows (a / board.page) (Some r) → held_as board (Some r) a off len ≡ Ok r → Found board f n rows a off len r
   page_found r all e =

@@ -13,7 +13,6 @@ mod loans;
 use address::PhysAddr;
 use allocator::{Seen, Table};
 use definition::{Board, Refusal};
-
 pub use loans::Loans;
 
 // What an accepted call answers: an address and a count of bytes, as 01's script prints them.

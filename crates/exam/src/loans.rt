@@ -21,8 +21,7 @@ pub struct Loans<'a> {
 // That records are bytes: a proof knows it of a parameter, and not of a field behind a reference.
 fn are_bytes(records: &[u8])
     ensures { (i : ℕ) → slice_index records.now i < 256 }
-{
-}
+{}
 
 impl Loans<'_> {
     ghost use Rattle.exam.specs.Making.{Tests};
