@@ -44,49 +44,59 @@ pub struct Seen {
     pub level: u32,
 }
 
-// get_frame, frame.rs 742: none where no region manages the address.
-pub fn see(words: &[u64], records: &[u8], pa: PhysAddr) -> Option<Seen>
-    requires { Long words.now × SaneIn records.now words.now }
-    ensures { SeesIn records.now words.now (pa.0 / (board_in words.now).page) result }
-{
-    let board = words::board_in(words);
-    let mut base: usize = 0;
-    for i in 0..8 {
-        let row = words::row_at(words, i);
-        if row.pages == 0 {
-            return None;
-        }
-        if let Some(page) = region::get_frame(board, row, base, pa) {
-            return Some(Seen {
-                spot: Spot {
-                    index: i,
-                    base,
-                    page,
-                },
-                marks: record::marks(records, page),
-                level: record::level(records, page),
-            });
-        }
-        base += row.pages - region::table_pages(board, row.pages);
-    }
-    None
+// The table of frames, to read, with what the torn test establishes of it.
+#[derive(Clone, Copy)]
+pub struct Table<'a> {
+    pub words: &'a [u64],
+    pub records: &'a [u8],
+    pub ghost long: { Long words.now },
+    pub ghost sane: { ∥ SaneIn records.now words.now ∥₁ },
 }
 
-// Whether some list holds a frame of the level or above.
-pub fn is_listed(words: &[u64], records: &[u8], level: Level) -> bool
-    requires { Long words.now × SaneIn records.now words.now }
-    ensures { ListedIn records.now words.now (rank level) result }
-{
-    for i in 0..8 {
-        let row = words::row_at(words, i);
-        if row.pages == 0 {
-            return false;
+impl Table<'_> {
+    // get_frame, frame.rs 742: none where no region manages the address.
+    pub fn see(&self, pa: PhysAddr) -> Option<Seen>
+        ensures { SeesIn self.now.records.now self.now.words.now (pa.0 / (board_in self.now.words.now).page) result }
+    {
+        let words = self.words;
+        let board = words::board_in(words);
+        let mut base: usize = 0;
+        for i in 0..8 {
+            let row = words::row_at(words, i);
+            if row.pages == 0 {
+                return None;
+            }
+            if let Some(page) = region::get_frame(board, row, base, pa) {
+                return Some(Seen {
+                    spot: Spot {
+                        index: i,
+                        base,
+                        page,
+                    },
+                    marks: record::marks(self.records, page),
+                    level: record::level(self.records, page),
+                });
+            }
+            base += row.pages - region::table_pages(board, row.pages);
         }
-        if lists_some(row, level) {
-            return true;
-        }
+        None
     }
-    false
+
+    // Whether some list holds a frame of the level or above.
+    pub fn is_listed(&self, level: Level) -> bool
+        ensures { ListedIn self.now.records.now self.now.words.now (rank level) result }
+    {
+        for i in 0..8 {
+            let row = words::row_at(self.words, i);
+            if row.pages == 0 {
+                return false;
+            }
+            if lists_some(row, level) {
+                return true;
+            }
+        }
+        false
+    }
 }
 
 // Whether a row lists a frame of the level or above.

@@ -8,6 +8,7 @@ ghost use Rattle.exam.specs.Making.{Makes, Ready, world};
 ghost use Rattle.lines.specs.Reading.{call_of};
 
 use address::PhysAddr;
+use allocator::Table;
 use definition::{Counters, FrameAllocFlags};
 use exam::Answer;
 use lines::Ask;
@@ -44,7 +45,7 @@ pub fn make(
         Ask::Free => frames::free(counters, words, records, pa),
         Ask::Zero => ranges::zero(words, records, memory, pa),
         Ask::Dirty => ranges::dirty(words, records, pa),
-        Ask::Find => frames::find(words, records, pa),
+        Ask::Find => frames::find(Table { words, records }, pa),
         Ask::Queue => reclaim::queue(words, records, queue, pa),
         Ask::Fill => ranges::fill(words, records, memory, pa, n[1], n[2], (n[3] % 256) as u8),
         Ask::Copy => copies::copy(words, records, memory, pa, n[1], from, n[3], n[4]),

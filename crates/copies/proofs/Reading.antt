@@ -5,6 +5,8 @@ use mathlib.Core.List.{List, []}
 use mathlib.Core.Option.{none}
 use mathlib.Core.Path.{◌≡◌, refl, sym, ap, ◌∙◌}
 use Rattle.std.specs.Prelude.{Result, Ok, Err}
+use Rattle.std.proofs.Math.Logic.{∥∥₁_elim}
+use Rattle.std.proofs.Props.{props}
 use native.Mathlib.Omega.{arith}
 use lib.ListN.{length, take, drop}
 use Rattle.definition.proofs.Boards.{page_most}
@@ -22,10 +24,11 @@ use Rattle.world.specs.Refusals.{number_if, refusal_of}
 use Rattle.world.proofs.Refusing.{one_frame}
 use Rattle.world.proofs.Writing.{bytes_length}
 use Rattle.allocator.specs.declared.Seen.{Seen}
-use Rattle.exam.specs.Making.{LooksIn, Made, TableIn, Whole}
+use Rattle.allocator.specs.Spots.{SaneIn}
+use Rattle.exam.specs.Making.{LooksIn, Made, Whole}
 use Rattle.exam.specs.Promise.{Looks, refusal_in, reply, told}
 use Rattle.exam.proofs.Making.{looked_free, looked_number, looked_refused, made_same}
-use Rattle.ranges.proofs.Held.{held_ends, held_read, looked_ends}
+use Rattle.ranges.proofs.Held.{held_ends, held_read}
 use Rattle.copies.specs.Copies.{FindsIn, bytes_of}
 
 -- ---- an answer's number and bytes, by what is told of it
@@ -92,15 +95,18 @@ module _ (ws rs : List ℕ) {a off len : ℕ} where
         bytes = λ at e. absurd (grind arith);
       }
 
-  module _ {r : Seen} (T : TableIn ws rs) (L : LooksIn ws rs a off len (Ok r)) where
+  module _ {r : Seen} (T : ∥ SaneIn rs ws ∥₁) (L : LooksIn ws rs a off len (Ok r)) where
     abbrev stands : ℕ
     stands = (board_in ws).page * r.spot.page + off
 
     pub finds_place : FindsIn ws rs a off len (Ok stands)
     finds_place =
+        let F = L.found r refl in
         record {
           makes = λ k m q s W. read_made W L;
-          inside = λ at e m room. let same : stands ≡ at = grind arith in rw (← same) (looked_ends ws rs T L m room);
+          inside = λ at e m room.
+              let same : stands ≡ at = grind arith in
+              rw (← same) (∥∥₁_elim T (hlevel props) (λ S. omega (arith, held_ends F.held S off len F.range, room)));
           bytes = λ at e k m q s W. let same : stands ≡ at = grind arith in rw (← same) (read_bytes W L);
         }
 
@@ -109,4 +115,4 @@ module _ (ws rs : List ℕ) {a off len : ℕ} where
     place_small =
         let b = board_in ws in
         let F = L.found r refl in
-        omega (arith, held_ends F.held T.1 off len F.range, pages_order b.page T.1.most, page_most (fit_in ws))
+        ∥∥₁_elim T (hlevel props) (λ S. omega (arith, held_ends F.held S off len F.range, pages_order b.page S.most, page_most (fit_in ws)))

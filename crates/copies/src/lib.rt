@@ -14,7 +14,7 @@ ghost use Rattle.exam.specs.Making.{TableIn, RoomIn, Writes};
 ghost use Rattle.copies.specs.Copies.{FindsIn, SpansIn, WritesBy, MovesTo, Placed, place_seen};
 
 use address::PhysAddr;
-use allocator::Seen;
+use allocator::{Seen, Table};
 use definition::{Board, Refusal};
 use exam::{Answer, Reply};
 
@@ -22,18 +22,11 @@ use exam::{Answer, Reply};
 
 // Where the bytes that are read stand in the memory.
 #[tactic(auto, using(crate::proofs::Reading::place_small, crate::proofs::Reading::finds_place, crate::proofs::Reading::finds_refused))]
-pub fn read_place(
-    words: &[u64],
-    records: &[u8],
-    pa: PhysAddr,
-    offset: u64,
-    len: u64,
-) -> Result<usize, Refusal>
-    requires { TableIn words.now records.now }
-    ensures { FindsIn words.now records.now pa.0 offset len result }
+pub fn read_place(table: Table, pa: PhysAddr, offset: u64, len: u64) -> Result<usize, Refusal>
+    ensures { FindsIn table.entry.words.now table.entry.records.now pa.0 offset len result }
 {
-    let seen = exam::look(words, records, pa, offset, len)?;
-    Ok(exam::place(words, seen.spot.page, offset))
+    let seen = exam::look(table, pa, offset, len)?;
+    Ok(exam::place(table.words, seen.spot.page, offset))
 }
 
 // ---- copy
@@ -124,8 +117,9 @@ pub fn copy(
         records.old memory.old
         records.new memory.new result }
 {
-    let to = exam::look(words, records, target, target_offset, len);
-    let from = exam::look(words, records, source, source_offset, len);
+    let table = Table { words, records };
+    let to = exam::look(table, target, target_offset, len);
+    let from = exam::look(table, source, source_offset, len);
     let (to, from) = exam::both(to, from)?;
     copy_contents_from(
         words,
@@ -176,8 +170,9 @@ pub fn pcopy(
         records.old memory.old
         records.new memory.new result }
 {
-    let to = exam::look(words, records, target, target_offset, len);
-    let place = placed(words, allocator::see(words, records, source), source, len);
+    let table = Table { words, records };
+    let to = exam::look(table, target, target_offset, len);
+    let place = placed(words, table.see(source), source, len);
     let (to, place) = exam::both(to, place)?;
     let page = words::board_in(words).page as u64;
     let from = exam::place(words, place.spot.page, source.raw() % page);

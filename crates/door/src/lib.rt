@@ -8,13 +8,15 @@ ghost use Rattle.definition.specs.Calls.{Alloc, Free, Find, Write, Read};
 ghost use Rattle.words.specs.Words.{board_in, Long, Beside};
 ghost use Rattle.exam.specs.Promise.{Leaves};
 ghost use Rattle.exam.specs.Making.{world};
+ghost use Rattle.exam.specs.Lent.{world_lent};
 ghost use Rattle.lines.specs.Reading.{call_of};
 ghost use Rattle.door.specs.Tested.{Finds, Lends, Reports, lent};
 
 use address::PhysAddr;
+use allocator::Table;
 use counts::Report;
 use definition::{Counters, FrameAllocFlags, Refusal};
-use exam::Answer;
+use exam::{Answer, Loans};
 use lines::Ask;
 
 // ---- any call that answers by numbers
@@ -36,28 +38,29 @@ pub fn ask(
         (world counters.new words.new records.new memory.new queue.new) result }
     ensures beside { Beside words.old words.new }
 {
-    exam::torn_test(*counters, words, records, memory, queue)?;
+    let loans = Loans {
+        counters: *counters,
+        words,
+        records,
+        memory,
+        queue,
+    };
+    loans.torn_test()?;
     calls::make(counters, words, records, memory, queue, op, n)
 }
 
 // ---- the three calls that a kernel makes most
 
 #[tactic(auto, using(crate::proofs::Testing::leaves_torn))]
-pub fn find(
-    counters: Counters,
-    words: &[u64],
-    records: &[u8],
-    memory: &[u8],
-    queue: &[u64],
-    pa: PhysAddr,
-) -> Answer
-    requires { Long words.now }
-    ensures { Leaves (board_in words.now)
-        (world counters words.now records.now memory.now queue.now) (Find pa.0)
-        (world counters words.now records.now memory.now queue.now) result }
+pub fn find(loans: &Loans, pa: PhysAddr) -> Answer
+    ensures { Leaves (board_in loans.now.words.now) (world_lent loans.now) (Find pa.0) (world_lent loans.now) result }
 {
-    exam::torn_test(counters, words, records, memory, queue)?;
-    frames::find(words, records, pa)
+    loans.torn_test()?;
+    let table = Table {
+        words: loans.words,
+        records: loans.records,
+    };
+    frames::find(table, pa)
 }
 
 #[tactic(auto, using(crate::proofs::Testing::leaves_torn))]
@@ -75,7 +78,14 @@ pub fn free(
         (world counters.new words.new records.new memory.now queue.now) result }
     ensures beside { Beside words.old words.new }
 {
-    exam::torn_test(*counters, words, records, memory, queue)?;
+    let loans = Loans {
+        counters: *counters,
+        words,
+        records,
+        memory,
+        queue,
+    };
+    loans.torn_test()?;
     frames::free(counters, words, records, pa)
 }
 
@@ -97,7 +107,14 @@ pub fn alloc(
         (world counters.new words.new records.new memory.new queue.now) result }
     ensures beside { Beside words.old words.new }
 {
-    exam::torn_test(*counters, words, records, memory, queue)?;
+    let loans = Loans {
+        counters: *counters,
+        words,
+        records,
+        memory,
+        queue,
+    };
+    loans.torn_test()?;
     grants::alloc(counters, words, records, memory, size, align, flags)
 }
 
@@ -120,64 +137,43 @@ pub fn write(
         (Write pa.0 offset bytes.now)
         (world counters words.now records.new memory.new queue.now) result }
 {
-    exam::torn_test(counters, words, records, memory, queue)?;
+    let loans = Loans {
+        counters,
+        words,
+        records,
+        memory,
+        queue,
+    };
+    loans.torn_test()?;
     ranges::write(words, records, memory, pa, offset, bytes)
 }
 
 // Where the bytes that are read stand in the memory.
 #[tactic(auto, using(crate::proofs::Reporting::finds_torn))]
-pub fn read_place(
-    counters: Counters,
-    words: &[u64],
-    records: &[u8],
-    memory: &[u8],
-    queue: &[u64],
-    pa: PhysAddr,
-    offset: u64,
-    len: u64,
-) -> Result<usize, Refusal>
-    requires { Long words.now }
-    ensures { Finds (board_in words.now)
-        (world counters words.now records.now memory.now queue.now)
-        (Read pa.0 offset len) len result }
+pub fn read_place(loans: &Loans, pa: PhysAddr, offset: u64, len: u64) -> Result<usize, Refusal>
+    ensures { Finds (board_in loans.now.words.now) (world_lent loans.now) (Read pa.0 offset len) len result }
 {
-    exam::torn_test(counters, words, records, memory, queue)?;
-    copies::read_place(words, records, pa, offset, len)
+    loans.torn_test()?;
+    let table = Table {
+        words: loans.words,
+        records: loans.records,
+    };
+    copies::read_place(table, pa, offset, len)
 }
 
 // 01, "Added `read`": the part of the lent memory that starts at the frame's offset.
 #[tactic(auto, using(crate::proofs::Reporting::lends_part))]
-pub fn read<'a>(
-    counters: Counters,
-    words: &[u64],
-    records: &[u8],
-    memory: &'a [u8],
-    queue: &[u64],
-    pa: PhysAddr,
-    offset: u64,
-    len: u64,
-) -> Result<&'a [u8], Refusal>
-    requires { Long words.now }
-    ensures { Lends (board_in words.now)
-        (world counters words.now records.now memory.now queue.now)
-        (Read pa.0 offset len) (lent result) }
+pub fn read<'a>(loans: &Loans<'a>, pa: PhysAddr, offset: u64, len: u64) -> Result<&'a [u8], Refusal>
+    ensures { Lends (board_in loans.now.words.now) (world_lent loans.now) (Read pa.0 offset len) (lent result) }
 {
-    let at = read_place(counters, words, records, memory, queue, pa, offset, len)?;
-    Ok(contents::part(memory, at, len as usize))
+    let at = read_place(loans, pa, offset, len)?;
+    Ok(contents::part(loans.memory, at, len as usize))
 }
 
 // The statistics.
-pub fn stats(
-    counters: Counters,
-    words: &[u64],
-    records: &[u8],
-    memory: &[u8],
-    queue: &[u64],
-) -> Result<Report, Refusal>
-    requires { Long words.now }
-    ensures { Reports (board_in words.now)
-        (world counters words.now records.now memory.now queue.now) result }
+pub fn stats(loans: &Loans) -> Result<Report, Refusal>
+    ensures { Reports (board_in loans.now.words.now) (world_lent loans.now) result }
 {
-    exam::torn_test(counters, words, records, memory, queue)?;
-    Ok(counts::stats(counters))
+    loans.torn_test()?;
+    Ok(counts::stats(loans.counters))
 }

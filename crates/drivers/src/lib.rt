@@ -12,7 +12,7 @@ ghost use Rattle.drivers.specs.Driving.{Drives, address_in, booted_world, grant_
 
 use address::PhysAddr;
 use definition::{Counters, FrameAllocFlags, MemoryRegion, MemoryRegionKind};
-use exam::Answer;
+use exam::{Answer, Loans};
 
 // The store of a map with one usable entry. Where the map is refused it has no region, and refuses all that follows.
 fn booted(
@@ -144,7 +144,14 @@ pub extern "C" fn drivers_finds(
     let counters = booted(&mut words, records, memory, queue, start, bytes);
     let pa = PhysAddr::new(address);
     for i in 0..times {
-        if door::find(counters, &words, records, memory, queue, pa).is_err() {
+        let loans = Loans {
+            counters,
+            words: &words,
+            records,
+            memory,
+            queue,
+        };
+        if door::find(&loans, pa).is_err() {
             return i;
         }
     }
@@ -168,7 +175,14 @@ fn zero(
         (Zero pa.0)
         (world counters words.now records.new memory.new queue.now) result }
 {
-    exam::torn_test(counters, words, records, memory, queue)?;
+    let loans = Loans {
+        counters,
+        words,
+        records,
+        memory,
+        queue,
+    };
+    loans.torn_test()?;
     ranges::zero(words, records, memory, pa)
 }
 
@@ -190,7 +204,14 @@ fn fill(
         (Fill pa.0 offset len byte)
         (world counters words.now records.new memory.new queue.now) result }
 {
-    exam::torn_test(counters, words, records, memory, queue)?;
+    let loans = Loans {
+        counters,
+        words,
+        records,
+        memory,
+        queue,
+    };
+    loans.torn_test()?;
     ranges::fill(words, records, memory, pa, offset, len, byte)
 }
 
@@ -212,7 +233,14 @@ fn copy(
         (Copy target.0 target_offset source.0 source_offset len)
         (world counters words.now records.new memory.new queue.now) result }
 {
-    exam::torn_test(counters, words, records, memory, queue)?;
+    let loans = Loans {
+        counters,
+        words,
+        records,
+        memory,
+        queue,
+    };
+    loans.torn_test()?;
     copies::copy(
         words,
         records,

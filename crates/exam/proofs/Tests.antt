@@ -7,6 +7,8 @@ use mathlib.Core.Option.{Option, none, some}
 use mathlib.Core.Path.{◌≡◌, refl, sym, ap, ◌∙◌}
 use Rattle.std.specs.Prelude.{Result, Ok, Err, Some, None}
 use Rattle.std.specs.Prelude.{Option as MayBe}
+use Rattle.std.proofs.Math.Logic.{∥∥₁_elim}
+use Rattle.std.proofs.Props.{props}
 use native.Mathlib.Omega.{arith}
 use borrow.Author.Tests.{eq-eqb, eqb-true, ltb-false}
 use lib.Dec.{eqb, ltb}
@@ -32,7 +34,7 @@ use Rattle.region.specs.Rep.{state_of}
 use Rattle.world.specs.Tables.{Sane}
 use Rattle.allocator.proofs.Turning.{sees_held, sees_in, spot_good}
 use Rattle.allocator.proofs.Standing.{sane_table, standing}
-use Rattle.exam.specs.Promise.{Found, Leveled, Looks, bytes_if, held_as, refusal_in}
+use Rattle.exam.specs.Promise.{Found, HeldSeen, Leveled, Looks, bytes_if, held_as, refusal_in}
 
 -- the four lines of the sheet by their tests
 by_tests : (a b c d : Bool)
@@ -127,9 +129,14 @@ module _ (board : Board) (f : ℕ → Record) (rows : List Row) where
       let e : frame_of (f r.spot.page) ≡ some (of_record (f r.spot.page)) = admitted_frame (f r.spot.page) (eq-eqb _ 1 (sym (ap (λ (x : ℕ). x % 2) P.marks) ∙ d)) in
       omega (arith, P.level, (G.whole.tile r.spot.page (of_record (f r.spot.page)) P.spot.inside e).level)
 
-  pub sees_leveled : {n : ℕ} (p : ℕ) (a : PhysicalFrameAllocator) (o : MayBe Seen) → Sane board f n rows → Sees board f rows p a o → Leveled o
+  sees_leveled : {n : ℕ} (p : ℕ) (a : PhysicalFrameAllocator) (o : MayBe Seen) → Sane board f n rows → Sees board f rows p a o → Leveled o
   sees_leveled p a None N S r k d = absurd (let z : ◌≡◌ {A = ℕ} 0 1 = cc in omega arith)
   sees_leveled p a (Some t) N S r k d = let e : t ≡ r = cc in page_leveled N (rw e at S) d
+
+  pub seen_leveled : {n : ℕ} (p : ℕ) (o : MayBe Seen) → ∥ Sane board f n rows ∥₁ → SeesAll board f n rows p o → Leveled o
+  seen_leveled p o N all r k d =
+      ∥∥₁_elim N (hlevel props)
+      (λ S. sees_leveled p (standing board f rows) o S (all (standing board f rows) (sane_table S)) r k d)
 
 -- ---- where nothing is refused, a held frame starts there and the range lies in it
 
@@ -141,17 +148,22 @@ all_passed r t true false d h = absurd (let z : ◌≡◌ {A = ℕ} 0 1 = cc in 
 all_passed r t true true true h = absurd (let z : ◌≡◌ {A = ℕ} 0 1 = cc in omega arith)
 all_passed r t true true false h = let e : r ≡ t = cc in (refl, refl, refl, e)
 
-module _ {board : Board} {f : ℕ → Record} {n : ℕ} {rows : List Row} (N : Sane board f n rows) (a off len : ℕ) where
+module _ {board : Board} {f : ℕ → Record} {n : ℕ} {rows : List Row} (N : ∥ Sane board f n rows ∥₁) (a off len : ℕ) where
+  page_held
+      : (r : Seen) → SeesAll board f n rows (a / board.page) (Some r) → r.marks % 2 ≡ 1 → r.marks / 2 % 2 ≡ 1 → HeldSeen board f rows r
+  page_held r all admitted allocated =
+      ∥∥₁_elim N (hlevel props) (λ S.
+      let P = all (standing board f rows) (sane_table S) in
+      let h = sees_held P admitted allocated in
+      record { inside = h.0; held = h.1; leveled = page_leveled board f rows S P admitted; marks = P.marks; level = P.level })
+
   page_found : (r : Seen) → SeesAll board f n rows (a / board.page) (Some r) → held_as board (Some r) a off len ≡ Ok r → Found board f n rows a off len r
   page_found r all e =
       let t = all_passed r r (eqb (a % board.page) 0 && eqb (r.marks % 2) 1) (eqb (r.marks / 2 % 2) 1) (ltb (bytes_if board r) (off + len)) e in
       let admitted = eqb-true (r.marks % 2) 1 (and_right (eqb (a % board.page) 0) _ t.0) in
-      let S = all (standing board f rows) (sane_table N) in
-      let P = S in
-      let h = sees_held P admitted (eqb-true (r.marks / 2 % 2) 1 t.1) in
       let bytes : bytes_if board r ≡ board.page * size r.level = rw (and_right (eqb (a % board.page) 0) _ t.0) refl in
       record {
-        held = record { inside = h.0; held = h.1; leveled = page_leveled board f rows N P admitted; marks = P.marks; level = P.level };
+        held = page_held r all admitted (eqb-true (r.marks / 2 % 2) 1 t.1);
         edge = eqb-true (a % board.page) 0 (and_left _ _ t.0);
         range = omega (arith, ltb-false (bytes_if board r) (off + len) t.2, bytes);
         sees = all;

@@ -1,16 +1,19 @@
-// What every call shares: its answer, the torn test (refusal 6), which comes before a call or a list of calls, and the refusals of a frame
-// that must be held (11 to 14). A call is lent what it reads and writes of the state, and promises `Makes` of specs/Making.antt.
+// What every call shares: its answer, the loans that it reads with their torn test (refusal 6), and the refusals of a frame that must be
+// held (11 to 14). A call is lent what it reads and writes of the state, and promises `Makes` of specs/Making.antt.
 #![tactic(auto)]
 
 ghost use Rattle.std.specs.Prelude.{◌≡◌, ◌+◌, ◌*◌, ◌<◌, ◌^◌};
 ghost use Rattle.definition.specs.Board.{Fit};
-ghost use Rattle.words.specs.Words.{board_in, Long};
+ghost use Rattle.words.specs.Words.{board_in};
 ghost use Rattle.exam.specs.Promise.{LevelKnown, Leveled, both_held, bytes_if, held_as};
-ghost use Rattle.exam.specs.Making.{LooksIn, TableIn, Tests};
+ghost use Rattle.exam.specs.Making.{LooksIn};
+
+mod loans;
 
 use address::PhysAddr;
-use allocator::Seen;
-use definition::{Board, Counters, Refusal};
+use allocator::{Seen, Table};
+use definition::{Board, Refusal};
+pub use loans::Loans;
 
 // What an accepted call answers: an address and a count of bytes, as 01's script prints them.
 #[derive(Clone, Copy)]
@@ -23,23 +26,6 @@ pub struct Reply {
 pub type Answer = Result<Reply, Refusal>;
 
 // ---- the tests of a call
-
-// The torn test of all that is lent (refusal 6): what passes it has what the calls ask for.
-pub fn torn_test(
-    counters: Counters,
-    words: &[u64],
-    records: &[u8],
-    memory: &[u8],
-    queue: &[u64],
-) -> Result<(), Refusal>
-    requires { Long words.now }
-    ensures { Tests counters words.now records.now memory.now queue.now result }
-{
-    if !audit::audit(counters, words, records, memory.len(), queue.len()) {
-        return Err(Refusal::Torn);
-    }
-    Ok(())
-}
 
 // The bytes of the frame that starts at a page that was seen, 0 where none does.
 pub fn frame_bytes(board: Board, seen: Seen) -> u64
@@ -81,18 +67,11 @@ fn held(
 }
 
 // What a call finds at an address: the held frame that starts there and has the range, or the refusal that it meets.
-pub fn look(
-    words: &[u64],
-    records: &[u8],
-    pa: PhysAddr,
-    offset: u64,
-    len: u64,
-) -> Result<Seen, Refusal>
-    requires { TableIn words.now records.now }
-    ensures { LooksIn words.now records.now pa.0 offset len result }
+pub fn look(table: Table, pa: PhysAddr, offset: u64, len: u64) -> Result<Seen, Refusal>
+    ensures { LooksIn table.entry.words.now table.entry.records.now pa.0 offset len result }
 {
-    let seen = allocator::see(words, records, pa);
-    held(words::board_in(words), seen, pa, offset, len)
+    let seen = table.see(pa);
+    held(words::board_in(table.words), seen, pa, offset, len)
 }
 
 // Where a byte of a page stands in the lent memory.

@@ -12,19 +12,18 @@ ghost use Rattle.std.specs.Prelude.{◌<◌, ◌^◌};
 ghost use Rattle.frames.specs.Freeing.{Released};
 
 use address::PhysAddr;
-use allocator::Seen;
+use allocator::{Seen, Table};
 use definition::{Counters, Refusal};
 use exam::{Answer, Reply};
 
 // ---- lookup
 
 // get_frame: the page of an address, and the bytes of the frame that starts there.
-pub fn find(words: &[u64], records: &[u8], pa: PhysAddr) -> Answer
-    requires { TableIn words.now records.now }
-    ensures { Reads (Find pa.0) words.now records.now result }
+pub fn find(table: Table, pa: PhysAddr) -> Answer
+    ensures { Reads (Find pa.0) table.entry.words.now table.entry.records.now result }
 {
-    let seen = allocator::see(words, records, pa).ok_or(Refusal::Outside)?;
-    let board = words::board_in(words);
+    let seen = table.see(pa).ok_or(Refusal::Outside)?;
+    let board = words::board_in(table.words);
     let page = board.page as u64;
     Ok(Reply {
         address: page * (pa.raw() / page),
@@ -40,7 +39,7 @@ pub fn split(words: &[u64], records: &mut [u8], pa: PhysAddr) -> Answer
     requires { TableIn words.now records.old }
     ensures { Marks (Split pa.0) words.now records.old records.new result }
 {
-    let held = exam::look(words, records, pa, 0, 0)?;
+    let held = exam::look(Table { words, records }, pa, 0, 0)?;
     allocator::split_frame(words, records, held.spot);
     Ok(Reply {
         address: pa.raw(),
@@ -76,7 +75,7 @@ pub fn free(counters: &mut Counters, words: &mut [u64], records: &mut [u8], pa: 
         counters.new words.new records.new result }
     ensures beside { Beside words.old words.new }
 {
-    let seen = exam::look(words, records, pa, 0, 0)?;
+    let seen = exam::look(Table { words, records }, pa, 0, 0)?;
     let bytes = exam::frame_bytes(words::board_in(words), seen);
     release(counters, words, records, seen);
     Ok(Reply {

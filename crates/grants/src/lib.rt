@@ -16,7 +16,7 @@ ghost use Rattle.exam.specs.Making.{TableIn, RoomIn, Few, Grants};
 ghost use Rattle.grants.specs.Sanity.{TableIn-prop};
 ghost use Rattle.grants.specs.Granting.{WantsIn, asking, zeroed_bytes, Near, handed as handed_def};
 
-use allocator::Spot;
+use allocator::{Spot, Table};
 use definition::{Board, Counters, FrameAllocFlags, Refusal};
 use exam::{Answer, Reply};
 use level::Level;
@@ -24,19 +24,12 @@ use level::Level;
 // ---- which refusal a layout meets
 
 // 7 to 10: the level that the layout gets, where something is listed at it or above.
-fn wanted(
-    words: &[u64],
-    records: &[u8],
-    size: u64,
-    align: u64,
-    flags: FrameAllocFlags,
-) -> Result<Level, Refusal>
-    requires { TableIn words.now records.now }
-    ensures { WantsIn words.now records.now (record { size = size; align = align; flags = flags }) result }
+fn wanted(table: Table, size: u64, align: u64, flags: FrameAllocFlags) -> Result<Level, Refusal>
+    ensures { WantsIn table.entry.words.now table.entry.records.now (record { size = size; align = align; flags = flags }) result }
 {
-    let board = words::board_in(words);
+    let board = words::board_in(table.words);
     let level = level::find_level(board, size, align)?;
-    if allocator::is_listed(words, records, level) {
+    if table.is_listed(level) {
         return Ok(level);
     }
     Err(if flags.wait_ok {
@@ -172,7 +165,7 @@ impl Lent<'_> {
     {
         let words = &mut *self.words;
         let records = &mut *self.records;
-        let level = wanted(words, records, size, align, flags)?;
+        let level = wanted(Table { words, records }, size, align, flags)?;
         let board = words::board_in(words);
         if SPLIT {
             let split = self.grant_split(level, flags);

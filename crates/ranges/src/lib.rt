@@ -10,7 +10,7 @@ ghost use Rattle.exam.specs.Promise.{HeldSeen};
 ghost use Rattle.ranges.specs.Marking.{RemarkedIn};
 
 use address::PhysAddr;
-use allocator::Seen;
+use allocator::{Seen, Table};
 use exam::{Answer, Reply};
 
 // ---- the mark
@@ -41,7 +41,7 @@ pub fn zero(words: &[u64], records: &mut [u8], memory: &mut [u8], pa: PhysAddr) 
         records.old memory.old
         records.new memory.new result }
 {
-    let frame = exam::look(words, records, pa, 0, 0)?;
+    let frame = exam::look(Table { words, records }, pa, 0, 0)?;
     let bytes = exam::frame_bytes(words::board_in(words), frame);
     let at = exam::place(words, frame.spot.page, 0);
     contents::fill(memory, at, bytes as usize, 0);
@@ -58,7 +58,7 @@ pub fn dirty(words: &[u64], records: &mut [u8], pa: PhysAddr) -> Answer
     requires { TableIn words.now records.old }
     ensures { Marks (Dirty pa.0) words.now records.old records.new result }
 {
-    let frame = exam::look(words, records, pa, 0, 0)?;
+    let frame = exam::look(Table { words, records }, pa, 0, 0)?;
     mark(words, records, frame, false);
     let bytes = exam::frame_bytes(words::board_in(words), frame);
     Ok(Reply {
@@ -84,7 +84,7 @@ pub fn fill(
         records.old memory.old
         records.new memory.new result }
 {
-    let seen = exam::look(words, records, pa, offset, len)?;
+    let seen = exam::look(Table { words, records }, pa, offset, len)?;
     let at = exam::place(words, seen.spot.page, offset);
     contents::fill(memory, at, len as usize, byte);
     mark(words, records, seen, false);
@@ -111,7 +111,7 @@ pub fn write(
         records.new memory.new result }
 {
     let len = bytes.len() as u64;
-    let seen = exam::look(words, records, pa, offset, len)?;
+    let seen = exam::look(Table { words, records }, pa, offset, len)?;
     let to = exam::place(words, seen.spot.page, offset);
     contents::write(memory, to, bytes);
     mark(words, records, seen, false);

@@ -12,6 +12,7 @@ ghost use Rattle.exam.specs.Making.{TableIn, Few, PassIn, Queues, Rounds};
 ghost use Rattle.reclaim.specs.Rounds.{Reclaims, EndsPass};
 
 use address::PhysAddr;
+use allocator::Table;
 use definition::{Counters, Pass, Refusal};
 use exam::{Answer, Reply};
 
@@ -25,7 +26,7 @@ pub fn queue(words: &mut [u64], records: &[u8], queue: &mut [u64], pa: PhysAddr)
         words.new queue.new result }
     ensures beside { Beside words.old words.new }
 {
-    let seen = exam::look(words, records, pa, 0, 0)?;
+    let seen = exam::look(Table { words, records }, pa, 0, 0)?;
     let last = words::queued_in(words);
     if queue.len() <= last {
         return Err(Refusal::QueueFull);
@@ -63,7 +64,7 @@ fn reclaim_up_to(
         }
         words::put_queued(words, left - 1);
         let pa = PhysAddr::new(queue[left - 1]);
-        if let Ok(seen) = exam::look(words, records, pa, 0, 0) {
+        if let Ok(seen) = exam::look(Table { words, records }, pa, 0, 0) {
             frames::release(counters, words, records, seen);
             freed += 1;
         }

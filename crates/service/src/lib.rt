@@ -28,7 +28,7 @@ ghost use Rattle.service.specs.Serving.{
 
 use address::PhysAddr;
 use definition::{Counters, FrameAllocFlags, MemoryRegion, Refusal};
-use exam::{Answer, Reply};
+use exam::{Answer, Loans, Reply};
 use lines::Ask;
 
 // What a call that tells its answer in a lent slice returns.
@@ -123,7 +123,14 @@ pub fn serve_find(
         return Err(Refusal::Torn);
     }
     let counters = words::counters_in(words);
-    let y = door::find(counters, words, records, memory, queue, pa);
+    let loans = Loans {
+        counters,
+        words,
+        records,
+        memory,
+        queue,
+    };
+    let y = door::find(&loans, pa);
     tell(answer, y)
 }
 
@@ -250,7 +257,14 @@ pub fn serve_read_with(
     if !is_lent(words, answer) {
         return Err(Refusal::Torn);
     }
-    let at = door::read_place(counters, words, records, memory, queue, pa, offset, len)?;
+    let loans = Loans {
+        counters,
+        words,
+        records,
+        memory,
+        queue,
+    };
+    let at = door::read_place(&loans, pa, offset, len)?;
     tell(
         answer,
         Ok(Reply {
@@ -302,7 +316,14 @@ pub fn serve_stats_with(
     if text.len() < 368 || !is_lent(words, answer) {
         return Err(Refusal::Torn);
     }
-    let report = door::stats(counters, words, records, memory, queue)?;
+    let loans = Loans {
+        counters,
+        words,
+        records,
+        memory,
+        queue,
+    };
+    let report = door::stats(&loans)?;
     text::put_text(text, 0, &report.text[..report.len]);
     tell(
         answer,

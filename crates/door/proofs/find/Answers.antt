@@ -3,4 +3,6 @@ use Rattle.door.proofs.Testing.{leaves_passed}
 use Rattle.door.proofs.find.Goals as goal
 
 pub returns : goal.returns
-returns c = leaves_passed c.in_ok-torn_test.ensures (c.find.ensures c.args.counters c.args.memory.now c.args.queue.now)
+returns c =
+    let l = c.args.loans.now in
+    leaves_passed c.in_ok-torn_test.ensures (c.find.ensures l.counters l.memory.now l.queue.now)

@@ -63,11 +63,14 @@ bounds-queue-left c =
     let G = c.loop.invariant.0 in
     omega (arith, G.queued, G.within, c.queued_in-left.ensures)
 
-pub look-requires : goal.look-requires
-look-requires c =
+pub invariant_of-look : goal.invariant_of-look
+invariant_of-look c =
     let I = c.loop.invariant in
     let Q = c.put_queued.ensures in
-    (omega (arith, I.2, c.requires.table_in.0, c.put_queued.auto.words), rw (board_beside (beside_then I.3 Q.beside), Q.rows) I.0.sane)
+    record {
+      long = omega (arith, I.2, c.requires.table_in.0, c.put_queued.auto.words);
+      sane = ∣ rw (board_beside (beside_then I.3 Q.beside), Q.rows) I.0.sane ∣₁;
+    }
 
 pub release-requires : goal.release-requires
 release-requires c =

@@ -1,5 +1,4 @@
 -- Each turn drops the queue's last address or frees its frame, as `Going` says of the turns so far.
-use Prim.Native.Nat.{◌-◌}
 use mathlib.Core.Path.{◌≡◌}
 use lib.ListN.{length}
 use Rattle.definition.specs.World.{record_at}

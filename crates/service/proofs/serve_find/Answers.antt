@@ -31,10 +31,10 @@ returns-then-not-is_lent c = serves_torn _ (loans (goal.at.returns-then-not-is_l
 pub counters_in-counters-requires : goal.counters_in-counters-requires
 counters_in-counters-requires c = lent_words (loans (goal.at.counters_in-counters-requires c).Start) (lent c)
 
-pub find-y-requires : goal.find-y-requires
-find-y-requires c =
-    let l = loans (goal.at.find-y-requires c).Start in
-    lent_words l (lent (goal.at.find-y-requires c).Else-not-is_lent)
+pub invariant_of-loans : goal.invariant_of-loans
+invariant_of-loans c =
+    let l = loans (goal.at.invariant_of-loans c).Start in
+    record { long = lent_words l (lent (goal.at.invariant_of-loans c).Else-not-is_lent) }
 
 pub tell-requires : goal.tell-requires
 tell-requires c =

@@ -29,8 +29,10 @@ returns-then-not-is_lent c =
     (ap (λ (x : Counted). x.served.number)
     (serves_with_torn _ (loans s) k (sym c.is_lent.ensures ∙ c.if-not-is_lent.true)))
 
-pub read_place-requires : goal.read_place-requires
-read_place-requires c = lent_words (loans (goal.at.read_place-requires c).Start) (lent (goal.at.read_place-requires c).Else-not-is_lent)
+pub invariant_of-loans : goal.invariant_of-loans
+invariant_of-loans c =
+    let l = loans (goal.at.invariant_of-loans c).Start in
+    record { long = lent_words l (lent (goal.at.invariant_of-loans c).Else-not-is_lent) }
 
 pub tell-requires : goal.tell-requires
 tell-requires c = lent_room (loans (goal.at.tell-requires c).Start) (lent (goal.at.tell-requires c).Else-not-is_lent)

@@ -6,7 +6,9 @@ use Rattle.record.specs.Records.{pages_in}
 use Rattle.words.specs.Words.{board_in, rows_in}
 use Rattle.allocator.proofs.Arrays.{Onward}
 use Rattle.allocator.proofs.Listing.{lists_in}
-use Rattle.allocator.proofs.is_listed.Given as goal
+use Rattle.allocator.proofs.Table.is_listed.Given as goal
 
 abbrev pub invariant-loop-i : goal.invariant-loop-i
-invariant-loop-i l = Onward (board_in l.words) (record_at l.records) (pages_in l.records) (rows_in l.words) (lists_in (rank l.level)) l.i
+invariant-loop-i l =
+    let t = l.self in
+    Onward (board_in t.words.now) (record_at t.records.now) (pages_in t.records.now) (rows_in t.words.now) (lists_in (rank l.level)) l.i

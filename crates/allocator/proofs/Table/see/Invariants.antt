@@ -5,7 +5,10 @@ use Rattle.definition.specs.World.{record_at}
 use Rattle.record.specs.Records.{pages_in}
 use Rattle.words.specs.Words.{board_in, rows_in}
 use Rattle.allocator.proofs.Seeing.{Looking}
-use Rattle.allocator.proofs.see.Given as goal
+use Rattle.allocator.proofs.Table.see.Given as goal
 
 abbrev pub invariant-loop-i : goal.invariant-loop-i
-invariant-loop-i l = Looking (board_in l.words) (record_at l.records) (pages_in l.records) (rows_in l.words) (l.pa.0 / (board_in l.words).page) l.base l.i
+invariant-loop-i l =
+    let t = l.self in
+    Looking (board_in t.words.now) (record_at t.records.now) (pages_in t.records.now) (rows_in t.words.now)
+    (l.pa.0 / (board_in t.words.now).page) l.base l.i

@@ -3,6 +3,8 @@
 use Prim.Native.Nat.{◌<◌}
 use mathlib.Core.Path.{◌≡◌, sym, ◌∙◌}
 use lib.ListN.{length}
+use Rattle.std.proofs.Math.Logic.{∥∥₁_elim}
+use Rattle.std.proofs.Props.{props}
 use Rattle.definition.specs.Allocator.{PhysicalFrameAllocator, is_listed}
 use Rattle.definition.specs.World.{record_at, used_rows}
 use Rattle.level.specs.Level.{rank}
@@ -13,8 +15,8 @@ use Rattle.world.specs.Stands.{region_at}
 use Rattle.world.specs.Tables.{Table}
 use Rattle.allocator.proofs.Arrays.{onward_none, onward_row, onward_found, onward_end, row_used, row_last, row_eighth, region_stands}
 use Rattle.allocator.proofs.Listing.{lists_in, lists_same}
-use Rattle.allocator.proofs.is_listed.Goals as goal
-use Rattle.allocator.proofs.is_listed.Goals.{After-lists_some, Else-row-eq0}
+use Rattle.allocator.proofs.Table.is_listed.Goals as goal
+use Rattle.allocator.proofs.Table.is_listed.Goals.{After-lists_some, Else-row-eq0}
 
 pub loop-i-init : goal.loop-i-init
 loop-i-init c = onward_none
@@ -24,16 +26,18 @@ unfolding is_listed
 returns-then-row-eq0 c a T =
     sym
     (onward_end c.loop-i.invariant T
-    (row_last c.requires.1 c.loop-i.i c.loop-i.invariant.used (rw c.row_at-row.ensures at c.if-row-eq0.true)))
+    (row_last T.sane c.loop-i.i c.loop-i.invariant.used (rw c.row_at-row.ensures at c.if-row-eq0.true)))
 
 -- the row of a turn is in use
-used : (c : Else-row-eq0) → c.loop-i.i < length (used_rows (rows_in c.args.words.now))
-used c = row_used c.requires.1 c.loop-i.i c.loop-i.invariant.used c.loop-i-test.true (rw c.row_at-row.ensures at c.if-row-eq0.false)
+used : (c : Else-row-eq0) → c.loop-i.i < length (used_rows (rows_in c.args.self.now.words.now))
+used c =
+    ∥∥₁_elim c.args.self.now.sane (hlevel props)
+    (λ S. row_used S c.loop-i.i c.loop-i.invariant.used c.loop-i-test.true (rw c.row_at-row.ensures at c.if-row-eq0.false))
 
 -- what the row of a turn lists, its region does
 lists
     : (c : After-lists_some) → (a : PhysicalFrameAllocator)
-    → Table (board_in c.args.words.now) (record_at c.args.records.now) (pages_in c.args.records.now) (rows_in c.args.words.now) a
+    → Table (board_in c.args.self.now.words.now) (record_at c.args.self.now.records.now) (pages_in c.args.self.now.records.now) (rows_in c.args.self.now.words.now) a
     → lists_in (rank c.args.level) (region_at a.regions c.loop-i.i) ≡ c.lists_some.result
 lists c a T =
     rw (c.lists_some.ensures, c.row_at-row.ensures)
@@ -53,4 +57,4 @@ loop-i-preserved c =
 pub returns : goal.returns
 unfolding is_listed
 returns c a T =
-    sym (onward_end c.loop-i.invariant T (row_eighth c.requires.1 c.loop-i.i c.loop-i-test.false))
+    sym (onward_end c.loop-i.invariant T (row_eighth T.sane c.loop-i.i c.loop-i-test.false))

@@ -3,31 +3,35 @@
 use Prim.Native.Nat.{◌<◌}
 use mathlib.Core.Path.{◌≡◌}
 use native.Mathlib.Omega.{arith}
+use Rattle.std.proofs.Math.Logic.{∥∥₁_elim}
+use Rattle.std.proofs.Props.{props}
 use Rattle.record.specs.Records.{pages_in}
 use Rattle.region.specs.Rep.{managed}
 use Rattle.words.specs.Words.{board_in, rows_in}
 use Rattle.words.proofs.Words.{fit_in}
 use Rattle.allocator.proofs.Arrays.{row_last, row_eighth}
 use Rattle.allocator.proofs.Seeing.{looking_none, Here, here, nothing_left, not_here, found_inside, found_here}
-use Rattle.allocator.proofs.see.Goals as goal
-use Rattle.allocator.proofs.see.Goals.{Else-row-eq0, In-Some}
+use Rattle.allocator.proofs.Table.see.Goals as goal
+use Rattle.allocator.proofs.Table.see.Goals.{Else-row-eq0, In-Some}
 
 pub loop-i-init : goal.loop-i-init
 loop-i-init c = looking_none
 
 pub returns-then-row-eq0 : goal.returns-then-row-eq0
-returns-then-row-eq0 c =
+returns-then-row-eq0 c a T =
     nothing_left c.loop-i.invariant
-    (row_last c.requires.1 c.loop-i.i c.loop-i.invariant.onward.used (rw c.row_at-row.ensures at c.if-row-eq0.true))
+    (row_last T.sane c.loop-i.i c.loop-i.invariant.onward.used (rw c.row_at-row.ensures at c.if-row-eq0.true)) a T
 
 -- the row of a turn
 turn
     : (c : Else-row-eq0)
-    → Here (board_in c.args.words.now) (pages_in c.args.records.now) (rows_in c.args.words.now) c.loop-i.base c.loop-i.i
-turn c = here c.loop-i.invariant (fit_in _) c.requires.1 c.loop-i-test.true (rw c.row_at-row.ensures at c.if-row-eq0.false)
+    → Here (board_in c.args.self.now.words.now) (pages_in c.args.self.now.records.now) (rows_in c.args.self.now.words.now) c.loop-i.base c.loop-i.i
+turn c =
+    ∥∥₁_elim c.args.self.now.sane (hlevel props)
+    (λ S. here c.loop-i.invariant (fit_in _) S c.loop-i-test.true (rw c.row_at-row.ensures at c.if-row-eq0.false))
 
 -- the board that it is looked at with
-board_is : (c : Else-row-eq0) → c.board_in-board.result ≡ board_in c.args.words.now
+board_is : (c : Else-row-eq0) → c.board_in-board.result ≡ board_in c.args.self.now.words.now
 board_is c = c.board_in-board.ensures.0
 
 pub get_frame-requires : goal.get_frame-requires
@@ -39,13 +43,13 @@ get_frame-requires c =
     }
 
 -- the page has a record
-inside : (c : In-Some) → c.in-Some.page < pages_in c.args.records.now
+inside : (c : In-Some) → c.in-Some.page < pages_in c.args.self.now.records.now
 inside c =
     let e = (goal.at.In-Some c).Else-row-eq0 in
     found_inside c.loop-i.invariant (turn e) c.in-Some.page (rw (c.row_at-row.ensures, board_is e) at c.in-Some.ensures)
 
 pub marks-requires : goal.marks-requires
-marks-requires c = inside c
+marks-requires c = inside (goal.at.marks-requires c).In-Some
 
 pub level-requires : goal.level-requires
 level-requires c = inside (goal.at.level-requires c).In-Some
@@ -84,5 +88,4 @@ overflow_add-base c =
     rw c.row_at-row.ensures (omega (arith, t.small, p))
 
 pub returns : goal.returns
-returns c =
-    nothing_left c.loop-i.invariant (row_eighth c.requires.1 c.loop-i.i c.loop-i-test.false)
+returns c a T = nothing_left c.loop-i.invariant (row_eighth T.sane c.loop-i.i c.loop-i-test.false) a T

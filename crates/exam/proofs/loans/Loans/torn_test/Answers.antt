@@ -2,12 +2,12 @@
 use Prim.Native.Nat.{ℕ}
 use mathlib.Core.Path.{◌≡◌, refl, sym, ◌∙◌}
 use native.Mathlib.Omega.{arith}
-use Rattle.exam.proofs.Making.{bytes_small, sound_ready}
-use Rattle.exam.proofs.torn_test.Goals as goal
+use Rattle.exam.proofs.Making.{sound_ready}
+use Rattle.exam.proofs.loans.Loans.torn_test.Goals as goal
 
 pub returns-then-not-audit : goal.returns-then-not-audit
 returns-then-not-audit c =
-    let a = c.args in
+    let a = c.args.self.now in
     let e = sym (c.audit.ensures a.memory.now a.queue.now refl refl) ∙ c.if-not-audit.true in
     record {
       result = rw e refl;
@@ -17,7 +17,7 @@ returns-then-not-audit c =
 
 pub returns : goal.returns
 returns c =
-    let a = c.args in
+    let a = c.args.self.now in
     let e = sym (c.audit.ensures a.memory.now a.queue.now refl refl) ∙ c.if-not-audit.false in
     record {
       result = rw e refl;
@@ -25,7 +25,7 @@ returns c =
       passed = λ u k.
           record {
             is_sound = e;
-            ready = sound_ready a.counters a.words.now a.records.now a.memory.now a.queue.now c.requires e;
-            bytes = bytes_small a.records.now c.type_inv.records;
+            ready = sound_ready a.counters a.words.now a.records.now a.memory.now a.queue.now a.long e;
+            bytes = c.are_bytes.ensures;
           };
     }
