@@ -8,9 +8,13 @@ ghost use Rattle.words.specs.Words.{board_in, Long};
 ghost use Rattle.exam.specs.Promise.{LevelKnown, Leveled, both_held, bytes_if, held_as};
 ghost use Rattle.exam.specs.Making.{LooksIn, TableIn, Tests};
 
+pub mod lending;
+
 use address::PhysAddr;
 use allocator::Seen;
 use definition::{Board, Counters, Refusal};
+
+pub use lending::Contents;
 
 // What an accepted call answers: an address and a count of bytes, as 01's script prints them.
 #[derive(Clone, Copy)]
