@@ -14,7 +14,7 @@ ghost use Rattle.door.specs.Tested.{Finds, Lends, Reports, lent};
 use address::PhysAddr;
 use counts::Report;
 use definition::{Counters, FrameAllocFlags, Refusal};
-use exam::Answer;
+use exam::{Answer, Contents};
 use lines::Ask;
 
 // ---- any call that answers by numbers
@@ -121,7 +121,7 @@ pub fn write(
         (world counters words.now records.new memory.new queue.now) result }
 {
     exam::torn_test(counters, words, records, memory, queue)?;
-    ranges::write(words, records, memory, pa, offset, bytes)
+    ranges::write(&mut Contents { words, records, memory }, pa, offset, bytes)
 }
 
 // Where the bytes that are read stand in the memory.

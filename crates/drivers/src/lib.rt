@@ -12,7 +12,7 @@ ghost use Rattle.drivers.specs.Driving.{Drives, address_in, booted_world, grant_
 
 use address::PhysAddr;
 use definition::{Counters, FrameAllocFlags, MemoryRegion, MemoryRegionKind};
-use exam::Answer;
+use exam::{Answer, Contents};
 
 // The store of a map with one usable entry. Where the map is refused it has no region, and refuses all that follows.
 fn booted(
@@ -169,7 +169,7 @@ fn zero(
         (world counters words.now records.new memory.new queue.now) result }
 {
     exam::torn_test(counters, words, records, memory, queue)?;
-    ranges::zero(words, records, memory, pa)
+    ranges::zero(&mut Contents { words, records, memory }, pa)
 }
 
 #[tactic(auto, using(door::proofs::Testing::leaves_torn))]
@@ -191,7 +191,8 @@ fn fill(
         (world counters words.now records.new memory.new queue.now) result }
 {
     exam::torn_test(counters, words, records, memory, queue)?;
-    ranges::fill(words, records, memory, pa, offset, len, byte)
+    let lent = &mut Contents { words, records, memory };
+    ranges::fill(lent, pa, offset, len, byte)
 }
 
 fn copy(
@@ -213,16 +214,8 @@ fn copy(
         (world counters words.now records.new memory.new queue.now) result }
 {
     exam::torn_test(counters, words, records, memory, queue)?;
-    copies::copy(
-        words,
-        records,
-        memory,
-        target,
-        target_offset,
-        source,
-        source_offset,
-        len,
-    )
+    let lent = &mut Contents { words, records, memory };
+    copies::copy(lent, target, target_offset, source, source_offset, len)
 }
 
 // ---- contents, turn after turn
