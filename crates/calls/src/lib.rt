@@ -10,7 +10,7 @@ ghost use Rattle.lines.specs.Reading.{call_of};
 use address::PhysAddr;
 use allocator::Table;
 use definition::{Counters, FrameAllocFlags};
-use exam::Answer;
+use exam::{Answer, Contents};
 use lines::Ask;
 
 // The calls that answer by numbers, on loans that were tested, or that a call left. A fill takes its byte modulo 256.
@@ -43,13 +43,22 @@ pub fn make(
         }
         Ask::Split => frames::split(words, records, pa),
         Ask::Free => frames::free(counters, words, records, pa),
-        Ask::Zero => ranges::zero(words, records, memory, pa),
+        Ask::Zero => ranges::zero(&mut Contents { words, records, memory }, pa),
         Ask::Dirty => ranges::dirty(words, records, pa),
         Ask::Find => frames::find(Table { words, records }, pa),
         Ask::Queue => reclaim::queue(words, records, queue, pa),
-        Ask::Fill => ranges::fill(words, records, memory, pa, n[1], n[2], (n[3] % 256) as u8),
-        Ask::Copy => copies::copy(words, records, memory, pa, n[1], from, n[3], n[4]),
-        Ask::Pcopy => copies::pcopy(words, records, memory, pa, n[1], from, n[3]),
+        Ask::Fill => {
+            let lent = &mut Contents { words, records, memory };
+            ranges::fill(lent, pa, n[1], n[2], (n[3] % 256) as u8)
+        }
+        Ask::Copy => {
+            let lent = &mut Contents { words, records, memory };
+            copies::copy(lent, pa, n[1], from, n[3], n[4])
+        }
+        Ask::Pcopy => {
+            let lent = &mut Contents { words, records, memory };
+            copies::pcopy(lent, pa, n[1], from, n[3])
+        }
         Ask::Round => Ok(reclaim::round(counters, words, records, queue)),
         Ask::Lend => Ok(counts::lend(counters, n[0] as usize)),
         Ask::Back => counts::back(counters, n[0] as usize),

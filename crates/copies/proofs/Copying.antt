@@ -2,7 +2,6 @@
 -- the definition's step.
 use Prim.Native.Nat.{ℕ, ◌+◌, ◌*◌, ◌/◌, ◌%◌}
 use mathlib.Core.Bool.{true, false}
-use mathlib.Core.List.{List}
 use mathlib.Core.Path.{◌≡◌, refl, ap, ◌∙◌}
 use Rattle.std.specs.Prelude.{Result, Ok, Err}
 use native.Mathlib.Omega.{arith}
@@ -19,7 +18,8 @@ use Rattle.world.specs.Refusals.{earlier, refusal_of}
 use Rattle.world.proofs.Refusing.{two_frames}
 use Rattle.allocator.specs.declared.Seen.{Seen}
 use Rattle.allocator.specs.Spots.{number_at}
-use Rattle.exam.specs.Making.{LooksIn, Made, RoomIn, TableIn, Whole}
+use Rattle.exam.specs.declared.lending.Contents.{Contents}
+use Rattle.exam.specs.Making.{LooksIn, Made, Whole}
 use Rattle.exam.specs.Promise.{Looks, both_held, refusal_in, reply}
 use Rattle.exam.proofs.Making.{looked_number, made_done, made_refused, whole_table}
 use Rattle.ranges.proofs.Held.{held_in, looked_ends}
@@ -61,11 +61,14 @@ module _ {board : Board} {w : World} {s : Store} (W : Whole board w s) where
 
 -- what the workers require of a frame that was looked at
 pub spans_of
-    : (ws rs m : List ℕ) {a off len : ℕ} {r : Seen} → TableIn ws rs → RoomIn ws m → LooksIn ws rs a off len (Ok r)
-    → SpansIn ws rs m r off len
-spans_of ws rs m {r = r} T room L =
+    : (lent : Contents) {a off len : ℕ} {r : Seen} → LooksIn lent.words.now lent.records.now a off len (Ok r) → SpansIn lent r off len
+spans_of lent {r = r} L =
     let F = L.found r refl in
-    record { held = F.held; range = F.range; ends = omega (arith, looked_ends ws rs T L m room) }
+    record {
+      held = F.held;
+      range = F.range;
+      ends = omega (arith, looked_ends lent.words.now lent.records.now lent.table L lent.memory.now lent.room);
+    }
 
 -- of two that were looked at, the refusal that is tried first
 pub both_refusal : (x y : Result Seen Refusal) → earlier (refusal_in x) (refusal_in y) ≡ refusal_in (both_held x y)

@@ -46,7 +46,8 @@ use Rattle.allocator.proofs.Standing.{sane_table, standing}
 use Rattle.words.specs.Words.{board_in, rows_in}
 use Rattle.words.proofs.Words.{fit_in}
 use Rattle.allocator.proofs.Turning.{sees_in, spot_good, spot_index}
-use Rattle.exam.specs.Making.{Made, RoomIn, TableIn, Whole}
+use Rattle.exam.specs.declared.lending.Contents.{Contents}
+use Rattle.exam.specs.Making.{Made, Whole}
 use Rattle.exam.specs.Promise.{Looks, both_held, refusal_in, reply}
 use Rattle.exam.proofs.Making.{looked_number, made_done, made_refused, whole_table}
 use Rattle.copies.specs.Copies.{Inward, Placed, Written, end_seen, place_seen}
@@ -164,26 +165,32 @@ module _
       place_ends : at + len ≤ board.page * managed_pages board (regions_of board rows)
       place_ends = (place_lies place_runs).ends
 
--- ---- by the loans
+-- ---- by the contents that are lent
 
-module _ (ws rs : List ℕ) (a : ℕ) (o : MayBe Seen) (T : TableIn ws rs) (S : SeesIn rs ws (a / (board_in ws).page) o) where
-  -- in the table that the words and the records hold
-  abbrev here : PhysicalFrameAllocator
-  here = standing (board_in ws) (record_at rs) (rows_in ws)
+module _ (lent : Contents) (a : ℕ) (o : MayBe Seen) where
+  abbrev board : Board
+  board = board_in lent.words.now
 
-  page_there : (r : Seen) → o ≡ Some r → SeesPage (board_in ws) (record_at rs) (rows_in ws) (a / (board_in ws).page) here r
-  page_there r e = rw e at (S here (sane_table T.1))
+  abbrev rows : List Row
+  rows = rows_in lent.words.now
 
-  pub seen_placed : Placed (board_in ws) (rows_in ws) o a
-  seen_placed r e = seen_inward T.1 a (page_there r e) (fit_in ws)
+  module _ (S : SeesIn lent.records.now lent.words.now (a / board.page) o) where
+    -- in the table that the words and the records hold
+    abbrev here : PhysicalFrameAllocator
+    here = standing board (record_at lent.records.now) rows
 
-  -- the place, which lies in the loan
-  pub seen_ends
-      : (len : ℕ) {r : Seen} → place_seen (board_in ws) (rows_in ws) o a len ≡ Ok r → (m : List ℕ) → RoomIn ws m
-      → (board_in ws).page * r.spot.page + a % (board_in ws).page + len ≤ length m
-  seen_ends len {r} e m room =
-      let p = place_found (board_in ws) (rows_in ws) a len o e in
-      omega (arith, place_ends T.1 a (page_there r p.0) len p.1, room)
+    page_there : (r : Seen) → o ≡ Some r → SeesPage board (record_at lent.records.now) rows (a / board.page) here r
+    page_there r e = rw e at (S here (sane_table lent.table.1))
+
+    pub seen_placed : Placed board rows o a
+    seen_placed r e = seen_inward lent.table.1 a (page_there r e) (fit_in lent.words.now)
+
+    -- the place, which lies in the loan
+    pub seen_ends
+        : (len : ℕ) {r : Seen} → place_seen board rows o a len ≡ Ok r → board.page * r.spot.page + a % board.page + len ≤ length lent.memory.now
+    seen_ends len {r} e =
+        let p = place_found board rows a len o e in
+        omega (arith, place_ends lent.table.1 a (page_there r p.0) len p.1, lent.room)
 
 -- ---- in a world that holds a store
 

@@ -18,6 +18,7 @@ use Rattle.world.specs.Stands.{row_at}
 use Rattle.allocator.specs.declared.Seen.{Seen}
 use Rattle.allocator.specs.declared.Spot.{Spot}
 use Rattle.allocator.specs.Spots.{number_in}
+use Rattle.exam.specs.declared.lending.Contents.{Contents}
 use Rattle.exam.specs.Promise.{Answer, HeldSeen, reply}
 use Rattle.exam.specs.Making.{Reads, RoomIn, Whole, world}
 
@@ -75,21 +76,21 @@ module _ (board : Board) where
     pub whole : Whole board v t
     pub world : encode board t w ≡ v
 
--- ---- the same of the lent words, records and memory
+-- ---- the same of the contents that are lent
 
-abbrev pub SpansIn : (words records memory : List ℕ) → Seen → (off len : ℕ) → Type 0
-SpansIn ws rs m r off len = Spans (board_in ws) (record_at rs) (rows_in ws) (length m) r off len
+abbrev pub SpansIn : Contents → Seen → (off len : ℕ) → Type 0
+SpansIn a r off len = Spans (board_in a.words.now) (record_at a.records.now) (rows_in a.words.now) (length a.memory.now) r off len
 
--- the loans became those of what `op` makes of every store that they hold, whatever the counters and the queue
-abbrev pub WritesBy : (Store → Store) → (words records memory records' memory' : List ℕ) → Type 0
-WritesBy op ws rs m rs' m' =
-    (k : Counters) (q : List ℕ) (s : Store) → Whole (board_in ws) (world k ws rs m q) s
-    → Written (board_in ws) (op s) (world k ws rs m q) (world k ws rs' m' q)
+-- what was lent became that of what `op` makes of every store that it holds, whatever the counters and the queue
+abbrev pub WritesBy : (Store → Store) → (a b : Contents) → Type 0
+WritesBy op a b =
+    (k : Counters) (q : List ℕ) (s : Store) → let w = world k a.words.now a.records.now a.memory.now q in Whole (board_in a.words.now) w s
+    → Written (board_in a.words.now) (op s) w (world k a.words.now b.records.now b.memory.now q)
 
 -- the same of a copy into the frame of a spot, from any address whose bytes are those of the loan from `from` on
-abbrev pub MovesTo : Spot → (off from len : ℕ) → (words records memory records' memory' : List ℕ) → Type 0
-MovesTo spot off from len ws rs m rs' m' =
-    (k : Counters) (q : List ℕ) (s : Store) → Whole (board_in ws) (world k ws rs m q) s
-    → (a : ℕ) → bytes_at s.memory a len ≡ take len (drop from m)
-    → Written (board_in ws) (copy_contents_from_physaddr (board_in ws) s (number_in ws spot) off a len) (world k ws rs m q)
-    (world k ws rs' m' q)
+abbrev pub MovesTo : Spot → (off from len : ℕ) → (a b : Contents) → Type 0
+MovesTo spot off from len a b =
+    (k : Counters) (q : List ℕ) (s : Store) → let w = world k a.words.now a.records.now a.memory.now q in Whole (board_in a.words.now) w s
+    → (x : ℕ) → bytes_at s.memory x len ≡ take len (drop from a.memory.now)
+    → Written (board_in a.words.now) (copy_contents_from_physaddr (board_in a.words.now) s (number_in a.words.now spot) off x len) w
+    (world k a.words.now b.records.now b.memory.now q)

@@ -10,13 +10,14 @@ ghost use Rattle.definition.specs.Calls.{Copy, Pcopy};
 ghost use Rattle.words.specs.Words.{board_in, Long, rows_in};
 ghost use Rattle.allocator.specs.Spots.{number_in};
 ghost use Rattle.exam.specs.Promise.{LevelKnown, bytes_if};
-ghost use Rattle.exam.specs.Making.{TableIn, RoomIn, Writes};
+ghost use Rattle.exam.specs.Lending.{Same, WritesIn};
+ghost use Rattle.exam.specs.Making.{TableIn};
 ghost use Rattle.copies.specs.Copies.{FindsIn, SpansIn, WritesBy, MovesTo, Placed, place_seen};
 
 use address::PhysAddr;
 use allocator::{Seen, Table};
 use definition::{Board, Refusal};
-use exam::{Answer, Reply};
+use exam::{Answer, Contents, Reply};
 
 // ---- read
 
@@ -41,96 +42,71 @@ fn is_whole(board: Board, seen: Seen, offset: u64, len: u64) -> bool
 }
 
 // Bytes of a held frame become 0; 01: "sets the mark if that is the whole frame".
-fn zero_range(words: &[u64], records: &mut [u8], memory: &mut [u8], to: Seen, offset: u64, len: u64)
-    requires table_in { TableIn words.now records.old }
-    requires spans_in { SpansIn words.now records.old memory.old to offset len }
-    ensures { WritesBy (λ s. zero_range (board_in words.now) s (number_in words.now to.spot) offset len)
-        words.now records.old memory.old records.new memory.new }
+fn zero_range(lent: &mut Contents<'_>, to: Seen, offset: u64, len: u64)
+    requires { SpansIn lent.old to offset len }
+    ensures same { Same lent.old lent.new }
+    ensures writes { let ws = lent.old.words.now in
+        WritesBy (λ s. zero_range (board_in ws) s (number_in ws to.spot) offset len) lent.old lent.new }
 {
-    let at = exam::place(words, to.spot.page, offset);
-    contents::fill(memory, at, len as usize, 0);
-    if is_whole(words::board_in(words), to, offset, len) {
-        ranges::mark(words, records, to, true);
+    let at = exam::place(lent.words, to.spot.page, offset);
+    contents::fill(lent.memory, at, len as usize, 0);
+    if is_whole(words::board_in(lent.words), to, offset, len) {
+        ranges::mark(lent.words, lent.records, to, true);
     }
 }
 
 // Bytes of the loan, from `from` on, go to a held frame, which is not zeroed then.
-fn move_into(
-    words: &[u64],
-    records: &mut [u8],
-    memory: &mut [u8],
-    to: Seen,
-    offset: u64,
-    from: usize,
-    len: u64,
-)
-    requires table_in { TableIn words.now records.old }
-    requires spans_in { SpansIn words.now records.old memory.old to offset len × (from + len ≤ length memory.old) }
-    ensures { MovesTo to.spot offset from len
-        words.now records.old memory.old records.new memory.new }
+fn move_into(lent: &mut Contents<'_>, to: Seen, offset: u64, from: usize, len: u64)
+    requires spans_in { SpansIn lent.old to offset len }
+    requires from_in { from + len ≤ length lent.old.memory.now }
+    ensures same { Same lent.old lent.new }
+    ensures moves { MovesTo to.spot offset from len lent.old lent.new }
 {
-    let at = exam::place(words, to.spot.page, offset);
-    contents::copy(memory, at, from, len as usize);
-    ranges::mark(words, records, to, false);
+    let at = exam::place(lent.words, to.spot.page, offset);
+    contents::copy(lent.memory, at, from, len as usize);
+    ranges::mark(lent.words, lent.records, to, false);
 }
 
 // Frame::copy_contents_from, frame.rs 491, of two held frames.
 fn copy_contents_from(
-    words: &[u64],
-    records: &mut [u8],
-    memory: &mut [u8],
+    lent: &mut Contents<'_>,
     to: Seen,
     offset: u64,
     from: Seen,
     from_offset: u64,
     len: u64,
 )
-    requires table_in { TableIn words.now records.old }
-    requires spans_in { SpansIn words.now records.old memory.old to offset len }
-    requires spans_in_2 { SpansIn words.now records.old memory.old from from_offset len }
-    ensures { WritesBy (λ s. copy_contents_from (board_in words.now) s
-        (number_in words.now to.spot) offset (number_in words.now from.spot) from_offset len)
-        words.now records.old memory.old records.new memory.new }
+    requires to_in { SpansIn lent.old to offset len }
+    requires from_in { SpansIn lent.old from from_offset len }
+    ensures same { Same lent.old lent.new }
+    ensures writes { let ws = lent.old.words.now in
+        WritesBy (λ s. copy_contents_from (board_in ws) s (number_in ws to.spot) offset (number_in ws from.spot) from_offset len)
+        lent.old lent.new }
 {
     if !record::is_zeroed(from.marks) {
-        let at = exam::place(words, from.spot.page, from_offset);
-        move_into(words, records, memory, to, offset, at, len);
+        let at = exam::place(lent.words, from.spot.page, from_offset);
+        move_into(lent, to, offset, at, len);
     } else if !record::is_zeroed(to.marks) {
-        zero_range(words, records, memory, to, offset, len);
+        zero_range(lent, to, offset, len);
     }
 }
 
 // `len` bytes of one held frame go to another, as if all were read first.
 pub fn copy(
-    words: &[u64],
-    records: &mut [u8],
-    memory: &mut [u8],
+    lent: &mut Contents<'_>,
     target: PhysAddr,
     target_offset: u64,
     source: PhysAddr,
     source_offset: u64,
     len: u64,
 ) -> Answer
-    requires table_in { TableIn words.now records.old }
-    requires room_in { RoomIn words.now memory.old }
-    ensures { Writes (Copy target.0 target_offset source.0 source_offset len) words.now
-        records.old memory.old
-        records.new memory.new result }
+    ensures same { Same lent.old lent.new }
+    ensures writes { WritesIn (Copy target.0 target_offset source.0 source_offset len) lent.old lent.new result }
 {
-    let table = Table { words, records };
-    let to = exam::look(table, target, target_offset, len);
-    let from = exam::look(table, source, source_offset, len);
+    let to = lent.look(target, target_offset, len);
+    let from = lent.look(source, source_offset, len);
     let (to, from) = exam::both(to, from)?;
-    copy_contents_from(
-        words,
-        records,
-        memory,
-        to,
-        target_offset,
-        from,
-        source_offset,
-        len,
-    );
+    copy_contents_from(lent, to, target_offset, from, source_offset, len);
     Ok(Reply {
         address: target.raw(),
         bytes: len,
@@ -156,27 +132,21 @@ fn placed(words: &[u64], seen: Option<Seen>, pa: PhysAddr, len: u64) -> Result<S
 
 // Frame::copy_contents_from_physaddr, frame.rs 527.
 pub fn pcopy(
-    words: &[u64],
-    records: &mut [u8],
-    memory: &mut [u8],
+    lent: &mut Contents<'_>,
     target: PhysAddr,
     target_offset: u64,
     source: PhysAddr,
     len: u64,
 ) -> Answer
-    requires table_in { TableIn words.now records.old }
-    requires room_in { RoomIn words.now memory.old }
-    ensures { Writes (Pcopy target.0 target_offset source.0 len) words.now
-        records.old memory.old
-        records.new memory.new result }
+    ensures same { Same lent.old lent.new }
+    ensures writes { WritesIn (Pcopy target.0 target_offset source.0 len) lent.old lent.new result }
 {
-    let table = Table { words, records };
-    let to = exam::look(table, target, target_offset, len);
-    let place = placed(words, table.see(source), source, len);
+    let to = lent.look(target, target_offset, len);
+    let place = placed(lent.words, lent.see(source), source, len);
     let (to, place) = exam::both(to, place)?;
-    let page = words::board_in(words).page as u64;
-    let from = exam::place(words, place.spot.page, source.raw() % page);
-    move_into(words, records, memory, to, target_offset, from, len);
+    let page = words::board_in(lent.words).page as u64;
+    let from = exam::place(lent.words, place.spot.page, source.raw() % page);
+    move_into(lent, to, target_offset, from, len);
     Ok(Reply {
         address: target.raw(),
         bytes: len,

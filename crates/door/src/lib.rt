@@ -16,7 +16,7 @@ use address::PhysAddr;
 use allocator::Table;
 use counts::Report;
 use definition::{Counters, FrameAllocFlags, Refusal};
-use exam::{Answer, Loans};
+use exam::{Answer, Contents, Loans};
 use lines::Ask;
 
 // ---- any call that answers by numbers
@@ -145,7 +145,7 @@ pub fn write(
         queue,
     };
     loans.torn_test()?;
-    ranges::write(words, records, memory, pa, offset, bytes)
+    ranges::write(&mut Contents { words, records, memory }, pa, offset, bytes)
 }
 
 // Where the bytes that are read stand in the memory.

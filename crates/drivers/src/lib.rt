@@ -12,7 +12,7 @@ ghost use Rattle.drivers.specs.Driving.{Drives, address_in, booted_world, grant_
 
 use address::PhysAddr;
 use definition::{Counters, FrameAllocFlags, MemoryRegion, MemoryRegionKind};
-use exam::{Answer, Loans};
+use exam::{Answer, Contents, Loans};
 
 // The store of a map with one usable entry. Where the map is refused it has no region, and refuses all that follows.
 fn booted(
@@ -183,7 +183,7 @@ fn zero(
         queue,
     };
     loans.torn_test()?;
-    ranges::zero(words, records, memory, pa)
+    ranges::zero(&mut Contents { words, records, memory }, pa)
 }
 
 #[tactic(auto, using(door::proofs::Testing::leaves_torn))]
@@ -212,7 +212,8 @@ fn fill(
         queue,
     };
     loans.torn_test()?;
-    ranges::fill(words, records, memory, pa, offset, len, byte)
+    let lent = &mut Contents { words, records, memory };
+    ranges::fill(lent, pa, offset, len, byte)
 }
 
 fn copy(
@@ -241,16 +242,8 @@ fn copy(
         queue,
     };
     loans.torn_test()?;
-    copies::copy(
-        words,
-        records,
-        memory,
-        target,
-        target_offset,
-        source,
-        source_offset,
-        len,
-    )
+    let lent = &mut Contents { words, records, memory };
+    copies::copy(lent, target, target_offset, source, source_offset, len)
 }
 
 // ---- contents, turn after turn

@@ -8,11 +8,14 @@ ghost use Rattle.words.specs.Words.{board_in};
 ghost use Rattle.exam.specs.Promise.{LevelKnown, Leveled, both_held, bytes_if, held_as};
 ghost use Rattle.exam.specs.Making.{LooksIn};
 
+mod lending;
 mod loans;
 
 use address::PhysAddr;
 use allocator::{Seen, Table};
 use definition::{Board, Refusal};
+
+pub use lending::Contents;
 pub use loans::Loans;
 
 // What an accepted call answers: an address and a count of bytes, as 01's script prints them.

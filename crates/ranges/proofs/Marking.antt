@@ -4,24 +4,28 @@
 use Prim.Native.Nat.{ℕ, ◌+◌, ◌*◌, ◌/◌}
 use mathlib.Core.Bool.{Bool, true, false}
 use mathlib.Core.List.{List}
-use mathlib.Core.Path.{◌≡◌, refl, ◌∙◌}
+use mathlib.Core.Path.{◌≡◌, refl, ap, ◌∙◌}
 use Rattle.std.specs.Prelude.{Ok}
 use native.Mathlib.Omega.{arith}
 use lib.ListN.{length, replicate}
+use Rattle.definition.specs.Allocator.{PhysicalFrameAllocator}
 use Rattle.definition.specs.Board.{Board}
+use Rattle.definition.specs.Boot.{record_size}
 use Rattle.definition.specs.Contents.{filled, fill_frame, set_not_zero, write_frame, written, zero_frame}
 use Rattle.definition.specs.Frame.{with_zeroed}
 use Rattle.definition.specs.Store.{Memory, Store, mark, with_memory}
 use Rattle.definition.specs.Calls.{Call, Dirty, Fill, Write, Zero, done, perform, step}
 use Rattle.definition.specs.World.{World, encode, record_at}
 use Rattle.record.specs.Records.{pages_in, with_bytes}
+use Rattle.words.specs.Words.{board_in, rows_in}
 use Rattle.world.specs.Refusals.{frame_refusal, range_of, refusal_of}
 use Rattle.world.specs.Tables.{Turned}
 use Rattle.world.proofs.Refusing.{one_frame}
 use Rattle.world.proofs.Writing.{Rewritten}
 use Rattle.allocator.specs.declared.Seen.{Seen}
-use Rattle.allocator.specs.Spots.{number_at}
-use Rattle.exam.specs.Making.{Made, Whole}
+use Rattle.allocator.specs.Spots.{TurnsIn, number_at}
+use Rattle.allocator.proofs.Standing.{sane_table, standing}
+use Rattle.exam.specs.Making.{Made, TableIn, Whole}
 use Rattle.exam.specs.Promise.{HeldSeen, Looks, bytes_if, reply}
 use Rattle.exam.proofs.Making.{
   left_whole,
@@ -38,6 +42,14 @@ use Rattle.ranges.specs.Marking.{Remarked}
 use Rattle.ranges.proofs.Held.{held_filled, held_in, held_size, held_written}
 
 -- ---- the marks
+
+-- with other marks the table is sane still
+pub marked_table
+    : (ws rs rs2 : List ℕ) {op : PhysicalFrameAllocator → PhysicalFrameAllocator} → length rs2 ≡ length rs → TableIn ws rs
+    → TurnsIn op rs ws rs2 ws → TableIn ws rs2
+marked_table ws rs rs2 l T M =
+    let same : pages_in rs2 ≡ pages_in rs = ap (λ (n : ℕ). n / record_size) l in
+    (T.0, (M (standing (board_in ws) (record_at rs) (rows_in ws)) (sane_table (rw same T.1))).table.sane)
 
 -- the world with other records and another memory
 abbrev pub relent : World → (records memory : List ℕ) → World

@@ -8,24 +8,24 @@ use Rattle.copies.proofs.Copying.{both_zeroed, from_dirty, from_zeroed}
 use Rattle.copies.proofs.Writing.{written_same}
 use Rattle.copies.proofs.copy_contents_from.Goals as goal
 
-pub returns-then-not-is_zeroed : goal.returns-then-not-is_zeroed
-returns-then-not-is_zeroed c k q s H =
-    let a = c.args in
+pub returns-then-not-is_zeroed-clause-writes : goal.returns-then-not-is_zeroed-clause-writes
+returns-then-not-is_zeroed-clause-writes c k q s H =
+    let ws = c.args.lent.now.words.now in
     let r = c.requires in
-    rw (from_dirty H r.spans_in r.spans_in_2 (sym c.is_zeroed.ensures ∙ c.if-not-is_zeroed.true))
-    (c.move_into.ensures k q s H ((board_in a.words.now).page * number_in a.words.now a.from.spot + a.from_offset)
-    (rw c.place-at.ensures (held_read H r.spans_in_2.held refl a.from_offset a.len r.spans_in_2.range)))
+    rw (from_dirty H r.to_in r.from_in (sym c.is_zeroed.ensures ∙ c.if-not-is_zeroed.true))
+    (c.move_into.ensures.moves k q s H ((board_in ws).page * number_in ws c.args.from.spot + c.args.from_offset)
+    (rw c.place-at.ensures (held_read H r.from_in.held refl c.args.from_offset c.args.len r.from_in.range)))
 
-pub returns-then-not-is_zeroed-2 : goal.returns-then-not-is_zeroed-2
-returns-then-not-is_zeroed-2 c k q s H =
+pub returns-then-not-is_zeroed-2-clause-writes : goal.returns-then-not-is_zeroed-2-clause-writes
+returns-then-not-is_zeroed-2-clause-writes c k q s H =
     let r = c.requires in
     let from = sym c.is_zeroed.ensures ∙ c.if-not-is_zeroed.false in
-    rw (from_zeroed H r.spans_in r.spans_in_2 from (sym c.is_zeroed-else-not-is_zeroed.ensures ∙ c.if-not-is_zeroed-2.true))
-    (c.zero_range.ensures k q s H)
+    rw (from_zeroed H r.to_in r.from_in from (sym c.is_zeroed-else-not-is_zeroed.ensures ∙ c.if-not-is_zeroed-2.true))
+    (c.zero_range.ensures.writes k q s H)
 
-pub returns-else-not-is_zeroed-2 : goal.returns-else-not-is_zeroed-2
-returns-else-not-is_zeroed-2 c k q s H =
+pub returns-else-not-is_zeroed-2-clause-writes : goal.returns-else-not-is_zeroed-2-clause-writes
+returns-else-not-is_zeroed-2-clause-writes c k q s H =
     let r = c.requires in
     let from = sym c.is_zeroed.ensures ∙ c.if-not-is_zeroed.false in
-    rw (both_zeroed H r.spans_in r.spans_in_2 from (sym c.is_zeroed-else-not-is_zeroed.ensures ∙ c.if-not-is_zeroed-2.false))
+    rw (both_zeroed H r.to_in r.from_in from (sym c.is_zeroed-else-not-is_zeroed.ensures ∙ c.if-not-is_zeroed-2.false))
     (written_same H)

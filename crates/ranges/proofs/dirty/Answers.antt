@@ -18,4 +18,4 @@ returns-in_err-frame c k m q s H =
 pub returns : goal.returns
 returns c k m q s H =
     rw (c.raw.ensures, c.frame_bytes-bytes.ensures, c.board_in.ensures.0)
-    (dirty_made H c.in_ok-frame.ensures c.mark.ensures)
+    (dirty_made H c.in_ok-frame.ensures c.mark.ensures.remarked)

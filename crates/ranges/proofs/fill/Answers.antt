@@ -7,13 +7,16 @@ use Rattle.exam.proofs.Making.{looked_refused}
 use Rattle.ranges.proofs.Marking.{fill_made}
 use Rattle.ranges.proofs.fill.Goals as goal
 
-pub returns-in_err-seen : goal.returns-in_err-seen
-returns-in_err-seen c k q s H =
+pub invariant_of-lent-clause-room : goal.invariant_of-lent-clause-room
+invariant_of-lent-clause-room c = rw c.fill.auto.memory c.args.lent.now.room
+
+pub returns-in_err-seen-clause-writes : goal.returns-in_err-seen-clause-writes
+returns-in_err-seen-clause-writes c k q s H =
     let a = c.args in
     let p = err_from_is_err_and c.from_residual.result c.from_residual.ensures.1 in
     rw (p.1, p.2)
-    (looked_refused H c.look.ensures (Fill a.pa.0 a.offset a.len a.byte) (one_frame (board_in a.words.now) s a.pa.0 a.offset a.len)
+    (looked_refused H c.look.ensures (Fill a.pa.0 a.offset a.len a.byte) (one_frame (board_in a.lent.now.words.now) s a.pa.0 a.offset a.len)
     c.in_err-seen.field-0.0 c.in_err-seen.was)
 
-pub returns : goal.returns
-returns c k q s H = rw (c.raw.ensures, c.fill.ensures, c.place-at.ensures) (fill_made H c.in_ok-seen.ensures c.mark.ensures c.args.byte)
+pub returns-clause-writes : goal.returns-clause-writes
+returns-clause-writes c k q s H = rw (c.raw.ensures, c.fill.ensures, c.place-at.ensures) (fill_made H c.in_ok-seen.ensures c.mark.ensures.remarked c.args.byte)

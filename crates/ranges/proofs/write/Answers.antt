@@ -9,16 +9,19 @@ use Rattle.exam.proofs.Making.{looked_refused}
 use Rattle.ranges.proofs.Marking.{write_made}
 use Rattle.ranges.proofs.write.Goals as goal
 
-pub returns-in_err-seen : goal.returns-in_err-seen
-returns-in_err-seen c k q s H =
+pub invariant_of-lent-clause-room : goal.invariant_of-lent-clause-room
+invariant_of-lent-clause-room c = rw c.write.auto.memory c.args.lent.now.room
+
+pub returns-in_err-seen-clause-writes : goal.returns-in_err-seen-clause-writes
+returns-in_err-seen-clause-writes c k q s H =
     let a = c.args in
     let p = err_from_is_err_and c.from_residual.result c.from_residual.ensures.1 in
     rw (p.1, p.2)
     (looked_refused H c.look.ensures (Write a.pa.0 a.offset a.bytes.now)
-    (one_frame (board_in a.words.now) s a.pa.0 a.offset (length a.bytes.now))
+    (one_frame (board_in a.lent.now.words.now) s a.pa.0 a.offset (length a.bytes.now))
     c.in_err-seen.field-0.0 c.in_err-seen.was)
 
-pub returns : goal.returns
-returns c k q s H =
+pub returns-clause-writes : goal.returns-clause-writes
+returns-clause-writes c k q s H =
     rw (c.raw.ensures, c.write.ensures, c.place-to.ensures)
-    (write_made H c.in_ok-seen.ensures c.mark.ensures c.args.bytes.now refl)
+    (write_made H c.in_ok-seen.ensures c.mark.ensures.remarked c.args.bytes.now refl)

@@ -7,15 +7,18 @@ use Rattle.exam.proofs.Making.{looked_refused}
 use Rattle.ranges.proofs.Marking.{zero_made}
 use Rattle.ranges.proofs.zero.Goals as goal
 
-pub returns-in_err-frame : goal.returns-in_err-frame
-returns-in_err-frame c k q s H =
+pub invariant_of-lent-clause-room : goal.invariant_of-lent-clause-room
+invariant_of-lent-clause-room c = rw c.fill.auto.memory c.args.lent.now.room
+
+pub returns-in_err-frame-clause-writes : goal.returns-in_err-frame-clause-writes
+returns-in_err-frame-clause-writes c k q s H =
     let a = c.args in
     let p = err_from_is_err_and c.from_residual.result c.from_residual.ensures.1 in
     rw (p.1, p.2)
-    (looked_refused H c.look.ensures (Zero a.pa.0) (one_frame (board_in a.words.now) s a.pa.0 0 0)
+    (looked_refused H c.look.ensures (Zero a.pa.0) (one_frame (board_in a.lent.now.words.now) s a.pa.0 0 0)
     c.in_err-frame.field-0.0 c.in_err-frame.was)
 
-pub returns : goal.returns
-returns c k q s H =
+pub returns-clause-writes : goal.returns-clause-writes
+returns-clause-writes c k q s H =
     rw (c.raw.ensures, c.fill.ensures, c.place-at.ensures, c.frame_bytes-bytes.ensures, c.board_in.ensures.0)
-    (zero_made H c.in_ok-frame.ensures c.mark.ensures)
+    (zero_made H c.in_ok-frame.ensures c.mark.ensures.remarked)
