@@ -33,4 +33,5 @@ module _ (ns : List ℕ) where
   pub number_at : (i : ℕ) → i < length ns / 3 → get_or (map region_of (entries_of ns)) i no_region ≡ region_of (entry_in ns i)
   number_at i h =
       let z : 0 + i ≡ i = omega arith in
-      entry_at no_entry (entries_of ns) i (rw (entries_long ns 0 (length ns / 3)) h) ∙ ap region_of (rw z at (entries_at ns 0 (length ns / 3) i h))
+      entry_at no_entry (entries_of ns) i (rw (entries_long ns 0 (length ns / 3)) h)
+      ∙ ap region_of (rw z at (entries_at ns 0 (length ns / 3) i h))

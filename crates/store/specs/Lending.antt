@@ -1,4 +1,5 @@
--- What the two forms over lent structs promise: a boot over a lent list of region entries, and a call by its number over the nine counters as one lent record.
+-- What the two forms over lent structs promise: a boot over a lent list of region entries, and a call by its number over the nine counters
+-- as one lent record.
 use Rattle.std.specs.Prelude.{ℕ, zero, suc, ◌+◌, ◌*◌, ◌/◌, ◌%◌, cond, List, [], ◌∷◌, map, Result, Ok, Err, ◌≡◌, eqb, length, get_or}
 use Rattle.definition.specs.declared.Counters.{Counters}
 use Rattle.definition.specs.declared.MemoryRegion.{MemoryRegion}

@@ -1,5 +1,5 @@
--- Numbers that do not come in threes are refused; else what was gathered is the map's: its first eight entries and their number are all that
--- a boot looks at.
+-- Numbers that do not come in threes are refused; else what was gathered is the map's: its first eight entries and their number are all
+-- that a boot looks at.
 use mathlib.Core.List.{map}
 use mathlib.Core.Path.{◌≡◌, refl, ap, sym, ◌∙◌}
 use Prim.Native.Nat.{◌%◌}
