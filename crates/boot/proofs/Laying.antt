@@ -1,5 +1,5 @@
--- The definition's layout of several regions. It lays out the last region first; since no two share a page, each region comes out as if it alone were laid out
--- (`lay_at`), which is how the code meets it. `new_laid` says that `lay_rows` is definition's `new_allocator`.
+-- The definition's layout of several regions. It lays out the last region first; since no two share a page, each region comes out as if it
+-- alone were laid out (`lay_at`), which is how the code meets it. `new_laid` says that `lay_rows` is definition's `new_allocator`.
 use Prim.Native.Nat.{ℕ, zero, suc, ◌+◌, ◌/◌, ◌≤◌, ◌<◌}
 use mathlib.Core.Bool.{Bool, true, false, cond, false≢true}
 use mathlib.Core.List.{List, [], ◌∷◌}
@@ -13,7 +13,8 @@ use Rattle.definition.specs.declared.Row.{Row}
 use Rattle.definition.specs.Board.{Board}
 use Rattle.definition.specs.Basics.{any}
 use Rattle.definition.specs.Frame.{Frames, Levels, organize}
-use Rattle.definition.specs.Allocator.{AllocationRegion, PhysicalFrameAllocator, admit_region, empty_region, is_kept, laid_out, levels_of, new_allocator}
+use Rattle.definition.specs.Allocator.{AllocationRegion, PhysicalFrameAllocator, admit_region, empty_region, is_kept, laid_out, levels_of}
+use Rattle.definition.specs.Allocator.{new_allocator}
 use Rattle.definition.specs.Boot.{overlap, shares}
 use Rattle.definition.specs.World.{bare_region}
 use Rattle.definition.specs.Torn.{bare_regions}
@@ -39,7 +40,8 @@ module _ {board : Board} (fit : Fit board) where
   new_laid (m ∷ ms) = go (is_kept board m) (new_laid ms)
     where
       go : (t : Bool) → new_allocator board ms ≡ lay_rows board (kept_rows board ms)
-          → cond t (admit_region board (empty_region board m) (new_allocator board ms)) (new_allocator board ms) ≡ lay_rows board (cond t (kept_row board m ∷ kept_rows board ms) (kept_rows board ms))
+          → cond t (admit_region board (empty_region board m) (new_allocator board ms)) (new_allocator board ms)
+          ≡ lay_rows board (cond t (kept_row board m ∷ kept_rows board ms) (kept_rows board ms))
       go true e =
           ap (admit_region board (empty_region board m)) e
           ∙ ap (λ (r : AllocationRegion). admit_region board r (lay_rows board (kept_rows board ms))) (sym (kept_region fit m))
@@ -56,9 +58,11 @@ module _ (board : Board) where
 module _ (board : Board) where
   -- the frames of a region laid out over those that are there
   abbrev over : Row → Frames → Levels
-  over row fs = organize (managed board row.pages) (levels_of fs (bare_region board row)) (from_of board row) (from_of board row) (managed board row.pages)
+  over row fs = organize (managed board row.pages) (levels_of fs (bare_region board row)) (from_of board row) (from_of board row)
+      (managed board row.pages)
 
-  lay_head : (row : Row) (rows : List Row) → lay_rows board (row ∷ rows) ≡ laid_out (bare_region board row) (lay_rows board rows).regions (over row (lay_rows board rows).frames)
+  lay_head : (row : Row) (rows : List Row) → lay_rows board (row ∷ rows)
+      ≡ laid_out (bare_region board row) (lay_rows board rows).regions (over row (lay_rows board rows).frames)
   unfolding lay_rows from_of managed
   lay_head row rows = refl
 
@@ -68,17 +72,20 @@ module _ (board : Board) where
 
     carried
         : Shifted board (from_of board row) base row.pages s (levels_of fs (bare_region board row))
-        → Carried board (from_of board row) base row.pages (levels_of fs (bare_region board row)) (organize (managed board row.pages) s base (from_of board row) (managed board row.pages)) (over row fs)
+        → Carried board (from_of board row) base row.pages (levels_of fs (bare_region board row))
+        (organize (managed board row.pages) s base (from_of board row) (managed board row.pages)) (over row fs)
     carried S =
         subst
-        (λ (x : ℕ). Carried board (from_of board row) base row.pages (levels_of fs (bare_region board row)) (organize (managed board row.pages) s base x (managed board row.pages))
+        (λ (x : ℕ). Carried board (from_of board row) base row.pages (levels_of fs (bare_region board row))
+        (organize (managed board row.pages) s base x (managed board row.pages))
         (organize (managed board row.pages) (levels_of fs (bare_region board row)) x x (managed board row.pages)))
         (begins (from_of board row))
         (carried_organize (managed board row.pages) S base (managed board row.pages) (omega arith) (omega arith))
 
     -- a state in which no frame of the region starts, by page numbers and by page frame numbers
     blank_same
-        : ((q : ℕ) → Inside board base row.pages q → s.frames q ≡ none) → ((k : ℕ) → s.free k ≡ []) → ((p : ℕ) → Inside board (from_of board row) row.pages p → fs p ≡ none)
+        : ((q : ℕ) → Inside board base row.pages q → s.frames q ≡ none) → ((k : ℕ) → s.free k ≡ [])
+        → ((p : ℕ) → Inside board (from_of board row) row.pages p → fs p ≡ none)
         → Shifted board (from_of board row) base row.pages s (levels_of fs (bare_region board row))
     blank_same blank empty there =
         record {
@@ -89,7 +96,8 @@ module _ (board : Board) where
 
 module _ {board : Board} where
   -- outside the region nothing changes
-  lay_outside : (row : Row) (rows : List Row) (p : ℕ) → (Inside board (from_of board row) row.pages p → ⊥) → (lay_rows board (row ∷ rows)).frames p ≡ (lay_rows board rows).frames p
+  lay_outside : (row : Row) (rows : List Row) (p : ℕ) → (Inside board (from_of board row) row.pages p → ⊥)
+      → (lay_rows board (row ∷ rows)).frames p ≡ (lay_rows board rows).frames p
   lay_outside row rows p o =
       rw (lay_head board row rows)
       ((carried board row (from_of board row) (levels_of (lay_rows board rows).frames (bare_region board row)) (lay_rows board rows).frames
@@ -103,12 +111,14 @@ module _ {board : Board} where
 
 module _ {board : Board} where
   -- no frame starts outside the regions
-  lay_none : (rows : List Row) (p : ℕ) → Each (λ (t : Row). Inside board (from_of board t) t.pages p → ⊥) rows → (lay_rows board rows).frames p ≡ none
+  lay_none : (rows : List Row) (p : ℕ) → Each (λ (t : Row). Inside board (from_of board t) t.pages p → ⊥) rows
+      → (lay_rows board rows).frames p ≡ none
   unfolding lay_rows
   lay_none [] p each_none = refl
   lay_none (row ∷ rows) p (each_more o os) = lay_outside row rows p o ∙ lay_none rows p os
 
-  beside_all : (row : Row) {rows : List Row} → Each (λ (t : Row). Parted board row t) rows → (p : ℕ) → Inside board (from_of board row) row.pages p
+  beside_all : (row : Row) {rows : List Row} → Each (λ (t : Row). Parted board row t) rows → (p : ℕ)
+      → Inside board (from_of board row) row.pages p
       → Each (λ (t : Row). Inside board (from_of board t) t.pages p → ⊥) rows
   beside_all row each_none p i = each_none
   beside_all row (each_more a rest) p i = each_more (λ j. a p i j) (beside_all row rest p i)
@@ -138,9 +148,12 @@ module _ {board : Board} where
       behind (λ p j. lay_outside row rows p (λ x. parted p x j)) S
     where
       behind
-          : {u : Levels} → ((p : ℕ) → Inside board (from_of board (row_at rows i)) (row_at rows i).pages p → (lay_rows board (row ∷ rows)).frames p ≡ (lay_rows board rows).frames p)
-          → Shifted board (from_of board (row_at rows i)) base (row_at rows i).pages u (levels_of (lay_rows board rows).frames (region_at (lay_rows board rows).regions i))
-          → Shifted board (from_of board (row_at rows i)) base (row_at rows i).pages u (levels_of (lay_rows board (row ∷ rows)).frames (region_at (lay_rows board (row ∷ rows)).regions (suc i)))
+          : {u : Levels} → ((p : ℕ) → Inside board (from_of board (row_at rows i)) (row_at rows i).pages p
+          → (lay_rows board (row ∷ rows)).frames p ≡ (lay_rows board rows).frames p)
+          → Shifted board (from_of board (row_at rows i)) base (row_at rows i).pages u
+          (levels_of (lay_rows board rows).frames (region_at (lay_rows board rows).regions i))
+          → Shifted board (from_of board (row_at rows i)) base (row_at rows i).pages u
+          (levels_of (lay_rows board (row ∷ rows)).frames (region_at (lay_rows board (row ∷ rows)).regions (suc i)))
       behind same S =
           record {
             frames = λ q j. same _ (shift_in q j) ∙ S.frames q j;
@@ -151,7 +164,8 @@ module _ {board : Board} where
 -- ---- their starts and pages
 
 module _ (board : Board) where
-  pub laid_start : (rows : List Row) (i : ℕ) → i < length rows → (region_at (lay_rows board rows).regions i).start ≡ (row_at rows i).start.0 / board.page
+  pub laid_start : (rows : List Row) (i : ℕ) → i < length rows
+      → (region_at (lay_rows board rows).regions i).start ≡ (row_at rows i).start.0 / board.page
   unfolding lay_rows
   laid_start [] i h = absurd (omega arith)
   laid_start (row ∷ rows) zero h = refl
@@ -180,7 +194,8 @@ module _ {board : Board} where
       let v : y < x + r.pages = omega (arith, b.low, a.high) in
       false≢true (sym e ∙ and-true (lt-ltb x (y + t.pages) u) (lt-ltb y (x + r.pages) v))
 
-  beside : (r : Row) (rows : List Row) → any (shares board (bare_region board r)) (bare_regions board rows) ≡ false → Each (λ (t : Row). Parted board r t) rows
+  beside : (r : Row) (rows : List Row) → any (shares board (bare_region board r)) (bare_regions board rows) ≡ false
+      → Each (λ (t : Row). Parted board r t) rows
   unfolding any bare_regions
   beside r [] e = each_none
   beside r (t ∷ ts) e =

@@ -1,5 +1,5 @@
--- A refused call leaves the loans as they were (`refused_untouched`): it leaves the world, and a state that is read out of the words and written over them again
--- is the words.
+-- A refused call leaves the loans as they were (`refused_untouched`): it leaves the world, and a state that is read out of the words and
+-- written over them again is the words.
 use Prim.Native.Nat.{ℕ, ◌<◌}
 use mathlib.Core.Bool.{Bool, true, false}
 use mathlib.Core.List.{List}
@@ -98,7 +98,8 @@ module _ (c : Call) (l : Lent) (small : (i : ℕ) → get_or l.records i 0 < 256
           ) refl
 
   -- the same where the counters are a record of their own, and they stay too
-  pub refused_untouched_with : (k : Counters) → ((served_with c k l).served.number ≡ 0 → ⊥) → ((served_with c k l).counters ≡ k) × ((served_with c k l).served.lent ≡ l)
+  pub refused_untouched_with : (k : Counters) → ((served_with c k l).served.number ≡ 0 → ⊥)
+      → ((served_with c k l).counters ≡ k) × ((served_with c k l).served.lent ≡ l)
   refused_untouched_with k d = go (is_lent l) refl
     where
       go : (t : Bool) → is_lent l ≡ t → ((served_with c k l).counters ≡ k) × ((served_with c k l).served.lent ≡ l)

@@ -1,4 +1,5 @@
--- What it says of the loans that they are a state's, and what a call over them leaves and answers, by what it leaves of the world and answers there.
+-- What it says of the loans that they are a state's, and what a call over them leaves and answers, by what it leaves of the world and
+-- answers there.
 use Prim.Native.Nat.{ℕ, ◌≤◌, ◌<◌}
 use mathlib.Core.Bool.{Bool, true, false, cond, and-false}
 use mathlib.Core.List.{List, [], ◌∷◌}
@@ -94,7 +95,7 @@ module _ (c : Call) (l : Lent) where
   unfolding served_with
   serves_with_torn k e = rw e refl
 
--- ---- a call that is made: it leaves words that stand beside those that it was given, so that they are these with its state written over them
+-- ---- a call that is made: it leaves words that stand beside those that it was given: these with its state written over them
 
 module _ {c : Call} (l : Lent) (k : Counters) {k' : Counters} {words records memory queue : List ℕ} {y : Answer}
     (L : Leaves (board_in l.words) (world_with k l) c (world_of (state_with k' words) records memory queue) y)
@@ -144,7 +145,8 @@ module _ (c : Call) (l : Lent) (e : is_lent l ≡ true) where
 -- ---- a read
 
 -- the place is the answer's first word
-word_told : (t : Bool) (at len : ℕ) (ys : List ℕ) → let zs = cond t (with_bytes ys 0 (at ∷ len ∷ [])) ys in zs ≡ cond t (with_bytes ys 0 (word_in zs 0 ∷ len ∷ [])) ys
+word_told : (t : Bool) (at len : ℕ) (ys : List ℕ) → let zs = cond t (with_bytes ys 0 (at ∷ len ∷ [])) ys in
+    zs ≡ cond t (with_bytes ys 0 (word_in zs 0 ∷ len ∷ [])) ys
 unfolding with_bytes
 word_told true at len ys = refl
 word_told false at len ys = refl
@@ -214,7 +216,10 @@ module _ {b : Board} {O : Type 0} (fit : Bool) (w : World) {made refused : O} (t
   reports_short h = let n = lt-leb 368 (length text) h in record { loans = rw n refl; report = rw n refl }
 
   pub reports_torn : fit ≡ false → made ≡ refused → ReportsBy b O fit w made refused refused text text
-  reports_torn e m = record { loans = rw m (cond_same (leb 368 (length text)) refused); report = rw (e, and-false (leb 368 (length text))) refl }
+  reports_torn e m = record {
+    loans = rw m (cond_same (leb 368 (length text)) refused);
+    report = rw (e, and-false (leb 368 (length text))) refl;
+  }
 
 -- a refusal has no text
 refused_text : (a : AnswerOf) (r : Refusal) → told a ≡ Err r → text_of a ≡ []
@@ -310,7 +315,11 @@ module _ (ms : List MemoryRegion) (l : Lent) where
     same_world e z = sym B.world ∙ boot_leaves_lem standard ms (world_with k l) e (B.answer ∙ z)
 
     abbrev pub boot_leaves : Counted
-    boot_leaves = record { counters = k'; served = refused_as (record { words = words; records = records; memory = l.memory; queue = l.queue; answer = answer }) r }
+    boot_leaves = record {
+      counters = k';
+      served = refused_as
+          (record { words = words; records = records; memory = l.memory; queue = l.queue; answer = answer }) r;
+    }
 
     pub boots : booted_with ms k l ≡ boot_leaves
     unfolding booted_with tells

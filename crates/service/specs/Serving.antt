@@ -1,7 +1,8 @@
--- What a call over lent words leaves and answers. A kernel lends the state as words beside the records, the memory and the queue, and a slice for the two
--- numbers of the answer. `served` is the whole outcome: the loans as `call` of definition/specs/Torn.antt leaves them, and the refusal's number, 0 where the call
--- was accepted. Words that are too few or of another version, and an answer slice of under two places, are refused 6 and nothing changes. `served_with` is the same
--- where the counters are a record lent beside the words, whose own counters it then neither reads nor writes.
+-- What a call over lent words leaves and answers. A kernel lends the state as words beside the records, the memory and the queue, and a
+-- slice for the two numbers of the answer. `served` is the whole outcome: the loans as `call` of definition/specs/Torn.antt leaves them,
+-- and the refusal's number, 0 where the call was accepted. Words that are too few or of another version, and an answer slice of under two
+-- places, are refused 6 and nothing changes. `served_with` is the same where the counters are a record lent beside the words, whose own
+-- counters it then neither reads nor writes.
 use Rattle.std.specs.Prelude.{ℕ, Bool, cond, ◌&&◌, List, [], ◌∷◌, Result, Ok, Err, is_ok, ◌≡◌, eqb, leb, length, take, drop}
 use Rattle.std.proofs.Math.Option.{Option, none, some}
 use Rattle.definition.specs.declared.Counters.{Counters}
@@ -18,7 +19,8 @@ use Rattle.record.specs.Records.{with_bytes}
 use Rattle.exam.specs.Promise.{Answer, told}
 use Rattle.counts.specs.Counting.{text_of}
 use Rattle.copies.specs.Copies.{bytes_of}
-use Rattle.words.specs.Words.{board_in, word_in, state_words, counters_at, rows_in, queued_in, pass_in, counters_in, is_kept, kept_in, kept_of, counter_words}
+use Rattle.words.specs.Words.{board_in, word_in, state_words, counters_at, rows_in, queued_in, pass_in, counters_in, is_kept, kept_in}
+use Rattle.words.specs.Words.{kept_of, counter_words}
 
 -- the loans of a call, whole
 pub record Lent : Type 0 where
@@ -130,14 +132,16 @@ ServesWith c k l k' l' r = served_with c k l ≡ record { counters = k'; served 
 
 -- ---- a call that answers by bytes, in either form of the counters: `w` is the world that the loans hold
 
--- the statistics stand in front of the text, which has room for 368 bytes; else the call is refused 6. Where there is room, `made` is what the call leaves.
+-- the statistics stand in front of the text, which has room for 368 bytes; else the call is refused 6. Where there is room, `made` is what
+-- the call leaves.
 pub record ReportsBy (b : Board) (O : Type 0) (fit : Bool) (w : World) (made refused left : O) (text text' : List ℕ) : Type 0 where
   pub loans : cond (leb 368 (length text)) made refused ≡ left
   pub report : text' ≡ cond (leb 368 (length text) && fit) (with_bytes text 0 (text_of (call b w Stats).answer)) text
 
 abbrev pub Reports : Lent → List ℕ → Lent → List ℕ → ℕ → Type 0
 Reports l text l' text' r =
-    ReportsBy (board_in l.words) Served (is_lent l) (world_in l) (served Stats l) (refused_as l 6) (record { lent = l'; number = r }) text text'
+    ReportsBy (board_in l.words) Served (is_lent l) (world_in l) (served Stats l) (refused_as l 6)
+    (record { lent = l'; number = r }) text text'
 
 abbrev pub ReportsWith : Counters → Lent → List ℕ → Counters → Lent → List ℕ → ℕ → Type 0
 ReportsWith k l text k' l' text' r =

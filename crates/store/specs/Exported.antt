@@ -7,7 +7,8 @@ use Rattle.service.specs.Serving.{world_in}
 -- the words are a state's, and its world with these loans is sound
 abbrev pub is_whole : (words records memory queue : List ℕ) → Bool
 is_whole words records memory queue =
-    is_kept words && sound (board_in words) (world_in (record { words = words; records = records; memory = memory; queue = queue; answer = [] }))
+    is_kept words
+    && sound (board_in words) (world_in (record { words = words; records = records; memory = memory; queue = queue; answer = [] }))
 
 -- 0 or 6, whatever the bytes of the memory and the places of the queue
 abbrev pub Audits : (words records : List ℕ) → (memory_len queue_len : ℕ) → ℕ → Type 0

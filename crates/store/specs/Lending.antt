@@ -1,4 +1,5 @@
--- What the two forms over lent structs promise: a boot over a lent list of region entries, and a call by its number over the nine counters as one lent record.
+-- What the two forms over lent structs promise: a boot over a lent list of region entries, and a call by its number over the nine counters
+-- as one lent record.
 use Rattle.std.specs.Prelude.{ℕ, zero, suc, ◌+◌, ◌*◌, ◌/◌, ◌%◌, cond, List, [], ◌∷◌, map, Result, Ok, Err, ◌≡◌, eqb, length, get_or}
 use Rattle.definition.specs.declared.Counters.{Counters}
 use Rattle.definition.specs.declared.MemoryRegion.{MemoryRegion}
@@ -25,8 +26,6 @@ use Rattle.lines.specs.declared.Ask.TheVariants.{
   Low,
 }
 use Rattle.lines.specs.Reading.{call_of}
-use Rattle.map.specs.declared.Gathered.{Gathered}
-use Rattle.map.specs.Lending.{entered as entered_region, gathered as gathered_regions}
 use Rattle.service.specs.Serving.{Lent, Counted, ServesWith, PlacesWith, ReportsWith, stays, booted, booted_with}
 use Rattle.store.specs.declared.Asked.{Asked}
 use Rattle.store.specs.declared.Asked.TheVariants.{Known, Write, Read, Stats, Boot}
@@ -44,17 +43,6 @@ Boots es l l' r = booted (map region_of es) l ≡ record { lent = l'; number = r
 
 abbrev pub no_entry : Entry
 no_entry = record { start = 0; length = 0; kind = 0 }
-
-abbrev pub entered : Gathered → ℕ → Entry → Gathered
-entered g i e = entered_region g i (region_of e)
-
--- what is gathered of the entries as regions: the first eight, and the count of all
-abbrev pub gathered : List Entry → Gathered
-gathered es = gathered_regions (map region_of es)
-
--- a boot by what was gathered, whatever entries it was gathered from
-abbrev pub BootsBy : Gathered → Lent → Lent → ℕ → Type 0
-BootsBy g l l' r = (es : List Entry) → g ≡ gathered es → Boots es l l' r
 
 -- ---- the lent counters
 

@@ -29,9 +29,6 @@ ghost use Rattle.service.specs.Serving.{code as code_def, loans_of, Serves, Serv
 ghost use Rattle.store.specs.Exported.{Audits};
 ghost use Rattle.store.specs.Lending.{
   region_of,
-  entered as entered_def,
-  gathered,
-  BootsBy,
   Boots,
   ask_of,
   numbers_of,
@@ -45,7 +42,6 @@ ghost use Rattle.store.specs.Lending.{
 use address::PhysAddr;
 use definition::{Counters, MemoryRegion, MemoryRegionKind, Refusal};
 use lines::Ask;
-use map::Gathered;
 use service::Told;
 
 // The number that an exported function returns: 0, or the refusal's on 01's sheet.
@@ -545,39 +541,6 @@ fn region_of(entry: Entry) -> MemoryRegion
     }
 }
 
-fn entered(g: Gathered, i: usize, entry: Entry) -> Gathered
-    ensures { result ≡ entered_def g i entry }
-{
-    map::entered(g, i, region_of(entry))
-}
-
-// Each of the first eight entries is handed over by value; past them nothing is read.
-fn gather(map: &[Entry]) -> Gathered
-    ensures { result ≡ gathered map.now }
-{
-    let first = &map[..map::at_most_eight(map.len())];
-    let mut g = map::nothing(map.len());
-    for (i, entry) in first.iter().enumerate() {
-        g = entered(g, i, *entry);
-    }
-    g
-}
-
-fn boot_gathered(
-    g: Gathered,
-    words: &mut [u64],
-    records: &mut [u8],
-    memory: &[u8],
-    queue: &[u64],
-    answer: &mut [u64],
-) -> Told
-    ensures { BootsBy g
-        (loans_of words.old records.old memory.now queue.now answer.old)
-        (loans_of words.new records.new memory.now queue.now answer.new) (code_def result) }
-{
-    service::serve_boot(g.map, g.count, words, records, memory, queue, answer)
-}
-
 // init, frame.rs 707, over a lent list of region entries of any length.
 #[unsafe(no_mangle)]
 pub extern "C" fn jilakkor_boot(
@@ -592,7 +555,8 @@ pub extern "C" fn jilakkor_boot(
         (loans_of words.old records.old memory.now queue.now answer.old)
         (loans_of words.new records.new memory.now queue.now answer.new) result }
 {
-    code(boot_gathered(gather(map), words, records, memory, queue, answer))
+    let g = map::gather(map.len(), |i| region_of(map[i]));
+    code(service::serve_boot(g.map, g.count, words, records, memory, queue, answer))
 }
 
 // ---- the lent counters
@@ -670,18 +634,6 @@ fn entry_in(numbers: &[u64], i: usize) -> Entry
     }
 }
 
-// As `gather`, of a map that is lent as numbers.
-fn gather_numbers(numbers: &[u64]) -> Gathered
-    ensures { result ≡ gathered (entries_of numbers.now) }
-{
-    let count = numbers.len() / 3;
-    let mut g = map::nothing(count);
-    for i in 0..map::at_most_eight(count) {
-        g = entered(g, i, entry_in(numbers, i));
-    }
-    g
-}
-
 // A boot over a map that is lent as numbers, three for each entry.
 fn boot_numbers(
     counters: &mut Counters,
@@ -699,7 +651,7 @@ fn boot_numbers(
     if n.len() % 3 != 0 {
         return Err(Refusal::BadLine);
     }
-    let g = gather_numbers(n);
+    let g = map::gather(n.len() / 3, |i| region_of(entry_in(n, i)));
     service::serve_boot_with(
         counters, g.map, g.count, words, records, memory, queue, answer,
     )

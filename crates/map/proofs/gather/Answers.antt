@@ -1,28 +1,20 @@
--- `gather` meets its contract: each turn enters the next entry, and after the last nothing is left.
-use Prim.Native.Nat.{◌<◌}
-use mathlib.Core.Path.{◌≡◌, ap, ◌∙◌}
+-- `gather` meets its contract: each turn reads the next entry, and after the last each of the eight places is as the map has it.
+use mathlib.Core.Path.{refl}
 use native.Mathlib.Omega.{arith}
-use lib.ListN.{length, take}
-use lib.Seq.{get_or-take, length-take-le}
-use Rattle.map.specs.Lending.{entered}
-use Rattle.map.proofs.Gathering.{onward_next, onward_end}
+use lib.ListN.{get_or-replicate}
+use Rattle.map.specs.Lending.{no_region}
+use Rattle.map.proofs.Gathering.{filled_next, filled_all}
 use Rattle.map.proofs.gather.Goals as goal
-use Rattle.map.proofs.gather.Goals.{At-loop-i}
 
-long : (c : At-loop-i) → length (take c.at_most_eight.result c.args.map.now) ≡ c.at_most_eight.result
-long c = length-take-le c.at_most_eight.result c.args.map.now c.at_most_eight.ensures.0
+pub loop-i-init : goal.loop-i-init
+loop-i-init g c = record {
+  long = refl;
+  read = λ k h. absurd (omega (arith, h));
+  rest = λ k a b. get_or-replicate 8 k no_region no_region b;
+}
 
 pub loop-i-preserved : goal.loop-i-preserved
-loop-i-preserved c =
-    let ms = c.args.map.now in
-    let n = c.at_most_eight.result in
-    let l = c.loop-i in
-    let small : l.i < n = omega (arith, long (goal.at.loop-i-preserved c).At-loop-i) in
-    onward_next ms n c.at_most_eight.ensures l.i l.g l.invariant _ small c.entered-g.result
-    (c.entered-g.ensures ∙ ap (entered l.g l.i) (get_or-take n ms l.i _ small))
+loop-i-preserved g c = filled_next c.loop-i.invariant c.entry.result (omega arith) c.entry.ensures
 
 pub returns : goal.returns
-returns c =
-    let l = c.loop-i in
-    onward_end c.args.map.now c.at_most_eight.result c.at_most_eight.ensures l.i l.g l.invariant
-    (omega (arith, long (goal.at.returns c).At-loop-i))
+returns g c ms e h = filled_all c.loop-i.invariant c.args.count (omega arith) ms e h

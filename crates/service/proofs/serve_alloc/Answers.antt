@@ -29,7 +29,8 @@ pub returns-then-not-is_lent : goal.returns-then-not-is_lent
 returns-then-not-is_lent c = serves_torn _ (loans (goal.at.returns-then-not-is_lent c).Start) (torn c)
 
 pub counters_in-counters-requires : goal.counters_in-counters-requires
-counters_in-counters-requires c = lent_words (loans (goal.at.counters_in-counters-requires c).Start) (lent (goal.at.counters_in-counters-requires c).Else-not-is_lent)
+counters_in-counters-requires c = lent_words (loans (goal.at.counters_in-counters-requires c).Start)
+    (lent (goal.at.counters_in-counters-requires c).Else-not-is_lent)
 
 pub alloc-y-requires : goal.alloc-y-requires
 alloc-y-requires c =

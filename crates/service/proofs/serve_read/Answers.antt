@@ -35,4 +35,5 @@ counters_in-counters-requires c = lent_words (loans (goal.at.counters_in-counter
 pub returns : goal.returns
 returns c =
     let s = (goal.at.returns c).Start in
-    places_in_words s.args.pa.0 s.args.offset s.args.len (loans s) (lent (goal.at.returns c).Else-not-is_lent) (rw c.counters_in-counters.ensures at c.serve_read_with.ensures)
+    places_in_words s.args.pa.0 s.args.offset s.args.len (loans s) (lent (goal.at.returns c).Else-not-is_lent)
+    (rw c.counters_in-counters.ensures at c.serve_read_with.ensures)

@@ -34,4 +34,5 @@ counters_in-counters-requires c = lent_words (loans (goal.at.counters_in-counter
 pub returns : goal.returns
 returns c =
     let s = (goal.at.returns c).Start in
-    reports_in_words (loans s) s.args.text.now (lent (goal.at.returns c).Else-not-is_lent) (rw c.counters_in-counters.ensures at c.serve_stats_with.ensures)
+    reports_in_words (loans s) s.args.text.now (lent (goal.at.returns c).Else-not-is_lent)
+    (rw c.counters_in-counters.ensures at c.serve_stats_with.ensures)

@@ -31,4 +31,5 @@ counters_in-counters-requires c = lent_words (loans (goal.at.counters_in-counter
 
 pub returns : goal.returns
 returns c =
-    kept_in_words _ (loans (goal.at.returns c).Start) (lent (goal.at.returns c).Else-not-is_lent) (rw c.counters_in-counters.ensures at c.serve_write_with.ensures)
+    kept_in_words _ (loans (goal.at.returns c).Start) (lent (goal.at.returns c).Else-not-is_lent)
+    (rw c.counters_in-counters.ensures at c.serve_write_with.ensures)
