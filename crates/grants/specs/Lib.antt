@@ -1,3 +1,2 @@
 pub mod Granting
-pub mod Sanity
 pub mod Loans

@@ -13,7 +13,7 @@ ghost use Rattle.record.specs.Records.{pages_in};
 ghost use Rattle.words.specs.Words.{board_in, Long, rows_in, Beside};
 ghost use Rattle.allocator.specs.Spots.{HeldIn, TurnsIn, mark_at, number_in};
 ghost use Rattle.exam.specs.Making.{TableIn, RoomIn, Few, Grants};
-ghost use Rattle.grants.specs.Sanity.{TableIn-prop};
+ghost use Rattle.exam.specs.Props.{table_in_prop};
 ghost use Rattle.grants.specs.Granting.{WantsIn, asking, zeroed_bytes, Near, handed as handed_def};
 
 use allocator::{Spot, Table};
@@ -72,7 +72,7 @@ struct Lent<'a> {
     words: &'a mut [u64],
     records: &'a mut [u8],
     memory: &'a mut [u8],
-    ghost table: { TableIn words.now records.now } by { TableIn-prop words.now records.now },
+    ghost table: { TableIn words.now records.now } by { table_in_prop words.now records.now },
     ghost room: { RoomIn words.now memory.now },
 }
 
