@@ -1,5 +1,5 @@
--- What the definition's allocator does over all regions, where it comes to the region i: a free finds the one region that has the page, and a grant the first
--- that has a frame. The other regions stay as they were.
+-- What the definition's allocator does over all regions, where it comes to the region i: a free finds the one region that has the page, and
+-- a grant the first that has a frame. The other regions stay as they were.
 use Prim.Native.Nat.{ℕ, zero, suc, ◌+◌, ◌≤◌, ◌<◌}
 use mathlib.Core.Bool.{Bool, true, false}
 use mathlib.Core.List.{List, [], ◌∷◌}
@@ -25,7 +25,8 @@ use Rattle.world.proofs.Sheets.{each_at}
 -- ---- which region has a page
 
 module _ {board : Board} where
-  module _ {f : ℕ → Record} {n base : ℕ} {row : Row} {fs : Frames} {r : AllocationRegion} (S : StandsRow board f n base row fs r) (p : ℕ) where
+  module _ {f : ℕ → Record} {n base : ℕ} {row : Row} {fs : Frames} {r : AllocationRegion} (S : StandsRow board f n base row fs r)
+      (p : ℕ) where
     pub contains_in : Inside board (from_of board row) row.pages p → contains board r p ≡ true
     unfolding from_of managed
     contains_in i =
@@ -40,7 +41,11 @@ module _ {board : Board} where
     in_contains t =
         let a = leb-true (first board r) p (and_left _ _ t) in
         let b = ltb-true p (end board r) (and_right (leb (first board r) p) _ t) in
-        record { low = rw (S.start, S.pages) at a; high = let c = rw (S.start, S.pages) at a in let d = rw (S.start, S.pages) at b in omega arith }
+        record {
+          low = rw (S.start, S.pages) at a;
+          high = let c = rw (S.start, S.pages) at a in let d = rw (S.start, S.pages) at b in
+              omega arith;
+        }
 
     pub contains_out : (Inside board (from_of board row) row.pages p → ⊥) → contains board r p ≡ false
     contains_out o = go (contains board r p) refl
@@ -53,10 +58,14 @@ module _ {board : Board} where
 
 module _ {board : Board} where
   pub free_in_lem
-      : {f : ℕ → Record} {n base : ℕ} {fs : Frames} (rows : List Row) (rs : List AllocationRegion) (i p : ℕ) → StandRows board f n fs base rows rs → Disjoint board rows
+      : {f : ℕ → Record} {n base : ℕ} {fs : Frames} (rows : List Row) (rs : List AllocationRegion) (i p : ℕ)
+      → StandRows board f n fs base rows rs → Disjoint board rows
       → i < length rows → Inside board (from_of board (row_at rows i)) (row_at rows i).pages p
       → free_in board p fs rs
-      ≡ record { frames = (free (levels_of fs (region_at rs i)) p).frames; regions = set rs i (with_free (region_at rs i) (free (levels_of fs (region_at rs i)) p).free) }
+      ≡ record {
+        frames = (free (levels_of fs (region_at rs i)) p).frames;
+        regions = set rs i (with_free (region_at rs i) (free (levels_of fs (region_at rs i)) p).free);
+      }
   unfolding free_in
   free_in_lem (row ∷ rows) (r ∷ rs) zero p (stand_more S Ss) (disjoint_more d ds) h k = rw (contains_in S p k) refl
   free_in_lem {f = f} {n = n} {base = base} {fs = fs} (row ∷ rows) (r ∷ rs) (suc i) p (stand_more S Ss) (disjoint_more d ds) h k =
@@ -72,7 +81,8 @@ module _ (l : ℕ) (z o : Bool) (fs : Frames) where
   abbrev pub given : List AllocationRegion → ℕ → Found
   given rs i = allocate everywhere l (levels_of fs (region_at rs i)) z o
 
-  pub pass_none : (rs : List AllocationRegion) → ((i : ℕ) → i < length rs → (given rs i).page ≡ none) → pass everywhere l z o fs rs ≡ record { allocator = record { frames = fs; regions = rs }; page = none }
+  pub pass_none : (rs : List AllocationRegion) → ((i : ℕ) → i < length rs → (given rs i).page ≡ none)
+      → pass everywhere l z o fs rs ≡ record { allocator = record { frames = fs; regions = rs }; page = none }
   unfolding pass
   pass_none [] h = refl
   pass_none (r ∷ rs) h = rw (h 0 (omega arith), pass_none rs (λ i k. h (suc i) (omega arith))) refl
@@ -81,7 +91,10 @@ module _ (l : ℕ) (z o : Bool) (fs : Frames) where
       : (rs : List AllocationRegion) (i p : ℕ) → i < length rs → ((j : ℕ) → j < i → (given rs j).page ≡ none) → (given rs i).page ≡ some p
       → pass everywhere l z o fs rs
       ≡ record {
-        allocator = record { frames = (given rs i).levels.frames; regions = set rs i (with_free (region_at rs i) (given rs i).levels.free) };
+        allocator = record {
+          frames = (given rs i).levels.frames;
+          regions = set rs i (with_free (region_at rs i) (given rs i).levels.free);
+        };
         page = some p;
       }
   unfolding pass

@@ -1,5 +1,5 @@
--- A call changes the rows and records of one region. The world then stands for the store in which that region changed alike, and every other
--- region stays sound, whole and what it stood for.
+-- A call changes the rows and records of one region. The world then stands for the store in which that region changed alike, and every
+-- other region stays sound, whole and what it stood for.
 use Prim.Native.Nat.{ℕ, zero, suc, ◌+◌, ◌≤◌, ◌<◌}
 use mathlib.Core.List.{List, [], ◌∷◌, map}
 use mathlib.Core.Option.{none}
@@ -49,7 +49,8 @@ module _ {board : Board} where
       starts_same p a h d = rw (frames p (record { low = a; high = d })) (h d)
 
       tile_same
-          : {from : ℕ} (p : ℕ) (a : Frame) → Inside board first pages p → Tile s from first (first + managed board pages) p a → Tile t from first (first + managed board pages) p a
+          : {from : ℕ} (p : ℕ) (a : Frame) → Inside board first pages p → Tile s from first (first + managed board pages) p a
+          → Tile t from first (first + managed board pages) p a
       tile_same p a i T =
           record {
             level = T.level;
@@ -105,9 +106,12 @@ module _ {board : Board} where
             pages = S.pages;
             same =
                 record {
-                  frames = λ q i. C.outside (shift (from_of board row2) base2 q) (λ j. parted _ j (shift_in q i)) ∙ S.same.frames q i ∙ sym (state_frames q i);
-                  free = λ k. S.same.free k ∙ ap (λ (h : ℕ → List ℕ). map (shift (from_of board row2) base2) (h k)) (sym (state_free S.sound));
-                  inside = λ k. subst (λ (h : ℕ → List ℕ). All (λ (q : ℕ). Inside board base2 row2.pages q) (h k)) (sym (state_free S.sound)) (S.same.inside k);
+                  frames = λ q i. C.outside (shift (from_of board row2) base2 q) (λ j. parted _ j (shift_in q i)) ∙ S.same.frames q i
+                      ∙ sym (state_frames q i);
+                  free = λ k. S.same.free k ∙ ap (λ (h : ℕ → List ℕ). map (shift (from_of board row2) base2) (h k))
+                      (sym (state_free S.sound));
+                  inside = λ k. subst (λ (h : ℕ → List ℕ). All (λ (q : ℕ). Inside board base2 row2.pages q) (h k))
+                      (sym (state_free S.sound)) (S.same.inside k);
                 };
           }
 
@@ -115,29 +119,36 @@ module _ {board : Board} where
 
 module _ {board : Board} where
   module _ {f g : ℕ → Record} {n base : ℕ} {row r : Row} {u : Levels} (B : Becomes board f base row g n r u) where
-    behind : {base2 : ℕ} (row2 : Row) → base + managed board row.pages ≤ base2 → (q : ℕ) → Inside board base2 row2.pages q → Inside board base row.pages q → ⊥
+    behind : {base2 : ℕ} (row2 : Row) → base + managed board row.pages ≤ base2 → (q : ℕ) → Inside board base2 row2.pages q
+        → Inside board base row.pages q → ⊥
     behind row2 h q i j = absurd (omega (arith, i.low, j.high))
 
-    before : {base2 : ℕ} (row2 : Row) → base2 + managed board row2.pages ≤ base → (q : ℕ) → Inside board base2 row2.pages q → Inside board base row.pages q → ⊥
+    before : {base2 : ℕ} (row2 : Row) → base2 + managed board row2.pages ≤ base → (q : ℕ) → Inside board base2 row2.pages q
+        → Inside board base row.pages q → ⊥
     before row2 h q i j = absurd (omega (arith, i.high, j.low))
 
-    good_rest : {base2 : ℕ} {rows : List Row} → base + managed board row.pages ≤ base2 → GoodRows board f n base2 rows → GoodRows board g n base2 rows
+    good_rest : {base2 : ℕ} {rows : List Row} → base + managed board row.pages ≤ base2 → GoodRows board f n base2 rows
+        → GoodRows board g n base2 rows
     good_rest h good_none = good_none
     good_rest h (good_more {row = row2} G Gs) = good_more (good_beside B row2 (behind row2 h) G) (good_rest (omega arith) Gs)
 
     stands_rest
-        : {t t2 : Levels} → Carried board (from_of board row) base row.pages t u t2 → {base2 : ℕ} {rows : List Row} {rs : List AllocationRegion}
-        → base + managed board row.pages ≤ base2 → Each (λ (x : Row). Parted board row x) rows → StandRows board f n t.frames base2 rows rs → StandRows board g n t2.frames base2 rows rs
+        : {t t2 : Levels} → Carried board (from_of board row) base row.pages t u t2
+        → {base2 : ℕ} {rows : List Row} {rs : List AllocationRegion}
+        → base + managed board row.pages ≤ base2 → Each (λ (x : Row). Parted board row x) rows → StandRows board f n t.frames base2 rows rs
+        → StandRows board g n t2.frames base2 rows rs
     stands_rest C h each_none stand_none = stand_none
     stands_rest {t = t} {t2 = t2} C {base2 = base2} h (each_more {row = row2} {rows = rows} p ps) (stand_more {r = r'} {rs = rs} S Ss) =
-        stand_more (stands_beside B row2 (behind row2 h) C p S) (stands_rest C {base2 = base2 + managed board row2.pages} (omega arith) ps Ss)
+        stand_more (stands_beside B row2 (behind row2 h) C p S)
+        (stands_rest C {base2 = base2 + managed board row2.pages} (omega arith) ps Ss)
 
 -- ---- the row i changes
 
 module _ {board : Board} where
   pub good_set
       : {f g : ℕ → Record} {n : ℕ} {r : Row} {u : Levels} (i base : ℕ) (rows : List Row) → i < length rows → GoodRows board f n base rows
-      → Becomes board f (base_at board base rows i) (row_at rows i) g n r u → WholeRow board g (base_at board base rows i) r → GoodRows board g n base (set rows i r)
+      → Becomes board f (base_at board base rows i) (row_at rows i) g n r u → WholeRow board g (base_at board base rows i) r
+      → GoodRows board g n base (set rows i r)
   unfolding base_at
   good_set {g = g} {n = n} {r = r} zero base (row ∷ rows) h (good_more G Gs) B W =
       good_more {row = r}
@@ -156,7 +167,8 @@ module _ {board : Board} where
   good_set {f = f} {g = g} {n = n} {r = r} {u = u} (suc i) base [] h _ B W = elim h [ ]
 
   same_after
-      : {f g : ℕ → Record} {n base : ℕ} {row r : Row} {u t : Levels} → Becomes board f base row g n r u → Shifted board (from_of board row) base row.pages u t
+      : {f g : ℕ → Record} {n base : ℕ} {row r : Row} {u t : Levels} → Becomes board f base row g n r u
+      → Shifted board (from_of board row) base row.pages u t
       → Shifted board (from_of board r) base r.pages (state_of g r) t
   same_after {g = g} {base = base} {row = row} {r = r} {u = u} {t = t} B S =
       subst (λ (a : ℕ). Shifted board a base r.pages (state_of g r) t) (sym (from_same B))
@@ -165,7 +177,8 @@ module _ {board : Board} where
 
   -- the region that the row stood for changed alike
   pub stands_set
-      : {f g : ℕ → Record} {n : ℕ} {r : Row} {fs : Frames} {u t2 : Levels} (i base : ℕ) (rows : List Row) (rs : List AllocationRegion) → i < length rows
+      : {f g : ℕ → Record} {n : ℕ} {r : Row} {fs : Frames} {u t2 : Levels} (i base : ℕ) (rows : List Row) (rs : List AllocationRegion)
+      → i < length rows
       → Disjoint board rows → StandRows board f n fs base rows rs → Becomes board f (base_at board base rows i) (row_at rows i) g n r u
       → Carried board (from_of board (row_at rows i)) (base_at board base rows i) (row_at rows i).pages (levels_of fs (region_at rs i)) u t2
       → StandRows board g n t2.frames base (set rows i r) (set rs i (with_free (region_at rs i) t2.free))
@@ -181,7 +194,8 @@ module _ {board : Board} where
       })
       (subst (λ (p : ℕ). StandRows board g n t2.frames (base + managed board p) rows rs) (sym B.pages) (stands_rest B C (omega arith) p Ss))
   stands_set (suc i) base (row ∷ rows) (x ∷ rs) h (disjoint_more p ps) (stand_more S Ss) B C =
-      stand_more (stands_beside B row (before B row (base_low board (base + managed board row.pages) rows i)) C (λ q a b. each_at _ p i (omega arith) q b a) S)
+      stand_more (stands_beside B row (before B row (base_low board (base + managed board row.pages) rows i)) C
+      (λ q a b. each_at _ p i (omega arith) q b a) S)
       (stands_set i (base + managed board row.pages) rows rs (omega arith) ps Ss B C)
   stands_set {f = f} {g = g} {n = n} {r = r} {fs = fs} {u = u} {t2 = t2} zero base [] rs h _ _ B C = elim h [ ]
   stands_set {f = f} {g = g} {n = n} {r = r} {fs = fs} {u = u} {t2 = t2} zero base (row ∷ rows) [] h _ x17 B C = elim x17 [ ]

@@ -1,5 +1,6 @@
--- What the tests of the torn sheet say of one region's pages, given by numbers as in `scan`: each page starts a frame or is blank inside one, and a list
--- that walks is linked both ways and meets no page twice. A caller takes from here `spot` for a page and `walk_linked` for a list.
+-- What the tests of the torn sheet say of one region's pages, given by numbers as in `scan`: each page starts a frame or is blank inside
+-- one, and a list that walks is linked both ways and meets no page twice. A caller takes from here `spot` for a page and `walk_linked` for
+-- a list.
 use Prim.Native.Nat.{ℕ, zero, suc, ◌+◌, ◌-◌, ◌*◌, ◌/◌, ◌%◌, ◌≤◌, ◌<◌}
 use mathlib.Core.Bool.{true, ◌&&◌}
 use mathlib.Core.List.{List, [], ◌∷◌, reverse_aux}
@@ -31,7 +32,12 @@ use Rattle.scan.proofs.Nodes.{Met, node_back, node_facts, walks_met, walks_disti
 -- ---- a record and its frame
 
 abbrev pub frame_at : Record → Frame
-frame_at r = record { level = r.level; allocated = eqb (r.marks / 2 % 2) 1; zeroed = eqb (r.marks / 4 % 2) 1; kernel = eqb (r.marks / 8 % 2) 1 }
+frame_at r = record {
+  level = r.level;
+  allocated = eqb (r.marks / 2 % 2) 1;
+  zeroed = eqb (r.marks / 4 % 2) 1;
+  kernel = eqb (r.marks / 8 % 2) 1;
+}
 
 pub frame_some : (r : Record) → r.marks % 2 ≡ 1 → frame_of r ≡ some (frame_at r)
 unfolding frame_of
@@ -73,8 +79,12 @@ pub clean_head : (r : Record) → r.marks % 2 ≡ 1 → r.marks < 16 → Clean r
 clean_head r e h =
     record {
       marks =
-          rw
-          (frame_some r e, bit_of (r.marks / 2 % 2) (omega arith), bit_of (r.marks / 4 % 2) (omega arith), bit_of (r.marks / 8 % 2) (omega arith))
+          rw (
+            frame_some r e,
+            bit_of (r.marks / 2 % 2) (omega arith),
+            bit_of (r.marks / 4 % 2) (omega arith),
+            bit_of (r.marks / 8 % 2) (omega arith),
+          )
           (digits r.marks e h);
       level = rw (frame_some r e);
     }
@@ -112,7 +122,8 @@ alone_loose r t h =
 -- a page of the region is one of the heads hs, and where its frame ends the next one starts; or it is blank
 pub data Spot (f : Records) (from base past : ℕ) (hs : List ℕ) (q : ℕ) : Type 0 where
   spot_head
-      : Head f from base past q → Mem q hs → (q + size (f q).level < past → (f (q + size (f q).level)).marks % 2 ≡ 1) → Spot f from base past hs q
+      : Head f from base past q → Mem q hs → (q + size (f q).level < past → (f (q + size (f q).level)).marks % 2 ≡ 1)
+      → Spot f from base past hs q
   spot_inner : Zeros (f q) → Spot f from base past hs q
 
 module _ (f : Records) (from base past : ℕ) where
@@ -125,7 +136,8 @@ module _ (f : Records) (from base past : ℕ) where
   opens at [] s t l = absurd (omega arith)
   opens at (h ∷ hs) s t l = (front_head at h hs s.0 t).admitted
 
-  pub spot : (at q : ℕ) (hs : List ℕ) → Steps f past at hs → all (head_at f from base past) hs ≡ true → at ≤ q → q < past → Spot f from base past hs q
+  pub spot : (at q : ℕ) (hs : List ℕ) → Steps f past at hs → all (head_at f from base past) hs ≡ true → at ≤ q → q < past
+      → Spot f from base past hs q
   unfolding all
   spot at q [] s t l u = absurd (omega arith)
   spot at q (h ∷ hs) s t l u = go (ℕ_discrete at q) (dec_lt q next) (λ k. spot next q hs s.2 rest k u)
@@ -210,5 +222,6 @@ module _ (f : Records) (base past k : ℕ) where
           chain = walk_seg l.count 0 l.front l.back w;
           counted = sym (walk_length f l.count l.front);
           distinct = (turned (walk f l.count l.front) [] (walks_distinct f base past k l.count l.front l.back w)).distinct;
-          inside = all_mem (walk f l.count l.front) (λ x m. let a = walks_met f base past k l.count 0 l.front l.back w x m in omega (arith, a.high));
+          inside = all_mem (walk f l.count l.front) (λ x m. let a = walks_met f base past k l.count 0 l.front l.back w x m in
+              omega (arith, a.high));
         }

@@ -1,5 +1,5 @@
--- What a world stands for is written as that very world. `stands_encode` is the law; `ends_agree` gives its hypothesis on the records' end to a caller who
--- knows that the records behind the managed pages stay.
+-- What a world stands for is written as that very world. `stands_encode` is the law; `ends_agree` gives its hypothesis on the records' end
+-- to a caller who knows that the records behind the managed pages stay.
 use Prim.Native.Nat.{ℕ, suc, ◌+◌, ◌*◌, ◌≤◌, ◌<◌}
 use mathlib.Core.Bool.{Bool, true, false, cond}
 use mathlib.Core.List.{List, [], ◌∷◌, ◌++◌}
@@ -40,11 +40,13 @@ used_split (row ∷ rows) = go (eqb row.pages 0) (used_split rows)
 
 module _ {board : Board} where
   module _ {f : ℕ → Record} {n : ℕ} {fs : Frames} where
-    rows_back : {base : ℕ} {rows : List Row} {rs : List AllocationRegion} → StandRows board f n fs base rows rs → encode_rows board base rs ≡ rows
+    rows_back : {base : ℕ} {rows : List Row} {rs : List AllocationRegion} → StandRows board f n fs base rows rs
+        → encode_rows board base rs ≡ rows
     unfolding encode_rows
     rows_back stand_none = refl
     rows_back (stand_more {base = base} {rs = rs} S rest) =
-        ap₂ (λ (x : Row) (y : List Row). x ∷ y) (row_back S) (ap (λ (m : ℕ). encode_rows board (base + m) rs) (managed_same S) ∙ rows_back rest)
+        ap₂ (λ (x : Row) (y : List Row). x ∷ y) (row_back S)
+        (ap (λ (m : ℕ). encode_rows board (base + m) rs) (managed_same S) ∙ rows_back rest)
 
     as_many : {base : ℕ} {rows : List Row} {rs : List AllocationRegion} → StandRows board f n fs base rows rs → length rs ≡ length rows
     as_many stand_none = refl
@@ -63,7 +65,8 @@ module _ {board : Board} where
         let same = managed_same S in
         let fits = S.sound.fits in
         part_join bs (16 * base) (16 * managedOf board r) (16 * managed_pages board rs)
-        (pages_part bs small (record_of board base r fs) (first board r) base (managedOf board r) (omega arith) (λ i h. record_back S i (omega arith)))
+        (pages_part bs small (record_of board base r fs) (first board r) base (managedOf board r) (omega arith)
+        (λ i h. record_back S i (omega arith)))
         (ap (λ (m : ℕ). regions_bytes board (base + m) fs rs) same ∙ records_back rest)
         (omega arith) (omega arith)
 
@@ -134,7 +137,8 @@ module _ {board : Board} where
       count : length s.queue ≡ v.queued
       count = ap length S.queue ∙ length-take-le v.queued v.queue S.queued
 
-      same : {a b : List Row} {c d : Counters} {m n : ℕ} {p q : Pass} {f g h i j k : List ℕ} → a ≡ b → c ≡ d → m ≡ n → p ≡ q → f ≡ g → h ≡ i → j ≡ k
+      same : {a b : List Row} {c d : Counters} {m n : ℕ} {p q : Pass} {f g h i j k : List ℕ} → a ≡ b → c ≡ d → m ≡ n → p ≡ q → f ≡ g → h ≡ i
+          → j ≡ k
           → ◌≡◌ {A = World} (record { rows = a; counters = c; queued = m; pass = p; records = f; memory = h; queue = j })
           (record { rows = b; counters = d; queued = n; pass = q; records = g; memory = i; queue = k })
       same e0 e1 e2 e3 e4 e5 e6 = cc

@@ -1,5 +1,5 @@
--- The lent memory by physical address, and its bytes region by region. `memory_back` says that reading the regions' bytes out of `memory_of` gives the front
--- of the loan again, `memory_part` says so of any memory whose pages have the bytes of the loan's.
+-- The lent memory by physical address, and its bytes region by region. `memory_back` says that reading the regions' bytes out of
+-- `memory_of` gives the front of the loan again, `memory_part` says so of any memory whose pages have the bytes of the loan's.
 use Prim.Native.Nat.{ℕ, ◌+◌, ◌*◌, ◌/◌, ◌%◌, ◌≤◌, ◌<◌}
 use mathlib.Core.Bool.{false}
 use mathlib.Core.List.{List, [], ◌∷◌}
@@ -33,8 +33,10 @@ module _ (board : Board) where
       let is = address_is board.page i in
       let x : board.page * (first board r + i / board.page) + i % board.page ≡ board.page * first board r + i = omega (arith, is) in
       let y : board.page * (base + i / board.page) + i % board.page ≡ board.page * base + i = omega (arith, is) in
-      rw (x, y) at (each_first board (Holds bs m) base r rs each (i / board.page) (page_below board.page k) (i % board.page) (offset_small board.page (some_byte board.page (managed board r) k) i))))
-      (memory_part bs m (base + managed board r) rs (omega arith) (overlap_rest board r rs e) (each_rest board (Holds bs m) base r rs each e))
+      rw (x, y) at (each_first board (Holds bs m) base r rs each (i / board.page) (page_below board.page k) (i % board.page)
+      (offset_small board.page (some_byte board.page (managed board r) k) i))))
+      (memory_part bs m (base + managed board r) rs (omega arith) (overlap_rest board r rs e)
+      (each_rest board (Holds bs m) base r rs each e))
       (omega arith) (omega arith)
 
   -- from the first region on

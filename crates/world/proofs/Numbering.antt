@@ -1,5 +1,6 @@
--- Which page has which page number, where no two regions share a page. `EachPage P base rs` says P of each page of the regions and its number; it goes from a
--- list of regions to the pages of its first region and to the rest, so that an induction over regions never looks at `number_in`.
+-- Which page has which page number, where no two regions share a page. `EachPage P base rs` says P of each page of the regions and its
+-- number; it goes from a list of regions to the pages of its first region and to the rest, so that an induction over regions never looks at
+-- `number_in`.
 use Prim.Native.Nat.{ℕ, ◌+◌, ◌≤◌, ◌<◌}
 use mathlib.Core.Bool.{Bool, true, false, ◌||◌, false≢true}
 use mathlib.Core.List.{List, [], ◌∷◌}

@@ -1,5 +1,5 @@
--- A part of a loan, by its first place and its length, and that parts that follow one another are one. A reader takes from here that the bytes written for
--- records, and those of a run of memory, are the very part of the loan that they were read from.
+-- A part of a loan, by its first place and its length, and that parts that follow one another are one. A reader takes from here that the
+-- bytes written for records, and those of a run of memory, are the very part of the loan that they were read from.
 use Prim.Native.Nat.{ℕ, zero, suc, ◌+◌, ◌*◌, ◌/◌, ◌%◌, ◌≤◌, ◌<◌}
 use mathlib.Core.List.{List, [], ◌∷◌, ◌++◌}
 use mathlib.Core.Path.{◌≡◌, refl, sym, ap, ap₂, ◌∙◌}
@@ -36,7 +36,8 @@ module _ (xs : List ℕ) where
   unfolding part
   part_cons at n h = rw (add-one, drop-cons xs at 0)
 
-  part_four : (at : ℕ) → at + 4 ≤ length xs → get_or xs at 0 ∷ get_or xs (at + 1) 0 ∷ get_or xs (at + 2) 0 ∷ get_or xs (at + 3) 0 ∷ [] ≡ part xs at 4
+  part_four : (at : ℕ) → at + 4 ≤ length xs → get_or xs at 0 ∷ get_or xs (at + 1) 0 ∷ get_or xs (at + 2) 0 ∷ get_or xs (at + 3) 0 ∷ []
+      ≡ part xs at 4
   part_four at h =
       let two : at + 1 + 1 ≡ at + 2 = omega arith in
       let three : at + 2 + 1 ≡ at + 3 = omega arith in
@@ -84,7 +85,8 @@ module _ (bs : List ℕ) (small : (i : ℕ) → get_or bs i 0 < 256) where
   record_part : (q : ℕ) → 16 * q + 16 ≤ length bs → record_bytes (record_at bs q) ≡ part bs (16 * q) 16
   unfolding record_at
   record_part q h =
-      let late = part_join bs ((q * 4 + 2) * 4) 4 4 (word_part (q * 4 + 2) (omega arith)) (word_part (q * 4 + 3) (omega arith)) (omega arith) refl in
+      let late = part_join bs ((q * 4 + 2) * 4) 4 4 (word_part (q * 4 + 2) (omega arith)) (word_part (q * 4 + 3) (omega arith))
+      (omega arith) refl in
       let rest = part_join bs ((q * 4 + 1) * 4) 4 8 (word_part (q * 4 + 1) (omega arith)) late (omega arith) refl in
       part_join bs (q * 4 * 4) 4 12 (word_part (q * 4) (omega arith)) rest (omega arith) refl ∙ ap (λ (at : ℕ). part bs at 16) (omega arith)
 
@@ -108,5 +110,6 @@ module _ (bs : List ℕ) (m : Memory) where
   unfolding bytes_at byte
   run_part a b zero h same = sym (part_none bs b)
   run_part a b (suc n) h same =
-      ap₂ (λ (x : ℕ) (xs : List ℕ). x ∷ xs) (at_first m byte a b n same) (run_part (a + 1) (b + 1) n (omega arith) (from_next m byte a b n same))
+      ap₂ (λ (x : ℕ) (xs : List ℕ). x ∷ xs) (at_first m byte a b n same)
+      (run_part (a + 1) (b + 1) n (omega arith) (from_next m byte a b n same))
       ∙ part_cons bs b n (omega arith)

@@ -1,6 +1,7 @@
--- The managed memory by its two names: a page has a page frame number and a page number, a byte an address and a place in the loan. `Runs` says that pages
--- that follow one another have numbers that do, `Lies` the same of bytes; a reader takes from here that a managed byte is in a range of addresses exactly
--- where its place is in the range of places (`lies_place`, `lies_address`), and that a frame, and what is left of a region behind a page, are such runs.
+-- The managed memory by its two names: a page has a page frame number and a page number, a byte an address and a place in the loan. `Runs`
+-- says that pages that follow one another have numbers that do, `Lies` the same of bytes; a reader takes from here that a managed byte is
+-- in a range of addresses exactly where its place is in the range of places (`lies_place`, `lies_address`), and that a frame, and what is
+-- left of a region behind a page, are such runs.
 use Prim.Native.Nat.{ℕ, zero, suc, ◌+◌, ◌-◌, ◌*◌, ◌/◌, ◌%◌, ◌≤◌, ◌<◌}
 use mathlib.Core.Bool.{Bool, true, false, cond}
 use mathlib.Core.List.{List, [], ◌∷◌}
@@ -57,18 +58,21 @@ module _ (board : Board) where
     in_first : first board r ≤ p → p < end board r → q ≡ page_number board base r p → FirstOrRest base r rs p q
     in_rest : number_in board (base + managedOf board r) rs p ≡ some q → FirstOrRest base r rs p q
 
-  pub first_or_rest : (base : ℕ) (r : AllocationRegion) (rs : List AllocationRegion) (p q : ℕ) → number_in board base (r ∷ rs) p ≡ some q → FirstOrRest base r rs p q
+  pub first_or_rest : (base : ℕ) (r : AllocationRegion) (rs : List AllocationRegion) (p q : ℕ) → number_in board base (r ∷ rs) p ≡ some q
+      → FirstOrRest base r rs p q
   unfolding number_in
   first_or_rest base r rs p q h = go (contains board r p) refl h
     where
       go : (t : Bool) → contains board r p ≡ t
-          → cond t (some (page_number board base r p)) (number_in board (base + managedOf board r) rs p) ≡ some q → FirstOrRest base r rs p q
+          → cond t (some (page_number board base r p)) (number_in board (base + managedOf board r) rs p) ≡ some q
+          → FirstOrRest base r rs p q
       go true k e = in_first (contains_low r p k) (contains_high r p k) (cc)
       go false k e = in_rest e
 
   -- numbers run from `base` on, as many as there are managed pages
   pub number_between
-      : (base : ℕ) (rs : List AllocationRegion) (p q : ℕ) → number_in board base rs p ≡ some q → (base ≤ q) × (q < base + managed_pages board rs)
+      : (base : ℕ) (rs : List AllocationRegion) (p q : ℕ) → number_in board base rs p ≡ some q
+      → (base ≤ q) × (q < base + managed_pages board rs)
   unfolding number_in sum
   number_between base [] p q h = absurd (none-ne-some q h)
   number_between base (r ∷ rs) p q h = go (first_or_rest base r rs p q h) (number_between (base + managedOf board r) rs p q)
@@ -82,7 +86,8 @@ module _ (board : Board) where
 
   -- two pages with the same number are one
   pub number_one
-      : (base : ℕ) (rs : List AllocationRegion) (p t q : ℕ) → number_in board base rs p ≡ some q → number_in board base rs t ≡ some q → p ≡ t
+      : (base : ℕ) (rs : List AllocationRegion) (p t q : ℕ) → number_in board base rs p ≡ some q → number_in board base rs t ≡ some q
+      → p ≡ t
   unfolding number_in
   number_one base [] p t q h k = absurd (none-ne-some q h)
   number_one base (r ∷ rs) p t q h k = go (first_or_rest base r rs p q h) (first_or_rest base r rs t q k) (number_one next rs p t q)
@@ -90,7 +95,8 @@ module _ (board : Board) where
       next : ℕ
       next = base + managedOf board r
 
-      go : FirstOrRest base r rs p q → FirstOrRest base r rs t q → (number_in board next rs p ≡ some q → number_in board next rs t ≡ some q → p ≡ t) → p ≡ t
+      go : FirstOrRest base r rs p q → FirstOrRest base r rs t q
+          → (number_in board next rs p ≡ some q → number_in board next rs t ≡ some q → p ≡ t) → p ≡ t
       go (in_first a b e) (in_first c d f) ih = omega arith
       go (in_first a b e) (in_rest l) ih = absurd (omega (arith, (number_between (base + managedOf board r) rs t q l).0))
       go (in_rest j) (in_first c d f) ih = absurd (omega (arith, (number_between (base + managedOf board r) rs p q j).0))
@@ -122,7 +128,8 @@ module _ (board : Board) where
     pub each : (i : ℕ) → i < managedOf board r → P (first board r + i) (at + i)
 
   each_region
-      : (P : ℕ → ℕ → Type 0) (base : ℕ) (rs : List AllocationRegion) → EachPage board P base rs → overlap board rs ≡ false → (k : ℕ) → k < length rs
+      : (P : ℕ → ℕ → Type 0) (base : ℕ) (rs : List AllocationRegion) → EachPage board P base rs → overlap board rs ≡ false → (k : ℕ)
+      → k < length rs
       → Based P (region_at rs k)
   each_region P base [] each e k h = absurd (omega arith)
   each_region P base (r ∷ rs) each e zero h = record { at = base; each = each_first board P base r rs each }
@@ -154,7 +161,8 @@ module _ (board : Board) where
   abbrev pub managed_bytes : List AllocationRegion → ℕ
   managed_bytes rs = board.page * managed_pages board rs
 
-  -- the len bytes from the address a on are managed, and have the places from b on: each is as far into its page as its place is, and its page has that number
+  -- the len bytes from the address a on are managed, and have the places from b on: each is as far into its page as its place is, and its
+  -- page has that number
   pub record Lies (rs : List AllocationRegion) (a b len : ℕ) : Type 0 where
     pub edge : a % board.page ≡ b % board.page
     pub number : (j : ℕ) → j < len → number_in board 0 rs ((a + j) / board.page) ≡ some ((b + j) / board.page)
@@ -202,7 +210,8 @@ module _ {board : Board} where
 
   -- the number of a page of the row i
   row_number
-      : (base : ℕ) (rows : List Row) (i p : ℕ) → Disjoint board rows → i < length rows → Inside board (from_of board (row_at rows i)) (row_at rows i).pages p
+      : (base : ℕ) (rows : List Row) (i p : ℕ) → Disjoint board rows → i < length rows
+      → Inside board (from_of board (row_at rows i)) (row_at rows i).pages p
       → number_in board base (bare_regions board rows) p ≡ some (base_at board base rows i + (p - from_of board (row_at rows i)))
   unfolding number_in bare_regions base_at from_of managed
   row_number base [] i p D h k = absurd (omega arith)
@@ -219,7 +228,8 @@ module _ {board : Board} where
     spotted_end = omega (arith, S.inside.low, S.inside.high)
 
     -- from a page of a row to the end of the row's region
-    pub spotted_runs : Disjoint board (used_rows rows) → Runs board (regions_of board rows) p q (end board (bare_region board (row_at rows i)) - p)
+    pub spotted_runs : Disjoint board (used_rows rows)
+        → Runs board (regions_of board rows) p q (end board (bare_region board (row_at rows i)) - p)
     spotted_runs D =
         let low = S.inside.low in
         let high = S.inside.high in
@@ -237,7 +247,8 @@ module _ {board : Board} where
 
     -- the pages of a frame
     pub frame_runs
-        : {f : ℕ → Record} {n : ℕ} → Sane board f n rows → (a : Frame) → frame_of (f q) ≡ some a → Runs board (regions_of board rows) p q (size a.level)
+        : {f : ℕ → Record} {n : ℕ} → Sane board f n rows → (a : Frame) → frame_of (f q) ≡ some a
+        → Runs board (regions_of board rows) p q (size a.level)
     unfolding state_of
     frame_runs {f} {n} N a e =
         let G : Good board f n base (row_at rows i) = rw (S.based, ← used_row rows i S.used) (good_at _ N.good i S.used) in

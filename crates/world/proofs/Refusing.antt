@@ -1,4 +1,5 @@
--- Which refusal a call gives, from what it names: each kind of call has one law, by which it is that of its frames, places and layouts alone.
+-- Which refusal a call gives, from what it names: each kind of call has one law, by which it is that of its frames, places and layouts
+-- alone.
 use Prim.Native.Nat.{ℕ}
 use mathlib.Core.Bool.{Bool, true, false, not, cond, ◌&&◌, ◌||◌}
 use mathlib.Core.List.{List, [], ◌∷◌, ◌++◌}
@@ -55,7 +56,8 @@ module _ (board : Board) where
   -- the lines that no range meets
   ranges : (s : Store) (fs ps : List Range)
       → first_met (sheet board s (ranges_named fs ps))
-      ≡ of_four (any (outside board s) (fs ++ ps)) (any (λ r. not (starts_frame board s r.address)) fs) (any (λ r. not (is_held board s r.address)) fs)
+      ≡ of_four (any (outside board s) (fs ++ ps)) (any (λ r. not (starts_frame board s r.address)) fs)
+      (any (λ r. not (is_held board s r.address)) fs)
       (any (leaves_frame board s) fs || any (leaves_region board s) ps)
   unfolding first_met sheet any
   ranges s fs ps = refl
@@ -130,7 +132,8 @@ of_place false false = refl
 module _ (board : Board) where
   module _ (s : Store) where
     -- a frame
-    pub one_frame : (a off len : ℕ) → first_met (sheet board s (ranges_named (part a off len) [])) ≡ frame_refusal board s (range_of a off len)
+    pub one_frame : (a off len : ℕ) → first_met (sheet board s (ranges_named (part a off len) []))
+        ≡ frame_refusal board s (range_of a off len)
     unfolding any
     one_frame a off len =
         let r = range_of a off len in
@@ -161,7 +164,8 @@ module _ (board : Board) where
           or-false (leaves_frame board s r || (leaves_frame board s t || false)),
           or-false (leaves_frame board s t),
         )
-        (joint (outside board s r) (outside board s t) (not (starts_frame board s a)) (not (starts_frame board s b)) (not (is_held board s a)) (not (is_held board s b)) (leaves_frame board s r) (leaves_frame board s t))
+        (joint (outside board s r) (outside board s t) (not (starts_frame board s a)) (not (starts_frame board s b))
+        (not (is_held board s a)) (not (is_held board s b)) (leaves_frame board s r) (leaves_frame board s t))
 
     -- a frame and a place
     pub frame_and_place
@@ -174,11 +178,13 @@ module _ (board : Board) where
         let t = range_of b soff n in
         ranges board s (part a off len) (part b soff n)
         ∙ rw (or-false (outside board s t), or-false (leaves_frame board s r), or-false (leaves_region board s t))
-        (joint (outside board s r) (outside board s t) (not (starts_frame board s a)) false (not (is_held board s a)) false (leaves_frame board s r) (leaves_region board s t))
+        (joint (outside board s r) (outside board s t) (not (starts_frame board s a)) false (not (is_held board s a)) false
+        (leaves_frame board s r) (leaves_region board s t))
         ∙ ap (earlier (frame_refusal board s r)) (sym (of_place (outside board s t) (leaves_region board s t)))
 
     -- a place
-    pub one_place : (a off len : ℕ) → first_met (sheet board s (ranges_named [] (part a off len))) ≡ place_refusal board s (range_of a off len)
+    pub one_place : (a off len : ℕ) → first_met (sheet board s (ranges_named [] (part a off len)))
+        ≡ place_refusal board s (range_of a off len)
     unfolding any
     one_place a off len =
         let t = range_of a off len in
@@ -201,7 +207,8 @@ module _ (board : Board) where
         go false = refl
 
     -- a held frame that goes into the queue
-    pub queue_refused : (a : ℕ) → first_met (sheet board s (names (Queue a))) ≡ earlier (frame_refusal board s (range_of a 0 0)) (cond (leb s.kept.room (length s.queue)) (some QueueFull) none)
+    pub queue_refused : (a : ℕ) → first_met (sheet board s (names (Queue a)))
+        ≡ earlier (frame_refusal board s (range_of a 0 0)) (cond (leb s.kept.room (length s.queue)) (some QueueFull) none)
     unfolding first_met place_in sheet any
     queue_refused a =
         let r = range_of a 0 0 in
@@ -213,11 +220,14 @@ module _ (board : Board) where
           or-false (leaves_frame board s r),
           or-false (leb s.kept.room (length s.queue)),
         )
-        (go (outside board s r) (not (starts_frame board s a)) (not (is_held board s a)) (leaves_frame board s r) (leb s.kept.room (length s.queue)))
+        (go (outside board s r) (not (starts_frame board s a)) (not (is_held board s a)) (leaves_frame board s r)
+        (leb s.kept.room (length s.queue)))
       where
         go : (a b c d f : Bool)
-            → or_later (Outside when a) (or_later (NoFrameStart when b) (or_later (NotHeld when c) (or_later (PastTheEnd when d) (or_later (QueueFull when f) none))))
-            ≡ earlier (or_later (Outside when a) (or_later (NoFrameStart when b) (or_later (NotHeld when c) (or_later (PastTheEnd when d) none))))
+            → or_later (Outside when a) (or_later (NoFrameStart when b)
+            (or_later (NotHeld when c) (or_later (PastTheEnd when d) (or_later (QueueFull when f) none))))
+            ≡ earlier (or_later (Outside when a) (or_later (NoFrameStart when b)
+            (or_later (NotHeld when c) (or_later (PastTheEnd when d) none))))
             (cond f (some QueueFull) none)
         go true b c d true = refl
         go true b c d false = refl
@@ -247,7 +257,8 @@ module _ (board : Board) where
         (go (bad_layout y) (no_level board y) (wants board s y) y.flags.wait_ok)
       where
         go : (a b c d : Bool)
-            → or_later (BadLayout when a) (or_later (NoLevel when b) (or_later (NoFrame when (c && not d)) (or_later (MustWait when (c && d)) none)))
+            → or_later (BadLayout when a) (or_later (NoLevel when b)
+            (or_later (NoFrame when (c && not d)) (or_later (MustWait when (c && d)) none)))
             ≡ cond a (some BadLayout) (cond b (some NoLevel) (cond c (some (cond d MustWait NoFrame)) none))
         go true b c d = refl
         go false true c d = refl

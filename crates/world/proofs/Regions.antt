@@ -1,5 +1,5 @@
--- A row whose four clauses of the torn sheet hold has a sound and whole region: its records stand for the frames and lists that they say, the frames
--- tile it, and each free one is listed. So what the audit tests of a row is all that `region`'s calls ask of it.
+-- A row whose four clauses of the torn sheet hold has a sound and whole region: its records stand for the frames and lists that they say,
+-- the frames tile it, and each free one is listed. So what the audit tests of a row is all that `region`'s calls ask of it.
 use Prim.Native.Nat.{ℕ, zero, suc, ◌+◌, ◌-◌, ◌/◌, ◌%◌, ◌≤◌, ◌<◌, ◌^◌}
 use mathlib.Core.Bool.{Bool, true, ◌&&◌}
 use mathlib.Core.List.{List, []}
@@ -148,7 +148,8 @@ module _ {board : Board} where
     linked {n} fits k h = walk_linked f base end k (links k) (walk_at k h) n fits
 
     -- the records and the row stand for the frames and lists that they say
-    pub row_sound : {n : ℕ} → length row.lists ≡ 6 → base + managed board row.pages < 2 ^ 32 → base + managed board row.pages ≤ n → SoundRow board f n base row
+    pub row_sound : {n : ℕ} → length row.lists ≡ 6 → base + managed board row.pages < 2 ^ 32 → base + managed board row.pages ≤ n
+        → SoundRow board f n base row
     unfolding state_of
     row_sound six small fits =
         record {

@@ -1,5 +1,5 @@
--- The store that `decode` reads out of a sound world: the world stands for it (`decode_stands`), and writing it back gives the world again, every byte of
--- it (`round_trip`). So a call that leaves the store as it was leaves the world as it was. Its table is sane (`sound_sane`).
+-- The store that `decode` reads out of a sound world: the world stands for it (`decode_stands`), and writing it back gives the world again,
+-- every byte of it (`round_trip`). So a call that leaves the store as it was leaves the world as it was. Its table is sane (`sound_sane`).
 use Prim.Native.Nat.{ℕ, ◌+◌, ◌-◌, ◌*◌, ◌≤◌, ◌<◌}
 use mathlib.Core.Bool.{false}
 use mathlib.Core.List.{List, [], ◌∷◌}
@@ -42,7 +42,8 @@ module _ {board : Board} where
   module _ {f : ℕ → Record} {n : ℕ} {fs : Frames} where
     rows_stand
         : {base : ℕ} {rows : List Row} → GoodRows board f n base rows → overlap board (decode_rows board f base rows) ≡ false
-        → EachPage board (Framed f fs) base (decode_rows board f base rows) → StandRows board f n fs base rows (decode_rows board f base rows)
+        → EachPage board (Framed f fs) base (decode_rows board f base rows)
+        → StandRows board f n fs base rows (decode_rows board f base rows)
     unfolding decode_rows managed from_of state_of
     rows_stand good_none e each = stand_none
     rows_stand (good_more {base = base} {row = row} {rows = rows} G rest) e each =
@@ -88,7 +89,8 @@ module _ (board : Board) where
     same_overlap base [] = refl
     same_overlap base (row ∷ rows) = rw (same_shares (bare_region board row) (next base row) rows, same_overlap (next base row) rows)
 
-    same_managed : (base : ℕ) (rows : List Row) → managed_pages board (decode_rows board f base rows) ≡ managed_pages board (bare_regions board rows)
+    same_managed : (base : ℕ) (rows : List Row) → managed_pages board (decode_rows board f base rows)
+        ≡ managed_pages board (bare_regions board rows)
     unfolding sum decode_rows bare_regions
     same_managed base [] = refl
     same_managed base (row ∷ rows) = rw (same_managed (next base row) rows)

@@ -1,5 +1,6 @@
--- The rows of a sound world: each row in use is such as boot makes, and its region is sound and whole (`sound_rows`); that frames tile the region is in
--- `WholeRow`. A reader takes from here that no page is on two lists (`lists_apart`) and no page frame in two regions (`rows_apart`).
+-- The rows of a sound world: each row in use is such as boot makes, and its region is sound and whole (`sound_rows`); that frames tile the
+-- region is in `WholeRow`. A reader takes from here that no page is on two lists (`lists_apart`) and no page frame in two regions
+-- (`rows_apart`).
 use Prim.Native.Nat.{ℕ, zero, suc, ◌+◌, ◌*◌, ◌/◌, ◌%◌, ◌≤◌, ◌<◌, ◌^◌}
 use mathlib.Core.Bool.{Bool, true, false, not, cond, ◌||◌, false≢true}
 use mathlib.Core.List.{List, [], ◌∷◌}
@@ -18,7 +19,8 @@ use Rattle.definition.specs.Frame.{Levels}
 use Rattle.definition.specs.Allocator.{AllocationRegion, table_pages, total}
 use Rattle.definition.specs.Boot.{highest_address, managed_pages, most_pages, most_rows, overlap, record_size, shares}
 use Rattle.definition.specs.World.{World, bare_region, record_at, used_rows}
-use Rattle.definition.specs.Torn.{Records, Sound, bare_regions, is_no_row, loans_long, placed, placed_from, records_of, regions_of, row_as_boot, rows_as_boot, six_lists}
+use Rattle.definition.specs.Torn.{Records, Sound, bare_regions, is_no_row, loans_long, placed, placed_from, records_of, regions_of}
+use Rattle.definition.specs.Torn.{row_as_boot, rows_as_boot, six_lists}
 use Rattle.definition.proofs.Tests.{and_left, and_right, and-true}
 use Rattle.record.specs.Records.{pages_in}
 use Rattle.list.specs.Linked.{Apart}
@@ -93,11 +95,13 @@ good_few {board} fit {row = row} G =
 module _ {board : Board} where
   module _ (f : Records) (n : ℕ) where
     -- a page edge, more pages than the tables take, an end by 2^40
-    good_row : {base : ℕ} {row : Row} → row_as_boot board row ≡ true → SoundRow board f n base row → WholeRow board f base row → Good board f n base row
+    good_row : {base : ℕ} {row : Row} → row_as_boot board row ≡ true → SoundRow board f n base row → WholeRow board f base row
+        → Good board f n base row
     good_row {row = row} t sound whole =
         let a = and_right (eqb (row.start.0 % board.page) 0) _ t in
         let b = and_right (ltb 1 row.pages) _ a in
-        let c = leb-true (row.start.0 + board.page * row.pages) highest_address (and_right (ltb (table_pages board row.pages) row.pages) _ b) in
+        let c = leb-true (row.start.0 + board.page * row.pages) highest_address
+        (and_right (ltb (table_pages board row.pages) row.pages) _ b) in
         record {
           aligned = eqb-true (row.start.0 % board.page) 0 (and_left _ _ t);
           bounded = omega (arith, address_is board.page row.start.0);
@@ -116,7 +120,8 @@ module _ {board : Board} where
     good_from base (row ∷ rows) six boot whole small fits =
         let S = row_sheet (and_left _ _ whole) in
         good_more
-        (good_row (and_left _ _ boot) (row_sound S (eqb-true (length row.lists) 6 (and_left _ _ six)) (omega arith) (omega arith)) (row_whole S))
+        (good_row (and_left _ _ boot) (row_sound S (eqb-true (length row.lists) 6 (and_left _ _ six)) (omega arith) (omega arith))
+        (row_whole S))
         (good_from (base + managed board row.pages) rows (and_right (six_lists row) _ six) (and_right (row_as_boot board row) _ boot)
         (and_right (whole_row board f (placed_at base row)) _ whole) (omega arith) (omega arith))
 
@@ -158,7 +163,8 @@ module _ {board : Board} where
 module _ (board : Board) where
   -- the pages of a row come before those of a later one
   module _ (d : Row) where
-    pub base_rises : (base : ℕ) (rows : List Row) (i j : ℕ) → i < j → i < length rows → base_at board base rows i + managed board (get_or rows i d).pages ≤ base_at board base rows j
+    pub base_rises : (base : ℕ) (rows : List Row) (i j : ℕ) → i < j → i < length rows
+        → base_at board base rows i + managed board (get_or rows i d).pages ≤ base_at board base rows j
     unfolding base_at
     base_rises base [] i j h l = absurd (omega arith)
     base_rises base (row ∷ rows) i zero h l = absurd (omega arith)
@@ -168,7 +174,8 @@ module _ (board : Board) where
 -- ---- no page is on two lists
 
 module _ {board : Board} where
-  across : {f : ℕ → Record} {n a b : ℕ} {r t : Row} {s u : Levels} → Rep board f n a r s → Rep board f n b t u → a + managed board r.pages ≤ b
+  across : {f : ℕ → Record} {n a b : ℕ} {r t : Row} {s u : Levels} → Rep board f n a r s → Rep board f n b t u
+      → a + managed board r.pages ≤ b
       → (k l : ℕ) → Apart (s.free k) (u.free l)
   across R Q h k l = all_map (λ x p. all_map (λ y q e. omega (arith, p.inside.high, q.inside.low)) (Q.listed l)) (R.listed k)
 
@@ -206,7 +213,8 @@ module _ {board : Board} where
       let v : y < x + r.pages = omega (arith, b.low, a.high) in
       false≢true (sym e ∙ and-true (lt-ltb x (y + t.pages) u) (lt-ltb y (x + r.pages) v))
 
-  beside : (r : Row) (rows : List Row) → any (shares board (bare_region board r)) (bare_regions board rows) ≡ false → Each (λ (t : Row). Parted board r t) rows
+  beside : (r : Row) (rows : List Row) → any (shares board (bare_region board r)) (bare_regions board rows) ≡ false
+      → Each (λ (t : Row). Parted board r t) rows
   unfolding any bare_regions
   beside r [] e = each_none
   beside r (t ∷ ts) e =
@@ -224,7 +232,8 @@ module _ {board : Board} where
   rows_apart w s = disjoint (used_rows w.rows) (as_boot_lem w.rows s.rows).apart
 
   -- two of the rows by their numbers
-  pub disjoint_at : {rows : List Row} → Disjoint board rows → (d : Row) (i j : ℕ) → i < j → j < length rows → Parted board (get_or rows i d) (get_or rows j d)
+  pub disjoint_at : {rows : List Row} → Disjoint board rows → (d : Row) (i j : ℕ) → i < j → j < length rows
+      → Parted board (get_or rows i d) (get_or rows j d)
   disjoint_at disjoint_none d i j h l = absurd (omega arith)
   disjoint_at (disjoint_more a rest) d i zero h l = absurd (omega arith)
   disjoint_at (disjoint_more a rest) d zero (suc j) h l = each_at d a j (omega arith)

@@ -1,5 +1,5 @@
--- From page frame numbers back to page numbers, in one region. Where a row stands for a region of a store, `encode_row` writes that very row, and `record_of` the
--- very record of each of its pages.
+-- From page frame numbers back to page numbers, in one region. Where a row stands for a region of a store, `encode_row` writes that very
+-- row, and `record_of` the very record of each of its pages.
 use Prim.Native.Nat.{ℕ, ◌+◌, ◌≤◌, ◌<◌}
 use mathlib.Core.List.{List, map}
 use mathlib.Core.Path.{◌≡◌, refl, sym, ap, ◌∙◌}

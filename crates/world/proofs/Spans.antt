@@ -1,5 +1,6 @@
--- What is said of regions by their starts and pages alone, whatever their lists. `OfSpans F` says it of F, and a reader takes from here that such an F has the
--- same value for the regions of a table and of what a call turns it into (`spans_turned`), and for the regions of its rows (`spans_bare`).
+-- What is said of regions by their starts and pages alone, whatever their lists. `OfSpans F` says it of F, and a reader takes from here
+-- that such an F has the same value for the regions of a table and of what a call turns it into (`spans_turned`), and for the regions of
+-- its rows (`spans_bare`).
 use Prim.Native.Nat.{ℕ, ◌+◌}
 use mathlib.Core.Bool.{Bool}
 use mathlib.Core.List.{List, [], ◌∷◌, map}
@@ -82,14 +83,16 @@ module _ (board : Board) where
 
 module _ {board : Board} where
   pub stand_bare
-      : {f : ℕ → Record} {n : ℕ} {fs : Frames} {base : ℕ} {rows : List Row} {rs : List AllocationRegion} → StandRows board f n fs base rows rs
+      : {f : ℕ → Record} {n : ℕ} {fs : Frames} {base : ℕ} {rows : List Row} {rs : List AllocationRegion}
+      → StandRows board f n fs base rows rs
       → bared rs ≡ bare_regions board rows
   unfolding bare_regions
   stand_bare stand_none = refl
   stand_bare (stand_more S rest) = rw (S.start, S.pages, stand_bare rest)
 
   pub turned_bare
-      : {f g : ℕ → Record} {n : ℕ} {rows rows2 : List Row} {a a2 : PhysicalFrameAllocator} → Table board f n rows a → Turned board f rows g n rows2 a2
+      : {f g : ℕ → Record} {n : ℕ} {rows rows2 : List Row} {a a2 : PhysicalFrameAllocator} → Table board f n rows a
+      → Turned board f rows g n rows2 a2
       → bared a2.regions ≡ bared a.regions
   turned_bare T U = stand_bare U.table.stands ∙ U.spans ∙ sym (stand_bare T.stands)
 
@@ -100,12 +103,14 @@ module _ {A : Type 0} {F : List AllocationRegion → A} (S : OfSpans F) where
 module _ {board : Board} where
   module _ {A : Type 0} {F : List AllocationRegion → A} (S : OfSpans F) where
     pub spans_bare
-        : {f : ℕ → Record} {n : ℕ} {fs : Frames} {base : ℕ} {rows : List Row} {rs : List AllocationRegion} → StandRows board f n fs base rows rs
+        : {f : ℕ → Record} {n : ℕ} {fs : Frames} {base : ℕ} {rows : List Row} {rs : List AllocationRegion}
+        → StandRows board f n fs base rows rs
         → F rs ≡ F (bare_regions board rows)
     spans_bare {rs = rs} T = sym (S.same rs) ∙ ap F (stand_bare T)
 
     pub spans_turned
-        : {f g : ℕ → Record} {n : ℕ} {rows rows2 : List Row} {a a2 : PhysicalFrameAllocator} → Table board f n rows a → Turned board f rows g n rows2 a2
+        : {f g : ℕ → Record} {n : ℕ} {rows rows2 : List Row} {a a2 : PhysicalFrameAllocator} → Table board f n rows a
+        → Turned board f rows g n rows2 a2
         → F a2.regions ≡ F a.regions
     spans_turned {a = a} {a2 = a2} T U = spans_same S a.regions a2.regions (turned_bare T U)
 
@@ -114,7 +119,8 @@ module _ {board : Board} where
 module _ {board : Board} where
   -- what is known of the rows holds of the regions that they stand for
   pub runs_bare
-      : {f : ℕ → Record} {n : ℕ} {fs : Frames} {base : ℕ} {rows : List Row} {rs : List AllocationRegion} → StandRows board f n fs base rows rs
+      : {f : ℕ → Record} {n : ℕ} {fs : Frames} {base : ℕ} {rows : List Row} {rs : List AllocationRegion}
+      → StandRows board f n fs base rows rs
       → {p q k : ℕ} → Runs board (bare_regions board rows) p q k → Runs board rs p q k
   runs_bare T {p} R = record { some_page = R.some_page; each = λ i h. spans_bare (number_spans board 0 (p + i)) T ∙ R.each i h }
 

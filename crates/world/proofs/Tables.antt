@@ -1,5 +1,5 @@
--- A call on one region turns a table into another: `table_set`. What the definition's allocator does with the same region is then what the new table stands
--- for, as its regions but that one are as they were.
+-- A call on one region turns a table into another: `table_set`. What the definition's allocator does with the same region is then what the
+-- new table stands for, as its regions but that one are as they were.
 use Prim.Native.Nat.{ℕ, zero, suc, ◌+◌, ◌≤◌, ◌<◌}
 use mathlib.Core.Bool.{Bool, true, false, cond}
 use mathlib.Core.List.{List, [], ◌∷◌}
@@ -30,18 +30,21 @@ unfolding used_rows
 used_row [] i h = refl
 used_row (row ∷ rows) i h = go (eqb row.pages 0) i h (used_row rows)
   where
-    go : (b : Bool) (i : ℕ) → i < length (cond b [] (row ∷ used_rows rows)) → ((j : ℕ) → j < length (used_rows rows) → row_at (used_rows rows) j ≡ row_at rows j)
+    go : (b : Bool) (i : ℕ) → i < length (cond b [] (row ∷ used_rows rows))
+        → ((j : ℕ) → j < length (used_rows rows) → row_at (used_rows rows) j ≡ row_at rows j)
         → row_at (cond b [] (row ∷ used_rows rows)) i ≡ row_at (row ∷ rows) i
     go true i h ih = absurd (omega arith)
     go false zero h ih = refl
     go false (suc j) h ih = ih j (omega arith)
 
-pub used_set : (rows : List Row) (i : ℕ) (r : Row) → i < length (used_rows rows) → r.pages ≡ (row_at rows i).pages → used_rows (set rows i r) ≡ set (used_rows rows) i r
+pub used_set : (rows : List Row) (i : ℕ) (r : Row) → i < length (used_rows rows) → r.pages ≡ (row_at rows i).pages
+    → used_rows (set rows i r) ≡ set (used_rows rows) i r
 unfolding used_rows
 used_set [] i r h e = absurd (omega arith)
 used_set (row ∷ rows) zero r h e = go (eqb row.pages 0) refl h
   where
-    go : (b : Bool) → eqb row.pages 0 ≡ b → zero < length (cond b [] (row ∷ used_rows rows)) → cond (eqb r.pages 0) [] (r ∷ used_rows rows) ≡ set (cond b [] (row ∷ used_rows rows)) zero r
+    go : (b : Bool) → eqb row.pages 0 ≡ b → zero < length (cond b [] (row ∷ used_rows rows))
+        → cond (eqb r.pages 0) [] (r ∷ used_rows rows) ≡ set (cond b [] (row ∷ used_rows rows)) zero r
     go true k h = absurd (omega arith)
     go false k h = rw (e, k) refl
 used_set (row ∷ rows) (suc i) r h e = go (eqb row.pages 0) h (used_set rows i r)
@@ -62,7 +65,8 @@ drop_set (suc n) (suc i) (row ∷ rows) r h = drop_set n i rows r (omega arith)
 
 module _ (board : Board) where
   module _ (r : Row) where
-    bare_set : (rows : List Row) (i : ℕ) → r.start ≡ (row_at rows i).start → r.pages ≡ (row_at rows i).pages → bare_regions board (set rows i r) ≡ bare_regions board rows
+    bare_set : (rows : List Row) (i : ℕ) → r.start ≡ (row_at rows i).start → r.pages ≡ (row_at rows i).pages
+        → bare_regions board (set rows i r) ≡ bare_regions board rows
     unfolding bare_regions
     bare_set [] i a b = refl
     bare_set (row ∷ rows) zero a b = rw (a, b) refl
@@ -73,14 +77,16 @@ module _ (board : Board) where
     from_row row a b = rw (a, b) refl
 
 module _ (r : Row) where
-  each_set : {P : Row → Type 0} {rows : List Row} (i : ℕ) → Each P rows → (i < length rows → P (row_at rows i) → P r) → Each P (set rows i r)
+  each_set : {P : Row → Type 0} {rows : List Row} (i : ℕ) → Each P rows → (i < length rows → P (row_at rows i) → P r)
+      → Each P (set rows i r)
   each_set i each_none h = each_none
   each_set zero (each_more p ps) h = each_more (h (omega arith) p) ps
   each_set (suc i) (each_more p ps) h = each_more p (each_set i ps (λ k. h (omega arith)))
 
 module _ {board : Board} where
   module _ (r : Row) where
-    disjoint_set : {rows : List Row} (i : ℕ) → Disjoint board rows → r.start ≡ (row_at rows i).start → r.pages ≡ (row_at rows i).pages → Disjoint board (set rows i r)
+    disjoint_set : {rows : List Row} (i : ℕ) → Disjoint board rows → r.start ≡ (row_at rows i).start → r.pages ≡ (row_at rows i).pages
+        → Disjoint board (set rows i r)
     disjoint_set i disjoint_none a b = disjoint_none
     disjoint_set zero (disjoint_more {row = row} {rows = rows} p ps) a b = disjoint_more (parted p) ps
       where
@@ -93,7 +99,8 @@ module _ {board : Board} where
 -- ---- the managed pages
 
 module _ (board : Board) where
-  ends_by : (base : ℕ) (rows : List Row) (i : ℕ) → i < length rows → base_at board base rows i + managed board (row_at rows i).pages ≤ base + managed_pages board (bare_regions board rows)
+  ends_by : (base : ℕ) (rows : List Row) (i : ℕ) → i < length rows
+      → base_at board base rows i + managed board (row_at rows i).pages ≤ base + managed_pages board (bare_regions board rows)
   unfolding base_at bare_regions sum managed
   ends_by base [] i h = absurd (omega arith)
   ends_by base (row ∷ rows) zero h = omega arith
@@ -103,10 +110,13 @@ module _ (board : Board) where
 
 module _ {board : Board} where
   module _
-      {f g : ℕ → Record} {n : ℕ} {rows : List Row} {a : PhysicalFrameAllocator} {r : Row} {u t2 : Levels} (T : Table board f n rows a) (i : ℕ)
+      {f g : ℕ → Record} {n : ℕ} {rows : List Row} {a : PhysicalFrameAllocator} {r : Row} {u t2 : Levels} (T : Table board f n rows a)
+      (i : ℕ)
       (h : i < length (used_rows rows))
-      (B : Becomes board f (base_at board 0 (used_rows rows) i) (row_at rows i) g n r u) (W : WholeRow board g (base_at board 0 (used_rows rows) i) r)
-      (C : Carried board (from_of board (row_at rows i)) (base_at board 0 (used_rows rows) i) (row_at rows i).pages (levels_of a.frames (region_at a.regions i)) u t2)
+      (B : Becomes board f (base_at board 0 (used_rows rows) i) (row_at rows i) g n r u)
+      (W : WholeRow board g (base_at board 0 (used_rows rows) i) r)
+      (C : Carried board (from_of board (row_at rows i)) (base_at board 0 (used_rows rows) i) (row_at rows i).pages
+      (levels_of a.frames (region_at a.regions i)) u t2)
     where
       e : row_at (used_rows rows) i ≡ row_at rows i
       e = used_row rows i h
@@ -114,7 +124,8 @@ module _ {board : Board} where
       became : Becomes board f (base_at board 0 (used_rows rows) i) (row_at (used_rows rows) i) g n r u
       became = rw e B
 
-      carried : Carried board (from_of board (row_at (used_rows rows) i)) (base_at board 0 (used_rows rows) i) (row_at (used_rows rows) i).pages (levels_of a.frames (region_at a.regions i)) u t2
+      carried : Carried board (from_of board (row_at (used_rows rows) i)) (base_at board 0 (used_rows rows) i)
+          (row_at (used_rows rows) i).pages (levels_of a.frames (region_at a.regions i)) u t2
       carried = rw e C
 
       started : r.start ≡ (row_at (used_rows rows) i).start
@@ -140,10 +151,15 @@ module _ {board : Board} where
           }
 
       pub table_set
-          : Turned board f rows g n (set rows i r) (record { frames = t2.frames; regions = set a.regions i (with_free (region_at a.regions i) t2.free) })
+          : Turned board f rows g n (set rows i r)
+          (record { frames = t2.frames; regions = set a.regions i (with_free (region_at a.regions i) t2.free) })
       table_set =
           record {
-            table = record { sane = sane; stands = rw used (stands_set i 0 (used_rows rows) a.regions h T.sane.apart T.stands became carried) };
+            table = record {
+              sane = sane;
+              stands = rw used
+                  (stands_set i 0 (used_rows rows) a.regions h T.sane.apart T.stands became carried);
+            };
             spans = spans;
             outside = λ q k. B.outside q (λ j. absurd (omega (arith, j.high, rw e at (ends_by board 0 (used_rows rows) i h))));
           }

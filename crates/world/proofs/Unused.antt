@@ -21,7 +21,8 @@ module _ {A : Type 0} (t u : A → Bool) (v : A) (is : (x : A) → t x ≡ true 
   unfolding all
   all_same [] e h = refl
   all_same (x ∷ xs) e h =
-      ap₂ (λ (y : A) (ys : List A). y ∷ ys) (is x (and_left _ _ e) (and_left _ _ h)) (all_same xs (and_right (t x) _ e) (and_right (u x) _ h))
+      ap₂ (λ (y : A) (ys : List A). y ∷ ys) (is x (and_left _ _ e) (and_left _ _ h))
+      (all_same xs (and_right (t x) _ e) (and_right (u x) _ h))
 
 all_drop : {A : Type 0} (t : A → Bool) (n : ℕ) (xs : List A) → all t xs ≡ true → all t (drop n xs) ≡ true
 unfolding all
@@ -34,7 +35,8 @@ no_links_lem l e =
     let h = and_right (eqb l.front 0) _ e in
     same (eqb-true _ _ (and_left _ _ e)) (eqb-true _ _ (and_left _ _ h)) (eqb-true _ _ (and_right (eqb l.back 0) _ h))
   where
-    same : {a b c d e f : ℕ} → a ≡ b → c ≡ d → e ≡ f → ◌≡◌ {A = Links} (record { front = a; back = c; count = e }) (record { front = b; back = d; count = f })
+    same : {a b c d e f : ℕ} → a ≡ b → c ≡ d → e ≡ f
+        → ◌≡◌ {A = Links} (record { front = a; back = c; count = e }) (record { front = b; back = d; count = f })
     same p q r = cc
 
 no_row_lem : (row : Row) → six_lists row ≡ true → is_no_row row ≡ true → row ≡ no_row

@@ -1,5 +1,6 @@
--- A store's memory and the lent bytes change together. Where the managed bytes of a memory are the front of the loan, they are so still after a write, a fill or
--- a move in the one and the same bytes put into the other: `memory_written`, `memory_filled` and `memory_moved`, for any range that `Lies` in the regions.
+-- A store's memory and the lent bytes change together. Where the managed bytes of a memory are the front of the loan, they are so still
+-- after a write, a fill or a move in the one and the same bytes put into the other: `memory_written`, `memory_filled` and `memory_moved`,
+-- for any range that `Lies` in the regions.
 use Prim.Native.Nat.{ℕ, zero, suc, ◌+◌, ◌-◌, ◌*◌, ◌/◌, ◌%◌, ◌≤◌, ◌<◌}
 use mathlib.Core.Bool.{Bool, true, false, cond}
 use mathlib.Core.List.{List, [], ◌∷◌, ◌++◌}
@@ -63,14 +64,16 @@ module _ (m : Memory) (a len : ℕ) where
 
   pub moved_written : (from : ℕ) → moved a from len m ≡ written a (bytes_at m from len) m
   unfolding moved
-  moved_written from = written_by (λ k. m (from + k)) (bytes_at m from len) (bytes_length m from len) (λ k h. sym (bytes_at_lem m from len k h))
+  moved_written from = written_by (λ k. m (from + k)) (bytes_at m from len) (bytes_length m from len)
+      (λ k h. sym (bytes_at_lem m from len k h))
 
 -- what stands behind the bytes that were put in
 pub drop_with : (bs : List ℕ) (at n : ℕ) (xs : List ℕ) → at + length xs ≤ n → n ≤ length bs → drop n (with_bytes bs at xs) ≡ drop n bs
 drop_with bs at n xs h l =
     ext_get_or 0 (drop n (with_bytes bs at xs)) (drop n bs)
     (rw (length-drop n (with_bytes bs at xs), length-drop n bs, with_length bs at xs (omega arith)))
-    (λ i k. get_or-drop n (with_bytes bs at xs) i 0 ∙ with_out bs at xs (omega arith) (n + i) (λ u v. omega arith) ∙ sym (get_or-drop n bs i 0))
+    (λ i k. get_or-drop n (with_bytes bs at xs) i 0 ∙ with_out bs at xs (omega arith) (n + i) (λ u v. omega arith)
+    ∙ sym (get_or-drop n bs i 0))
 
 module _ (board : Board) where
   -- ---- the memory's pages hold the loan's bytes
@@ -109,7 +112,8 @@ module _ (board : Board) where
       long = bytes_length m (board.page * first board r) size
 
       go : FirstOrRest board base r rs p q
-          → (number_in board (base + managed board r) rs p ≡ some q → i < board.page → get_or rest (board.page * (q - (base + managed board r)) + i) 0 ≡ m (board.page * p + i))
+          → (number_in board (base + managed board r) rs p ≡ some q → i < board.page
+          → get_or rest (board.page * (q - (base + managed board r)) + i) 0 ≡ m (board.page * p + i))
           → get_or (front ++ rest) (board.page * (q - base) + i) 0 ≡ m (board.page * p + i)
       go (in_first a b e) ih =
           let inside : board.page * (q - base) + i < size = byte_inside P (q - base) (managed board r) i (omega arith) s in
@@ -133,13 +137,15 @@ module _ (board : Board) where
         ∙ get_or-take (managed_bytes board rs) bs (board.page * q + i) 0 (byte_inside P q (managed_pages board rs) i below s)
 
     -- and back
-    pub holds_memory : managed_bytes board rs ≤ length bs → overlap board rs ≡ false → EachPage board (Holds board bs m) 0 rs → Fronts rs m bs
+    pub holds_memory : managed_bytes board rs ≤ length bs → overlap board rs ≡ false → EachPage board (Holds board bs m) 0 rs
+        → Fronts rs m bs
     holds_memory fits e each = memory_front board bs m rs fits e each
 
   -- ---- a range
 
   module _
-      {rs : List AllocationRegion} {a b len : ℕ} (L : Lies board rs a b len) (m : Memory) (bs : List ℕ) (fits : managed_bytes board rs ≤ length bs)
+      {rs : List AllocationRegion} {a b len : ℕ} (L : Lies board rs a b len) (m : Memory) (bs : List ℕ)
+      (fits : managed_bytes board rs ≤ length bs)
     where
       pub read_holds : EachPage board (Holds board bs m) 0 rs → bytes_at m a len ≡ take len (drop b bs)
       unfolding part
@@ -150,15 +156,18 @@ module _ (board : Board) where
           let i = (a + j) % board.page in
           let x : board.page * p + i ≡ a + j = address_is P (a + j) in
           let y : board.page * q + i ≡ b + j = omega (arith, address_is P (b + j), offsets_on P a b j L.edge) in
-          rw (x, y) at (each p q (L.number j h) i (offset_small P (some_byte P {x = b + j} (managed_pages board rs) (omega (arith, L.ends))) (a + j))))
+          rw (x, y) at (each p q (L.number j h) i (offset_small P (some_byte P {x = b + j} (managed_pages board rs) (omega (arith, L.ends)))
+          (a + j))))
 
       pub memory_read : Fronts rs m bs → bytes_at m a len ≡ take len (drop b bs)
       memory_read same = read_holds (holds_of rs m bs same)
 
   module _
-      {rs : List AllocationRegion} {a b len : ℕ} (L : Lies board rs a b len) (m : Memory) (bs : List ℕ) (fits : managed_bytes board rs ≤ length bs)
+      {rs : List AllocationRegion} {a b len : ℕ} (L : Lies board rs a b len) (m : Memory) (bs : List ℕ)
+      (fits : managed_bytes board rs ≤ length bs)
     where
-      pub write_holds : (xs : List ℕ) → length xs ≡ len → EachPage board (Holds board bs m) 0 rs → EachPage board (Holds board (with_bytes bs b xs) (written a xs m)) 0 rs
+      pub write_holds : (xs : List ℕ) → length xs ≡ len → EachPage board (Holds board bs m) 0 rs
+          → EachPage board (Holds board (with_bytes bs b xs) (written a xs m)) 0 rs
       unfolding written
       write_holds xs e each p q h i s = rw e (go (dec_le a x) (dec_lt x (a + len)))
         where
@@ -185,7 +194,8 @@ module _ (board : Board) where
           go (yes l) (no u) = rw (le-leb a x l, le-ltb x (a + len) (omega arith)) (out (λ v w. u w))
           go (no l) d = rw (lt-leb a x (omega arith)) (out (λ v w. l v))
 
-      pub fill_holds : (v : ℕ) → EachPage board (Holds board bs m) 0 rs → EachPage board (Holds board (with_bytes bs b (replicate len v)) (filled a len v m)) 0 rs
+      pub fill_holds : (v : ℕ) → EachPage board (Holds board bs m) 0 rs
+          → EachPage board (Holds board (with_bytes bs b (replicate len v)) (filled a len v m)) 0 rs
       fill_holds v each =
           rw (filled_written m a len v) (write_holds (replicate len v) (length-replicate len v) each)
 
@@ -199,7 +209,8 @@ module _ (board : Board) where
   -- ---- the managed bytes
 
   module _
-      {rs : List AllocationRegion} {a b len : ℕ} (L : Lies board rs a b len) (m : Memory) (bs : List ℕ) (fits : managed_bytes board rs ≤ length bs)
+      {rs : List AllocationRegion} {a b len : ℕ} (L : Lies board rs a b len) (m : Memory) (bs : List ℕ)
+      (fits : managed_bytes board rs ≤ length bs)
       (apart : overlap board rs ≡ false) (same : Fronts rs m bs)
     where
       pub memory_written : (xs : List ℕ) → length xs ≡ len → Rewritten rs bs (written a xs m) (with_bytes bs b xs)
@@ -207,7 +218,8 @@ module _ (board : Board) where
           let ends : b + length xs ≤ length bs = omega (arith, L.ends) in
           let as_long : length (with_bytes bs b xs) ≡ length bs = with_length bs b xs ends in
           record {
-            memory = holds_memory rs (written a xs m) (with_bytes bs b xs) (omega arith) apart (write_holds L m bs fits xs e (holds_of rs m bs same));
+            memory = holds_memory rs (written a xs m) (with_bytes bs b xs) (omega arith) apart
+                (write_holds L m bs fits xs e (holds_of rs m bs same));
             as_long = as_long;
             beyond = drop_with bs b (managed_bytes board rs) xs (omega (arith, L.ends)) fits;
           }
@@ -215,6 +227,7 @@ module _ (board : Board) where
       pub memory_filled : (v : ℕ) → Rewritten rs bs (filled a len v m) (with_bytes bs b (replicate len v))
       memory_filled v = rw (filled_written m a len v) (memory_written (replicate len v) (length-replicate len v))
 
-      pub memory_moved : {from source : ℕ} → Lies board rs from source len → Rewritten rs bs (moved a from len m) (with_bytes bs b (take len (drop source bs)))
+      pub memory_moved : {from source : ℕ} → Lies board rs from source len
+          → Rewritten rs bs (moved a from len m) (with_bytes bs b (take len (drop source bs)))
       memory_moved {from} {source} S =
           rw (moved_written m a len from, ← memory_read S m bs fits same) (memory_written (bytes_at m from len) (bytes_length m from len))

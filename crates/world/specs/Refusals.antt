@@ -1,5 +1,5 @@
--- Which refusal a call meets on a store, if any. A frame that a call names, with a range of it, and a place that it names, each have their own lines of the sheet; a
--- call that names two gives the refusal of theirs that is tried first.
+-- Which refusal a call meets on a store, if any. A frame that a call names, with a range of it, and a place that it names, each have their
+-- own lines of the sheet; a call that names two gives the refusal of theirs that is tried first.
 use Rattle.std.specs.Prelude.{ℕ, not, List, [], ◌∷◌}
 use Rattle.std.proofs.Math.Option.{Option, none, some}
 use Rattle.definition.specs.declared.Refusal.{Refusal}

@@ -1,7 +1,8 @@
--- What a world stands for, region by region. A region's records and lists go by page number (`region`), a store's frames and lists by page frame number
--- (`definition`); `Shifted` says that two states are one but for that, and `Stands` that a whole world, every byte of it, is a store's. `GoodRows` and
--- `Disjoint` are what the torn sheet says of the rows in use.
-use Rattle.std.specs.Prelude.{ℕ, zero, suc, ◌+◌, ◌-◌, ◌*◌, ◌/◌, ◌%◌, ◌≤◌, ◌<◌, List, [], ◌∷◌, map, ◌≡◌, get_or, length, take, drop, replicate}
+-- What a world stands for, region by region. A region's records and lists go by page number (`region`), a store's frames and lists by page
+-- frame number (`definition`); `Shifted` says that two states are one but for that, and `Stands` that a whole world, every byte of it, is a
+-- store's. `GoodRows` and `Disjoint` are what the torn sheet says of the rows in use.
+use Rattle.std.specs.Prelude.{ℕ, zero, suc, ◌+◌, ◌-◌, ◌*◌, ◌/◌, ◌%◌, ◌≤◌, ◌<◌, List, [], ◌∷◌, map, ◌≡◌, get_or, length, take, drop}
+use Rattle.std.specs.Prelude.{replicate}
 use Rattle.std.proofs.Math.Option.{Option, none, some}
 use Rattle.definition.specs.declared.Record.{Record}
 use Rattle.definition.specs.declared.Row.{Row}
@@ -68,7 +69,8 @@ module _ (board : Board) where
     stand_none : {base : ℕ} → StandRows f n fs base [] []
     stand_more
         : {base : ℕ} {row : Row} {rows : List Row} {r : AllocationRegion} {rs : List AllocationRegion}
-        → StandsRow f n base row fs r → StandRows f n fs (base + managed board row.pages) rows rs → StandRows f n fs base (row ∷ rows) (r ∷ rs)
+        → StandsRow f n base row fs r → StandRows f n fs (base + managed board row.pages) rows rs
+        → StandRows f n fs base (row ∷ rows) (r ∷ rs)
 
   -- the world w stands for the store s
   pub record Stands (w : World) (s : Store) : Type 0 where

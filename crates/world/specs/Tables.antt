@@ -1,5 +1,6 @@
--- The table of a store: its rows and its records, which stand for the allocator of definition's Allocator. `Sane` is what the audit establishes, `Table` names
--- the allocator, `Turned` says what a call leaves: another table, over the same regions, and every record past the managed pages as it was.
+-- The table of a store: its rows and its records, which stand for the allocator of definition's Allocator. `Sane` is what the audit
+-- establishes, `Table` names the allocator, `Turned` says what a call leaves: another table, over the same regions, and every record past
+-- the managed pages as it was.
 use Rattle.std.specs.Prelude.{ℕ, ◌-◌, ◌≤◌, ◌<◌, List, ◌≡◌, length, drop, replicate}
 use Rattle.definition.specs.declared.Record.{Record}
 use Rattle.definition.specs.declared.Row.{Row}
@@ -23,7 +24,8 @@ module _ (board : Board) where
     pub sane : Sane f n rows
     pub stands : StandRows board f n a.frames 0 (used_rows rows) a.regions
 
-  pub record Turned (f : ℕ → Record) (rows : List Row) (g : ℕ → Record) (n : ℕ) (rows2 : List Row) (a2 : PhysicalFrameAllocator) : Type 0 where
+  pub record Turned (f : ℕ → Record) (rows : List Row) (g : ℕ → Record) (n : ℕ) (rows2 : List Row) (a2 : PhysicalFrameAllocator)
+      : Type 0 where
     pub table : Table g n rows2 a2
     pub spans : regions_of board rows2 ≡ regions_of board rows
     pub outside : (q : ℕ) → managed_pages board (regions_of board rows) ≤ q → g q ≡ f q
