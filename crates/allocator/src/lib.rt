@@ -27,6 +27,7 @@ ghost use Rattle.allocator.specs.Spots.{
 use address::PhysAddr;
 use definition::Row;
 use level::Level;
+use region::AllocationRegion;
 
 // A page of a region: the region's row, the page number of its first managed page, and the page's own.
 #[derive(Clone, Copy)]
@@ -121,7 +122,13 @@ pub fn free(words: &mut [u64], records: &mut [u8], spot: Spot)
     ensures rows_beside { RowsBeside words.old words.new }
 {
     let board = words::board_in(words);
-    region::free(board, records, spot.base, words, spot.index, spot.page);
+    let mut region = AllocationRegion {
+        records,
+        first: spot.base,
+        words,
+        index: spot.index,
+    };
+    region.free(board, spot.page);
 }
 
 // split_frame, frame.rs 753, of a held frame.
@@ -168,7 +175,13 @@ fn pass(
         if pages == 0 {
             return None;
         }
-        let got = region::allocate(board, records, base, words, i, level, try_zero, only_zero);
+        let mut region = AllocationRegion {
+            records,
+            first: base,
+            words,
+            index: i,
+        };
+        let got = region.allocate(board, level, try_zero, only_zero);
         if let Some(page) = got {
             return Some(Spot {
                 index: i,

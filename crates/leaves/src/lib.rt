@@ -15,6 +15,7 @@ ghost use Rattle.leaves.specs.Contents.{inside, turns_if, filled, copied};
 use address::PhysAddr;
 use definition::{Board, Links, Pass, Record, Row};
 use level::Level;
+use region::AllocationRegion;
 
 // Whether a loan of records has one for each of `count` pages, and at most 1,048,576.
 fn fits(records: &[u8], count: usize) -> bool
@@ -171,7 +172,13 @@ fn grant_all(
     ensures { result ≤ times }
 {
     for i in 0..times {
-        if region::allocate(board, records, 0, words, 0, level, false, false).is_none() {
+        let mut region = AllocationRegion {
+            records,
+            first: 0,
+            words,
+            index: 0,
+        };
+        if region.allocate(board, level, false, false).is_none() {
             return i;
         }
     }

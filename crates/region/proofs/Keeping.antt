@@ -15,11 +15,14 @@ use Rattle.definition.specs.World.{level_of, slot_of}
 use Rattle.definition.specs.declared.Record.{Record}
 use Rattle.definition.specs.declared.Row.{Row}
 use Rattle.list.specs.Linked.{In}
+use Rattle.words.specs.Words.{row_of, rows_in}
+use Rattle.region.specs.declared.AllocationRegion.{AllocationRegion}
+use Rattle.region.specs.Lent.{WholeIn}
 use Rattle.region.specs.Rep.{Becomes, Held, Inside, Starts, Tile, Whole, WholeRow, from_of, hold_at, list_up, managed}
 use Rattle.region.proofs.Laws.{rep_state}
 use Rattle.region.proofs.Tiling.{Kept, Fine, Ready, fine_do, none_some, up_has, up_grows}
 use Rattle.region.proofs.Granting.{granted_none, granted_page}
-use Rattle.region.proofs.Searching.{from_same}
+use Rattle.region.proofs.Searching.{Reached, from_same}
 
 -- ---- the frame at p is marked otherwise, and the lists are others
 
@@ -122,3 +125,9 @@ module _ {board : Board} where
 module _ {board : Board} where
   pub row_whole : {f g : ℕ → Record} {first n : ℕ} {row r : Row} {s : Levels} → Becomes board f first row g n r s → Whole board s none (from_of board row) first row.pages → WholeRow board g first r
   row_whole B Wh = rw (rep_state B.rep, from_same B, B.pages) Wh
+
+  pub reached_whole
+      : {a b : AllocationRegion} {s : Levels} → Reached board a b s
+      → Whole board s none (from_of board (row_of (rows_in a.words.now) a.index)) a.first (row_of (rows_in a.words.now) a.index).pages
+      → WholeIn board b
+  reached_whole A W = rw (A.same.first, A.same.index) (row_whole A.left.0 W)

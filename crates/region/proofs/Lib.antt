@@ -8,6 +8,7 @@ pub mod Freeing
 pub mod Keeping
 pub mod Beside
 pub mod Holding
+pub mod Lending
 pub mod Marking
 pub mod Laying
 pub mod Addresses

@@ -217,30 +217,3 @@ module _ (board : Board) where
   unfoldable pub lookup : Row → ℕ → ℕ → Option ℕ
   lookup row first number =
       cond (contains board (bare_region board row) number) (some (page_number board first (bare_region board row) number)) none
-
--- ---- where a function is given no board: it asks that there be one on which the region is such, and promises what it does of every such board
-
-module _ (bytes : List ℕ) (first : ℕ) (ws : List ℕ) (i : ℕ) where
-  abbrev pub SoundSome : Type 0
-  SoundSome = (board : Board) × SoundAt board bytes first ws i
-
-  abbrev pub WholeSome : Type 0
-  WholeSome = (board : Board) × SoundAt board bytes first ws i × WholeAt board bytes first ws i
-
-  abbrev pub SplitsSome : (page l : ℕ) → Type 0
-  SplitsSome page l =
-      (board : Board) × SoundAt board bytes first ws i × Splits board (levels_at bytes ws i) first (row_of (rows_in ws) i).pages page l
-
-  module _ (bytes' ws' : List ℕ) where
-    abbrev pub FindsBy : code.Option ℕ → (Levels → Found) → Type 0
-    FindsBy r op = (board : Board) → SoundAt board bytes first ws i → FindsAt board bytes first ws i bytes' ws' r (op (levels_at bytes ws i))
-
-    abbrev pub SeeksBy : code.Option ℕ → (Levels → Found) → Type 0
-    SeeksBy r op =
-        (board : Board) → SoundAt board bytes first ws i → WholeAt board bytes first ws i
-        → FindsAt board bytes first ws i bytes' ws' r (op (levels_at bytes ws i))
-
-    abbrev pub SplitsBy : (page l : ℕ) → Levels → Type 0
-    SplitsBy page l s =
-        (board : Board) → SoundAt board bytes first ws i → Splits board (levels_at bytes ws i) first (row_of (rows_in ws) i).pages page l
-        → LeavesAt board bytes first ws i bytes' ws' s

@@ -21,11 +21,11 @@ ghost use Rattle.definition.specs.Frame.{
   level_allocate,
   slot as slot_def,
   split as split_def,
+  then_split,
 };
 ghost use Rattle.record.specs.Records.{pages_in};
 ghost use Rattle.level.specs.Level.{rank};
 ghost use Rattle.list.specs.Linked.{Out, Pushed, Sound};
-ghost use Rattle.words.specs.Words.{row_of, rows_in};
 ghost use Rattle.region.specs.Rep.{
   Inside,
   managed,
@@ -35,17 +35,6 @@ ghost use Rattle.region.specs.Rep.{
   Blank,
   from_of,
   Becomes,
-  SoundAt,
-  WholeAt,
-  levels_at,
-  LeavesAt,
-  FindsAt,
-  SoundSome,
-  WholeSome,
-  SplitsSome,
-  FindsBy,
-  SeeksBy,
-  SplitsBy,
   state_of,
   free_record,
   list_up,
@@ -56,55 +45,33 @@ ghost use Rattle.region.specs.Rep.{
   page_of,
   lookup,
 };
+ghost use Rattle.region.specs.Lent.{
+  Same,
+  levels_in,
+  SoundIn,
+  WholeIn,
+  HeldIn,
+  FindsIn,
+  LeavesIn,
+  SoundSome,
+  WholeSome,
+  SplitsSome,
+  FindsBy,
+  SeeksBy,
+  SplitsBy,
+};
 
 use address::PhysAddr;
 use definition::{Board, Links, Record, Row};
 use level::Level;
-// pop_back of the list `k`.
-fn pop(records: &mut [u8], first: usize, words: &mut [u64], index: usize, k: usize) -> Option<usize>
-    requires sound_some { SoundSome records.old first words.old index }
-    requires k_bound { k < 6 }
-    ensures { FindsBy records.old first words.old index records.new words.new result
-        (λ s. pop_from everywhere s k) }
-{
-    let l = words::list_at(words, index, k);
-    let (page, rest) = list::pop_back(records, l)?;
-    words::put_list(words, index, k, rest);
-    Some(page)
-}
 
-// The number of a level's list, dirty or zeroed. From here to `split` a level is its number, which stands in the records: as a `Level` it
+// The number of a level's list, dirty or zeroed. From here to `larger` a level is its number, which stands in the records: as a `Level` it
 // is converted on the way, and a grant of a listed frame takes a third longer.
 fn slot(level: usize, zeroed: bool) -> usize
     requires { level < 3 }
     ensures { (result ≡ slot_def level zeroed) × (result < 6) }
 {
     level * 2 + usize::from(zeroed)
-}
-
-// AllocationRegionLevel::allocate, frame.rs 106.
-fn level_allocate(
-    records: &mut [u8],
-    first: usize,
-    words: &mut [u64],
-    index: usize,
-    level: usize,
-    try_zero: bool,
-    only_zero: bool,
-) -> Option<usize>
-    requires sound_some { SoundSome records.old first words.old index }
-    requires level_bound { level < 3 }
-    ensures { FindsBy records.old first words.old index records.new words.new result
-        (λ s. level_allocate everywhere s level try_zero only_zero) }
-{
-    if only_zero {
-        return pop(records, first, words, index, slot(level, true));
-    }
-    let dirty = pop(records, first, words, index, slot(level, false));
-    if dirty.is_none() && try_zero {
-        return pop(records, first, words, index, slot(level, true));
-    }
-    dirty
 }
 
 // A free frame's record at the page, and the page on the back of a list. It takes the one list, and not the row, so that 512 in turn copy
@@ -164,113 +131,150 @@ fn push(
     r
 }
 
-// AllocationRegion::split, frame.rs 244: the listed frame at the page becomes 512 of the level, child 0 pushed last.
-fn split(
-    records: &mut [u8],
-    first: usize,
-    words: &mut [u64],
-    index: usize,
-    page: usize,
-    level: usize,
-)
-    requires { SplitsSome records.old first words.old index page level }
-    ensures { SplitsBy records.old first words.old index records.new words.new page level
-        (split_def (levels_at records.old words.old index) page level) }
-{
-    let zeroed = record::is_zeroed(record::marks(records, page));
-    let step = level::pages_at(level);
-    let k = slot(level, zeroed);
-    let mut l = words::list_at(words, index, k);
-    for i in 1..512 {
-        l = admit(records, l, page + i * step, level, zeroed, false);
-    }
-    let all = admit(records, l, page, level, zeroed, false);
-    words::put_list(words, index, k, all);
+// The region by its two loans. Its frames tie the records to the lists of its row only between two calls: one writes the records first and
+// the row after, so that `SoundSome` is asked for and is no ghost field. A body that reads a loan and writes it takes it into a variable
+// first: of a loan that a call reads through the field, a proof knows no more than its length afterwards.
+#[derive(Drop)]
+pub struct AllocationRegion<'a> {
+    pub records: &'a mut [u8],
+    pub first: usize,
+    pub words: &'a mut [u64],
+    pub index: usize,
 }
 
-// AllocationRegion::do_allocate, frame.rs 182: where the level has none, one of the next larger level is split.
-pub fn do_allocate(
-    records: &mut [u8],
-    first: usize,
-    words: &mut [u64],
-    index: usize,
-    level: usize,
-    try_zero: bool,
-    only_zero: bool,
-) -> Option<usize>
-    requires { WholeSome records.old first words.old index }
-    ensures { SeeksBy records.old first words.old index records.new words.new result
-        (λ s. do_allocate everywhere (3 - level) level s try_zero only_zero) }
-{
-    if 3 <= level {
-        return None;
+impl AllocationRegion<'_> {
+    // pop_back of the list `k`.
+    fn pop(&mut self, k: usize) -> Option<usize>
+        requires sound_some { SoundSome self.old }
+        requires k_bound { k < 6 }
+        ensures same { Same self.old self.new }
+        ensures finds_by { FindsBy self.old self.new result (λ s. pop_from everywhere s k) }
+    {
+        let index = self.index;
+        let words = &mut *self.words;
+        let l = words::list_at(words, index, k);
+        let (page, rest) = list::pop_back(self.records, l)?;
+        words::put_list(words, index, k, rest);
+        Some(page)
     }
-    let here = level_allocate(records, first, words, index, level, try_zero, only_zero);
-    if here.is_some() {
-        return here;
+
+    // AllocationRegionLevel::allocate, frame.rs 106.
+    fn level_allocate(&mut self, level: usize, try_zero: bool, only_zero: bool) -> Option<usize>
+        requires sound_some { SoundSome self.old }
+        requires level_bound { level < 3 }
+        ensures same { Same self.old self.new }
+        ensures finds_by { FindsBy self.old self.new result (λ s. level_allocate everywhere s level try_zero only_zero) }
+    {
+        if only_zero {
+            return self.pop(slot(level, true));
+        }
+        let dirty = self.pop(slot(level, false));
+        if dirty.is_none() && try_zero {
+            return self.pop(slot(level, true));
+        }
+        dirty
     }
-    let page = do_allocate(records, first, words, index, level + 1, try_zero, only_zero)?;
-    split(records, first, words, index, page, level);
-    level_allocate(records, first, words, index, level, try_zero, only_zero)
-}
 
-// AllocationRegion::allocate, frame.rs 195, at the level that find_level found.
-pub fn allocate(
-    board: Board,
-    records: &mut [u8],
-    first: usize,
-    words: &mut [u64],
-    index: usize,
-    level: Level,
-    try_zero: bool,
-    only_zero: bool,
-) -> Option<usize>
-    requires sound_at { SoundAt board records.old first words.old index }
-    requires whole_at { WholeAt board records.old first words.old index }
-    ensures finds_at { FindsAt board records.old first words.old index records.new words.new result
-        (allocate_def everywhere (rank level) (levels_at records.old words.old index) try_zero only_zero) }
-    ensures whole_at_2 { WholeAt board records.new first words.new index }
-{
-    let page = do_allocate(
-        records,
-        first,
-        words,
-        index,
-        level.index(),
-        try_zero,
-        only_zero,
-    )?;
-    let marks = record::marks(records, page);
-    let held = record::set_allocated(marks);
-    record::set_marks(records, page, held);
-    Some(page)
-}
+    // AllocationRegion::split, frame.rs 244: the listed frame at the page becomes 512 of the level, child 0 pushed last.
+    fn split(&mut self, page: usize, level: usize)
+        requires { SplitsSome self.old page level }
+        ensures same { Same self.old self.new }
+        ensures splits_by { SplitsBy self.old self.new page level (split_def (levels_in self.old) page level) }
+    {
+        let index = self.index;
+        let records = &mut *self.records;
+        let words = &mut *self.words;
+        let zeroed = record::is_zeroed(record::marks(records, page));
+        let step = level::pages_at(level);
+        let k = slot(level, zeroed);
+        let mut l = words::list_at(words, index, k);
+        for i in 1..512 {
+            l = admit(records, l, page + i * step, level, zeroed, false);
+        }
+        let all = admit(records, l, page, level, zeroed, false);
+        words::put_list(words, index, k, all);
+    }
 
-// AllocationRegion::free and AllocationRegionLevel::free, frame.rs 166 and 97: clears ALLOCATED only, and puts the frame on the back of its
-// list.
-pub fn free(
-    board: Board,
-    records: &mut [u8],
-    first: usize,
-    words: &mut [u64],
-    index: usize,
-    page: usize,
-)
-    requires sound_at { SoundAt board records.old first words.old index }
-    requires whole_at { WholeAt board records.old first words.old index }
-    requires held { Held board (levels_at records.old words.old index) first (row_of (rows_in words.old) index).pages page }
-    ensures leaves_at { LeavesAt board records.old first words.old index records.new words.new
-        (free_def (levels_at records.old words.old index) page) }
-    ensures whole_at_2 { WholeAt board records.new first words.new index }
-{
-    let r = record::load(records, page);
-    let level = record::level_of(r.level);
-    let zeroed = record::is_zeroed(r.marks);
-    let kernel = record::is_kernel(r.marks);
-    let k = slot(level, zeroed);
-    let l = words::list_at(words, index, k);
-    let longer = admit(records, l, page, level, zeroed, kernel);
-    words::put_list(words, index, k, longer);
+    // AllocationRegion::do_allocate, frame.rs 182: where the level has none, one of the next larger level is split.
+    #[cycle(levels)]
+    pub fn do_allocate(&mut self, level: usize, try_zero: bool, only_zero: bool) -> Option<usize>
+        requires { WholeSome self.old }
+        ensures same { Same self.old self.new }
+        ensures seeks_by { SeeksBy self.old self.new result
+            (λ s. do_allocate everywhere (3 - level) level s try_zero only_zero) }
+    {
+        if 3 <= level {
+            return None;
+        }
+        let here = self.level_allocate(level, try_zero, only_zero);
+        if here.is_some() {
+            return here;
+        }
+        self.larger(level, try_zero, only_zero)
+    }
+
+    // The same where the level has none. It stays out of line, so that the search of one level, with which most grants end, goes into the
+    // caller, and the region's numbers into registers: with a do_allocate that calls itself a grant of a listed frame takes half as long
+    // again.
+    #[cycle(levels)]
+    #[inline(never)]
+    fn larger(&mut self, level: usize, try_zero: bool, only_zero: bool) -> Option<usize>
+        requires level_bound { level < 3 }
+        requires whole_some { WholeSome self.old }
+        ensures same { Same self.old self.new }
+        ensures seeks_by { SeeksBy self.old self.new result (λ s. then_split everywhere level try_zero only_zero
+            (do_allocate everywhere (3 - (level + 1)) (level + 1) s try_zero only_zero)) }
+    {
+        let page = self.do_allocate(level + 1, try_zero, only_zero)?;
+        self.split(page, level);
+        self.level_allocate(level, try_zero, only_zero)
+    }
+
+    // AllocationRegion::allocate, frame.rs 195, at the level that find_level found.
+    pub fn allocate(
+        &mut self,
+        board: Board,
+        level: Level,
+        try_zero: bool,
+        only_zero: bool,
+    ) -> Option<usize>
+        requires sound_in { SoundIn board self.old }
+        requires whole_in { WholeIn board self.old }
+        ensures same { Same self.old self.new }
+        ensures finds_in { FindsIn board self.old self.new result
+            (allocate_def everywhere (rank level) (levels_in self.old) try_zero only_zero) }
+        ensures whole_in_2 { WholeIn board self.new }
+    {
+        let page = self.do_allocate(level.index(), try_zero, only_zero)?;
+        let records = &mut *self.records;
+        let marks = record::marks(records, page);
+        let held = record::set_allocated(marks);
+        record::set_marks(records, page, held);
+        Some(page)
+    }
+
+    // AllocationRegion::free and AllocationRegionLevel::free, frame.rs 166 and 97: clears ALLOCATED only, and puts the frame on the back of
+    // its list.
+    pub fn free(&mut self, board: Board, page: usize)
+        requires sound_in { SoundIn board self.old }
+        requires whole_in { WholeIn board self.old }
+        requires held { HeldIn board self.old page }
+        ensures same { Same self.old self.new }
+        ensures leaves_in { LeavesIn board self.old self.new (free_def (levels_in self.old) page) }
+        ensures whole_in_2 { WholeIn board self.new }
+    {
+        let index = self.index;
+        let records = &mut *self.records;
+        let words = &mut *self.words;
+        let r = record::load(records, page);
+        let level = record::level_of(r.level);
+        let zeroed = record::is_zeroed(r.marks);
+        let kernel = record::is_kernel(r.marks);
+        let k = slot(level, zeroed);
+        let l = words::list_at(words, index, k);
+        let longer = admit(records, l, page, level, zeroed, kernel);
+        words::put_list(words, index, k, longer);
+    }
 }
 
 // Frame::set_not_zero, set_kernel, and zero but for the bytes (frame.rs 443, 470, 430): the marks of a held frame, which stays held.

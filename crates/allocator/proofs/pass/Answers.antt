@@ -1,6 +1,6 @@
 -- `pass` meets its contract. The loop's invariant is `Gone`: the regions passed had nothing, so that the records and the rows are as they
 -- were.
-use Prim.Native.Nat.{◌<◌}
+use Rattle.std.proofs.Common.{Option, Some, ◌+◌, ◌-◌, ◌<◌, rules}
 use mathlib.Core.Path.{◌≡◌, refl}
 use native.Mathlib.Omega.{arith}
 use lib.ListN.{length}
@@ -8,12 +8,17 @@ use Rattle.world.proofs.Sheets.{good_few}
 use Rattle.definition.specs.World.{record_at, used_rows}
 use Rattle.level.proofs.Ranks.{rank_below}
 use Rattle.record.specs.Records.{pages_in}
+use Rattle.region.proofs.Lending.{both_lent, lent}
 use Rattle.region.specs.Rep.{managed}
-use Rattle.words.specs.Words.{board_in, rows_in}
+use Rattle.level.specs.Level.{rank}
+use Rattle.words.specs.Words.{RowsBeside, board_in, rows_in}
+use Rattle.allocator.specs.declared.Spot.{Spot}
+use Rattle.allocator.specs.Spots.{PicksIn, pass_by}
 use Rattle.words.proofs.Places.{in_use}
 use Rattle.words.proofs.Words.{fit_in, rows_beside_same, rows_beside_then}
 use Rattle.world.specs.Stands.{Good, row_at}
 use Rattle.allocator.proofs.Picking.{gone_none, gone_here, gone_past, gone_eight, gone_all, gone_good, gone_row, gone_on, gone_found}
+use Rattle.allocator.proofs.pass.Invariants.{Inv}
 use Rattle.allocator.proofs.pass.Goals as goal
 use Rattle.allocator.proofs.pass.Goals.{After-pages_at-pages, Else-pages-eq0}
 
@@ -58,20 +63,26 @@ allocate-got-requires c =
     let g = good e in
     let u = in_use c.loop-i.words c.loop-i.i (omega arith) (rw c.pages_at-pages.ensures at c.if-pages-eq0.false) in
     rw (I.rows, board_is e) record {
-      sound_at = ((omega (arith, c.requires.0, I.wide), omega arith, u), g.sound);
-      whole_at = g.whole;
+      sound_in = ((omega (arith, c.requires.0, I.wide), omega arith, u), g.sound);
+      whole_in = g.whole;
     }
 
 pub returns-in-Some : goal.returns-in-Some
 returns-in-Some c =
     let e = (goal.at.returns-in-Some c).Else-pages-eq0 in
     let I = c.loop-i.invariant in
-    let A = rw (I.rows, board_is e) at c.allocate-got.ensures.finds_at in
-    let W = rw (board_is e) at c.allocate-got.ensures.whole_at_2 in
+    let d = c.allocate-got.ensures in
+    let b = c.allocate-got.new.self in
+    let A = rw (I.rows, board_is e) at d.finds_in in
+    let W = rw (board_is e, d.same.first, d.same.index) at d.whole_in_2 in
     let B = A.1 in
-    let m = c.allocate-got.auto.records in record {
-      picks_in = rw (B.rows, I.rows) (gone_found I.gone (used e) A.0 (omega (arith, m)) W c.in-Some.is);
-      rows_beside = rows_beside_then I.rest B.rest;
+    let m = d.same.long in
+    let by = pass_by (rank c.args.level) c.args.try_zero c.args.only_zero in
+    let s : Option Spot = Some (record { index = c.loop-i.i; base = c.loop-i.base; page = c.in-Some.page }) in
+    let t : PicksIn by c.args.records.now c.args.words.now b.records.now b.words.now s =
+    rw (B.rows, I.rows) (gone_found I.gone (used e) A.0 (omega (arith, m)) W c.in-Some.is) in record {
+      picks_in = both_lent (λ bytes ws. PicksIn by c.args.records.now c.args.words.now bytes ws s) t (search rules) (search rules);
+      rows_beside = lent (RowsBeside c.args.words.now) (rows_beside_then I.rest B.rest) (search rules);
     }
 
 pub table_pages-requires : goal.table_pages-requires
@@ -101,17 +112,24 @@ unfolding managed
 loop-i-preserved c =
     let e = (goal.at.loop-i-preserved c).Else-pages-eq0 in
     let I = c.loop-i.invariant in
-    let A = rw (I.rows, board_is e) at c.in_default.ensures.finds_at in
+    let d = c.in_default.ensures in
+    let b = c.allocate-got.new.self in
+    let A = rw (I.rows, board_is e) at d.finds_in in
     let B = A.1 in
-    let m = c.allocate-got.auto.records in
+    let m = c.allocate-got.ensures.same.long in
+    let base = c.loop-i.base + (c.pages_at-pages.result - c.table_pages.result) in
+    let t : Inv c.args.words.now c.args.records.now (rank c.args.level) c.args.try_zero c.args.only_zero b.words.now b.records.now base (c.loop-i.i + 1) =
     record {
       rows = rw (B.rows, I.rows) (gone_row I.gone (used e) A.0 (omega (arith, m)) refl);
       rest = rows_beside_then I.rest B.rest;
-      wide = omega (arith, I.wide, c.allocate-got.auto.words);
+      wide = omega (arith, I.wide, c.allocate-got.ensures.same.wide);
       long = omega (arith, I.long, m);
       gone = rw (c.table_pages.ensures, pages_are (goal.at.loop-i-preserved c).After-pages_at-pages, board_is e)
           (gone_on I.gone (used e) A.0 (omega (arith, m)) refl);
     }
+    in
+    both_lent (λ bytes ws. Inv c.args.words.now c.args.records.now (rank c.args.level) c.args.try_zero c.args.only_zero ws bytes base (c.loop-i.i + 1))
+    t (search rules) (search rules)
 
 pub returns : goal.returns
 returns c =

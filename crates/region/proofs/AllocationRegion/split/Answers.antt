@@ -11,8 +11,8 @@ use Rattle.list.specs.Linked.{Out}
 use Rattle.region.specs.Rep.{state_of}
 use Rattle.region.proofs.Laws.{taken_out, out_asks, out_next}
 use Rattle.region.proofs.Splitting.{zeroed_mark, child_inside, page_inside, child_out, page_out, split_is}
-use Rattle.region.proofs.split.Goals as goal
-use Rattle.region.proofs.split.Goals.{After-loop-i, At-loop-i, In-loop-i}
+use Rattle.region.proofs.AllocationRegion.split.Goals as goal
+use Rattle.region.proofs.AllocationRegion.split.Goals.{After-loop-i, At-loop-i, In-loop-i}
 
 pub marks-requires : goal.marks-requires
 marks-requires c = omega (arith, (page_inside c.requires.2 true).high, c.requires.1.1.fits)
@@ -41,7 +41,7 @@ child_fits c =
 
 -- the child is out of the list that it is pushed on
 out
-    : (c : In-loop-i) → let u = state_of (record_at c.args.records.now) (row_of (rows_in c.args.words.now) c.args.index) in
+    : (c : In-loop-i) → let u = state_of (record_at c.args.self.now.records.now) (row_of (rows_in c.args.self.now.words.now) c.args.self.now.index) in
     let pushed = children (c.loop-i.i - 1) u c.args.page c.args.level c.is_zeroed-zeroed.result in
     (k : ℕ) → Out (c.args.page + c.loop-i.i * size c.args.level) (pushed.free k)
 out c = rw (sym (turn c)) at (child_out c.requires.2 c.is_zeroed-zeroed.result (c.loop-i.i - 1) (omega arith))
@@ -85,16 +85,16 @@ admit-all-requires c =
     (omega (arith, c.requires.2.small)) in
     record { sound = z.0; level_bound = z.1.0; out = z.1.1.0; page_bound = z.1.1.1 }
 
-pub returns : goal.returns
-returns c =
+pub returns-clause-splits_by : goal.returns-clause-splits_by
+returns-clause-splits_by c =
     let d = c.admit-all in
     let p = c.put_list.ensures in
-    let e = all_pushed (goal.at.returns c).After-loop-i in
+    let e = all_pushed (goal.at.returns-clause-splits_by c).After-loop-i in
     let y = rw c.marks.ensures at c.is_zeroed-zeroed.ensures in
-    let u = state_of (record_at c.args.records.now) (row_of (rows_in c.args.words.now) c.args.index) in
+    let u = state_of (record_at c.args.self.now.records.now) (row_of (rows_in c.args.self.now.words.now) c.args.self.now.index) in
     λ board R S. let i = page_inside S c.is_zeroed-zeroed.result in
     let w = split_is u c.args.page c.args.level c.is_zeroed-zeroed.result (c.loop-i.i - 1) e (y ∙ zeroed_mark c.args.page i R.1) in (
       rw (p.row, d.auto.records, c.slot-k.ensures.0, ← w)
-          (out_next c.args.level c.is_zeroed-zeroed.result false (c.loop-i.invariant.became board R.1 S) (a_list (goal.at.returns c).At-loop-i) i (rw e (page_out S c.is_zeroed-zeroed.result)) (rw d.auto.records at d.ensures)),
+          (out_next c.args.level c.is_zeroed-zeroed.result false (c.loop-i.invariant.became board R.1 S) (a_list (goal.at.returns-clause-splits_by c).At-loop-i) i (rw e (page_out S c.is_zeroed-zeroed.result)) (rw d.auto.records at d.ensures)),
       p.rest,
     )

@@ -7,16 +7,16 @@ use Rattle.definition.specs.World.{record_at}
 use Rattle.record.specs.Records.{pages_in}
 use Rattle.words.specs.Words.{row_of, rows_in, with_list}
 use Rattle.region.specs.Rep.{Becomes, SoundRow, Splits, state_of}
-use Rattle.region.proofs.split.Given as goal
+use Rattle.region.proofs.AllocationRegion.split.Given as goal
 
 abbrev pub invariant-loop-i : goal.invariant-loop-i
 invariant-loop-i l =
     record {
       same : length l.records ≡ length l.initial.records;
       became
-          : (board : Board) → SoundRow board (record_at l.initial.records) (pages_in l.initial.records) l.first (row_of (rows_in l.words) l.index)
-          → Splits board (state_of (record_at l.initial.records) (row_of (rows_in l.words) l.index)) l.first (row_of (rows_in l.words) l.index).pages l.page l.level
-          → Becomes board (record_at l.initial.records) l.first (row_of (rows_in l.words) l.index) (record_at l.records) (pages_in l.records)
+          : (board : Board) → SoundRow board (record_at l.initial.records) (pages_in l.initial.records) l.fn.self.first (row_of (rows_in l.words) l.index)
+          → Splits board (state_of (record_at l.initial.records) (row_of (rows_in l.words) l.index)) l.fn.self.first (row_of (rows_in l.words) l.index).pages l.page l.level
+          → Becomes board (record_at l.initial.records) l.fn.self.first (row_of (rows_in l.words) l.index) (record_at l.records) (pages_in l.records)
           (with_list (row_of (rows_in l.words) l.index) (slot l.level l.zeroed) l.l)
           (children (l.i - 1) (state_of (record_at l.initial.records) (row_of (rows_in l.words) l.index)) l.page l.level l.zeroed);
     }
