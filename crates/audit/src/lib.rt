@@ -194,17 +194,14 @@ impl<'a> Lent<'a> {
         words::is_no_rows(self.words, seen.used).then_some(seen)
     }
 
-    // No two rows in use share a page. A single row shares none, and then the rows are not read.
-    fn apart(&self, used: usize) -> bool
+    // Two of the rows in use share a page.
+    fn used_overlap(&self, used: usize) -> bool
         requires { used ≡ length (used_rows (rows_in self.now.words.now)) }
-        ensures { result ≡ not
-            (overlap (board_in self.now.words.now) (regions_of (board_in self.now.words.now) (rows_in self.now.words.now))) }
+        ensures { result ≡ overlap (board_in self.now.words.now)
+            (regions_of (board_in self.now.words.now) (rows_in self.now.words.now)) }
     {
-        if used < 2 {
-            return true;
-        }
         let rows = words::rows_in(self.words);
-        !overlaps(words::board_in(self.words), &rows[..used])
+        overlaps(words::board_in(self.words), &rows[..used])
     }
 }
 
@@ -257,8 +254,9 @@ pub fn audit(
     let Some(seen) = lent.survey() else {
         return false;
     };
+    // A single row shares no page with another, and then the rows are not read.
     seen.total <= 1048576
-        && lent.apart(seen.used)
+        && (seen.used < 2 || !lent.used_overlap(seen.used))
         && board.page * seen.managed <= memory_len
         && counted(counters, seen)
         && within(

@@ -2,7 +2,8 @@
 use Prim.Native.Nat.{◌*◌}
 use mathlib.Core.Bool.{Bool, not, ◌&&◌}
 use mathlib.Core.Path.{◌≡◌, sym, ap, ◌∙◌}
-use borrow.Author.Tests.{le-leb, lt-leb}
+use native.Mathlib.Omega.{arith}
+use borrow.Author.Tests.{le-leb, lt-leb, lt-ltb}
 use lib.Dec.{leb}
 use Rattle.definition.specs.Board.{Board}
 use Rattle.definition.specs.Boot.{overlap}
@@ -10,6 +11,7 @@ use Rattle.definition.specs.Torn.{regions_of}
 use Rattle.words.specs.Words.{board_in, rows_in, queued_in, pass_in}
 use Rattle.audit.specs.Sheet.{counts_as}
 use Rattle.audit.proofs.Arrays.{words_shaped}
+use Rattle.audit.proofs.Bare.{overlap_none}
 use Rattle.audit.proofs.Onward.{and_then, and_else}
 use Rattle.audit.proofs.Sheets.{Given, torn_survey, others_decide}
 use Rattle.audit.proofs.audit.Goals as goal
@@ -17,10 +19,11 @@ use Rattle.audit.proofs.audit.Goals.{
   Start,
   In-Some,
   Joined-board-seen,
-  then-seen-le1048576,
+  then-seen-le1048576+then-seen-lt2,
+  then-seen-le1048576+else-seen-lt2,
   else-seen-le1048576,
-  then-apart,
-  else-apart,
+  then-not-used_overlap,
+  else-not-used_overlap,
   then-board-seen,
   else-board-seen,
 }
@@ -48,21 +51,28 @@ returns-in_default c =
 few : (c : Joined-board-seen) → let b = board_in c.args.words.now in
     c.if-seen-le1048576.value ≡ (leb c.in-Some.seen.total 1048576 && not (overlap b (regions_of b (rows_in c.args.words.now))))
 few c =
+    let b = board_in c.args.words.now in
+    let rows = rows_in c.args.words.now in
+    let seen = c.in-Some.seen in
     elim c.if-seen-le1048576.branch [
-      | then-seen-le1048576 w ↦ and_then (le-leb c.in-Some.seen.total 1048576 w.if-seen-le1048576.true) (w.value-is ∙ w.apart.ensures)
-      | else-seen-le1048576 w ↦ and_else _ (lt-leb c.in-Some.seen.total 1048576 w.if-seen-le1048576.false) w.value-is
+      | then-seen-le1048576+then-seen-lt2 w ↦ and_then (le-leb seen.total 1048576 w.if-seen-le1048576.true)
+          (w.value-is ∙ lt-ltb seen.used 2 w.if-seen-lt2.true
+          ∙ sym (ap not (overlap_none b rows (omega (arith, w.if-seen-lt2.true, c.in-Some.ensures.found.used)))))
+      | then-seen-le1048576+else-seen-lt2 w ↦ and_then (le-leb seen.total 1048576 w.if-seen-le1048576.true)
+          (w.value-is ∙ ap not w.used_overlap.ensures)
+      | else-seen-le1048576 w ↦ and_else _ (lt-leb seen.total 1048576 w.if-seen-le1048576.false) w.value-is
     ]
 
 memory : (c : Joined-board-seen) → let b = board_in c.args.words.now in
-    c.if-apart.value ≡ (c.if-seen-le1048576.value && leb (b.page * c.in-Some.seen.managed) c.args.memory_len)
+    c.if-not-used_overlap.value ≡ (c.if-seen-le1048576.value && leb (b.page * c.in-Some.seen.managed) c.args.memory_len)
 memory c =
-    elim c.if-apart.branch [
-      | then-apart w ↦ and_then w.if-apart.true (w.value-is ∙ ap (λ (b : Board). leb (b.page * c.in-Some.seen.managed) c.args.memory_len)
-          c.board_in-board.ensures.0)
-      | else-apart w ↦ and_else _ w.if-apart.false w.value-is
+    elim c.if-not-used_overlap.branch [
+      | then-not-used_overlap w ↦ and_then w.if-not-used_overlap.true
+          (w.value-is ∙ ap (λ (b : Board). leb (b.page * c.in-Some.seen.managed) c.args.memory_len) c.board_in-board.ensures.0)
+      | else-not-used_overlap w ↦ and_else _ w.if-not-used_overlap.false w.value-is
     ]
 
-counts : (c : Joined-board-seen) → c.if-board-seen.value ≡ (c.if-apart.value && counts_as c.args.counters c.in-Some.seen)
+counts : (c : Joined-board-seen) → c.if-board-seen.value ≡ (c.if-not-used_overlap.value && counts_as c.args.counters c.in-Some.seen)
 counts c =
     elim c.if-board-seen.branch [
       | then-board-seen w ↦ and_then w.if-board-seen.true (w.value-is ∙ w.counted.ensures)

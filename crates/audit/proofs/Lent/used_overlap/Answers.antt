@@ -1,7 +1,6 @@
--- `apart` meets its contract. Fewer than two regions share no page, and the rows in use are those up to their number.
-use mathlib.Core.Bool.{not}
+-- `used_overlap` meets its contract. The rows in use are those up to their number.
 use mathlib.Core.List.{List}
-use mathlib.Core.Path.{◌≡◌, sym, ap, ap₂, ◌∙◌}
+use mathlib.Core.Path.{◌≡◌, sym, ap₂, ◌∙◌}
 use native.Mathlib.Omega.{arith}
 use lib.ListN.{take}
 use lib.Seq.{length-take-le}
@@ -10,16 +9,10 @@ use Rattle.definition.specs.Board.{Board}
 use Rattle.definition.specs.Boot.{overlap}
 use Rattle.definition.specs.World.{used_rows}
 use Rattle.definition.specs.Torn.{bare_regions}
-use Rattle.words.specs.Words.{board_in, rows_in}
+use Rattle.words.specs.Words.{rows_in}
 use Rattle.audit.proofs.Arrays.{words_eight}
-use Rattle.audit.proofs.Bare.{overlap_none}
 use Rattle.audit.proofs.Used.{used_front, used_most}
-use Rattle.audit.proofs.Lent.apart.Goals as goal
-
-pub returns-then-used-lt2 : goal.returns-then-used-lt2
-returns-then-used-lt2 c =
-    let ws = c.args.self.now.words.now in
-    sym (ap not (overlap_none (board_in ws) (rows_in ws) (omega (arith, c.requires))))
+use Rattle.audit.proofs.Lent.used_overlap.Goals as goal
 
 pub slice_bounds-rows-end : goal.slice_bounds-rows-end
 slice_bounds-rows-end c =
@@ -35,4 +28,4 @@ pub returns : goal.returns
 returns c =
     let rows = rows_in c.args.self.now.words.now in
     let e : take c.args.used c.rows_in-rows.result ≡ used_rows rows = rw (c.rows_in-rows.ensures, c.requires) (used_front rows) in
-    ap not (c.overlaps.ensures ∙ ap₂ (λ (b : Board) (rs : List Row). overlap b (bare_regions b rs)) c.board_in.ensures.0 e)
+    c.overlaps.ensures ∙ ap₂ (λ (b : Board) (rs : List Row). overlap b (bare_regions b rs)) c.board_in.ensures.0 e
