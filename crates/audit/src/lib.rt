@@ -194,7 +194,7 @@ impl<'a> Lent<'a> {
         words::is_no_rows(self.words, seen.used).then_some(seen)
     }
 
-    // Two of the rows in use share a page.
+    // Two of the rows in use share a page. It is a function of its own, as the place for its eight rows is cleared wherever it stands.
     fn used_overlap(&self, used: usize) -> bool
         requires { used ≡ length (used_rows (rows_in self.now.words.now)) }
         ensures { result ≡ overlap (board_in self.now.words.now)

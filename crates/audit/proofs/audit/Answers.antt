@@ -67,8 +67,8 @@ memory : (c : Joined-board-seen) → let b = board_in c.args.words.now in
     c.if-not-used_overlap.value ≡ (c.if-seen-le1048576.value && leb (b.page * c.in-Some.seen.managed) c.args.memory_len)
 memory c =
     elim c.if-not-used_overlap.branch [
-      | then-not-used_overlap w ↦ and_then w.if-not-used_overlap.true (w.value-is ∙ ap (λ (b : Board). leb (b.page * c.in-Some.seen.managed) c.args.memory_len)
-          c.board_in-board.ensures.0)
+      | then-not-used_overlap w ↦ and_then w.if-not-used_overlap.true
+          (w.value-is ∙ ap (λ (b : Board). leb (b.page * c.in-Some.seen.managed) c.args.memory_len) c.board_in-board.ensures.0)
       | else-not-used_overlap w ↦ and_else _ w.if-not-used_overlap.false w.value-is
     ]
 
