@@ -121,7 +121,16 @@ pub fn write(
         (world counters words.now records.new memory.new queue.now) result }
 {
     exam::torn_test(counters, words, records, memory, queue)?;
-    ranges::write(&mut Contents { words, records, memory }, pa, offset, bytes)
+    ranges::write(
+        &mut Contents {
+            words,
+            records,
+            memory,
+        },
+        pa,
+        offset,
+        bytes,
+    )
 }
 
 // Where the bytes that are read stand in the memory.

@@ -169,7 +169,14 @@ fn zero(
         (world counters words.now records.new memory.new queue.now) result }
 {
     exam::torn_test(counters, words, records, memory, queue)?;
-    ranges::zero(&mut Contents { words, records, memory }, pa)
+    ranges::zero(
+        &mut Contents {
+            words,
+            records,
+            memory,
+        },
+        pa,
+    )
 }
 
 #[tactic(auto, using(door::proofs::Testing::leaves_torn))]
@@ -191,7 +198,11 @@ fn fill(
         (world counters words.now records.new memory.new queue.now) result }
 {
     exam::torn_test(counters, words, records, memory, queue)?;
-    let lent = &mut Contents { words, records, memory };
+    let lent = &mut Contents {
+        words,
+        records,
+        memory,
+    };
     ranges::fill(lent, pa, offset, len, byte)
 }
 
@@ -214,7 +225,11 @@ fn copy(
         (world counters words.now records.new memory.new queue.now) result }
 {
     exam::torn_test(counters, words, records, memory, queue)?;
-    let lent = &mut Contents { words, records, memory };
+    let lent = &mut Contents {
+        words,
+        records,
+        memory,
+    };
     copies::copy(lent, target, target_offset, source, source_offset, len)
 }
 

@@ -13,7 +13,6 @@ pub mod lending;
 use address::PhysAddr;
 use allocator::Seen;
 use definition::{Board, Counters, Refusal};
-
 pub use lending::Contents;
 
 // What an accepted call answers: an address and a count of bytes, as 01's script prints them.
