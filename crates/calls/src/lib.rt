@@ -13,6 +13,17 @@ use definition::{Counters, FrameAllocFlags};
 use exam::{Answer, Contents};
 use lines::Ask;
 
+// A call on contents is lent these of `make`'s loans: an arm of the dispatch stays a line.
+macro_rules! lend {
+    ($words:ident, $records:ident, $memory:ident) => {
+        &mut Contents {
+            words: $words,
+            records: $records,
+            memory: $memory,
+        }
+    };
+}
+
 // The calls that answer by numbers, on loans that were tested, or that a call left. A fill takes its byte modulo 256.
 #[tactic(auto, using(words::proofs::Words::beside_same))]
 pub fn make(
@@ -43,22 +54,16 @@ pub fn make(
         }
         Ask::Split => frames::split(words, records, pa),
         Ask::Free => frames::free(counters, words, records, pa),
-        Ask::Zero => ranges::zero(&mut Contents { words, records, memory }, pa),
+        Ask::Zero => ranges::zero(lend!(words, records, memory), pa),
         Ask::Dirty => ranges::dirty(words, records, pa),
         Ask::Find => frames::find(Table { words, records }, pa),
         Ask::Queue => reclaim::queue(words, records, queue, pa),
         Ask::Fill => {
-            let lent = &mut Contents { words, records, memory };
-            ranges::fill(lent, pa, n[1], n[2], (n[3] % 256) as u8)
+            let byte = (n[3] % 256) as u8;
+            ranges::fill(lend!(words, records, memory), pa, n[1], n[2], byte)
         }
-        Ask::Copy => {
-            let lent = &mut Contents { words, records, memory };
-            copies::copy(lent, pa, n[1], from, n[3], n[4])
-        }
-        Ask::Pcopy => {
-            let lent = &mut Contents { words, records, memory };
-            copies::pcopy(lent, pa, n[1], from, n[3])
-        }
+        Ask::Copy => copies::copy(lend!(words, records, memory), pa, n[1], from, n[3], n[4]),
+        Ask::Pcopy => copies::pcopy(lend!(words, records, memory), pa, n[1], from, n[3]),
         Ask::Round => Ok(reclaim::round(counters, words, records, queue)),
         Ask::Lend => Ok(counts::lend(counters, n[0] as usize)),
         Ask::Back => counts::back(counters, n[0] as usize),

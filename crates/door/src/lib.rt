@@ -145,7 +145,16 @@ pub fn write(
         queue,
     };
     loans.torn_test()?;
-    ranges::write(&mut Contents { words, records, memory }, pa, offset, bytes)
+    ranges::write(
+        &mut Contents {
+            words,
+            records,
+            memory,
+        },
+        pa,
+        offset,
+        bytes,
+    )
 }
 
 // Where the bytes that are read stand in the memory.

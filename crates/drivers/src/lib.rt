@@ -183,7 +183,14 @@ fn zero(
         queue,
     };
     loans.torn_test()?;
-    ranges::zero(&mut Contents { words, records, memory }, pa)
+    ranges::zero(
+        &mut Contents {
+            words,
+            records,
+            memory,
+        },
+        pa,
+    )
 }
 
 #[tactic(auto, using(door::proofs::Testing::leaves_torn))]
@@ -212,7 +219,11 @@ fn fill(
         queue,
     };
     loans.torn_test()?;
-    let lent = &mut Contents { words, records, memory };
+    let lent = &mut Contents {
+        words,
+        records,
+        memory,
+    };
     ranges::fill(lent, pa, offset, len, byte)
 }
 
@@ -242,7 +253,11 @@ fn copy(
         queue,
     };
     loans.torn_test()?;
-    let lent = &mut Contents { words, records, memory };
+    let lent = &mut Contents {
+        words,
+        records,
+        memory,
+    };
     copies::copy(lent, target, target_offset, source, source_offset, len)
 }
 
