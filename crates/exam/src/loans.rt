@@ -2,7 +2,7 @@
 // is lent the same apart, and makes the test of what it was lent as it stands then.
 #![tactic(auto)]
 
-ghost use Rattle.std.specs.Prelude.{ℕ, ◌≤◌, ◌<◌, length, slice_index};
+ghost use Rattle.std.specs.Prelude.{ℕ, ◌<◌, slice_index};
 ghost use Rattle.words.specs.Words.{Long};
 
 use definition::{Counters, Refusal};
