@@ -1,9 +1,8 @@
--- One line, case by case: what is kept after a bad line, a region, a boot, the statistics and a call stands for the run's own turn, and
--- what was written is its text.
+-- One line, case by case: what is kept after a region, a boot, the statistics and a call stands for the run's own turn, and what was
+-- written is its text.
 use Prim.Native.Nat.{ℕ, ◌+◌, ◌≤◌, ◌<◌}
 use mathlib.Core.Bool.{Bool, true, false}
 use mathlib.Core.List.{List, [], ◌∷◌, ◌++◌}
-use mathlib.Core.Option.{Option}
 use mathlib.Core.Path.{◌≡◌, sym, ap, subst, ◌∙◌}
 use native.Mathlib.Omega.{arith}
 use native.Mathlib.Numerals.{add-one}
@@ -13,7 +12,7 @@ use lib.Seq.{take_all, take-append-le, take-suc-set}
 use Rattle.definition.specs.declared.MemoryRegion.{MemoryRegion}
 use Rattle.definition.specs.Board.{Board}
 use Rattle.definition.specs.Calls.{Call, Stats, Text}
-use Rattle.definition.specs.Script.{AddRegion, BootNow, Ask, Asked, Command, RunningOn, answer_line, bad_line, command_on, line_on}
+use Rattle.definition.specs.Script.{AddRegion, BootNow, Ask, Command, RunningOn, answer_line, command_on}
 use Rattle.definition.specs.Text.{bytes_of}
 use Rattle.definition.specs.Torn.{Left, boot_call, call, sound}
 use Rattle.definition.specs.Tracker.{tracker_stats}
@@ -23,26 +22,19 @@ use Rattle.counts.specs.declared.Report.{Report}
 use Rattle.counts.specs.Counting.{Reports}
 use Rattle.exam.specs.Promise.{Answer, State, Leaves}
 use Rattle.lines.specs.declared.Ask.{Ask as Op}
-use Rattle.lines.specs.declared.Line.{Line}
-use Rattle.lines.specs.declared.Op.{Op as OpOf}
-use Rattle.lines.specs.Reading.{Reads, asks_if, call_of, command_of, name_of, numbers_of}
+use Rattle.lines.specs.Reading.{call_of}
 use Rattle.text.specs.Writing.{Wrote}
 use Rattle.text.proofs.Writing.{wrote_as}
-use Rattle.script.specs.Running.{Running, Bad, Does, Enters, Loans, Stands, Turned, Turns, line_by, world_by}
+use Rattle.script.specs.Running.{Running, Does, Enters, Loans, Stands, Turned, line_by, world_by}
 use Rattle.script.proofs.Answers.{accepted, boot_line, call_line, stats_call}
 use Rattle.script.proofs.Writing.{wrote_nothing}
 
 module _ (board : Board) where
   -- a command where it is known whether a boot was accepted
-  pub does
+  does
       : (c : Command) (name : List ℕ) {r r' : Running} (b : Bool) → r.booted ≡ b
       → ((x : RunningOn) → Stands r x → Turned (command_on board x name c b) r r') → Does board c name r r'
   does c name {r} {r'} b e f x S = subst (λ (y : Bool). Turned (command_on board x name c y) r r') (sym (S.booted ∙ e)) (f x S)
-
-pub turned_bad
-    : {r : Running} {out : List ℕ} {n : ℕ} → Wrote r.answer r.at bad_line out n
-    → Bad r (record r { answer = out; at = n })
-turned_bad w x S = record { stands = record { world = S.world; booted = S.booted; long = S.long; front = S.front }; wrote = w }
 
 -- ---- a region
 
@@ -132,15 +124,3 @@ module _ (board : Board) where
       let e : call board v Stats ≡ record { world = v; answer = Text (tracker_stats r.state.counters) } = stats_call board v sure small in
       turned_as board {r = r} {l = r.loans} {s = r.state} (bytes_of "stats") Stats late (ap (λ (x : Left). x.world) e)
       (wrote_as (R.text ∙ sym (ap (λ (x : Left). answer_line (bytes_of "stats") x.answer) e)) w)
-
--- ---- the line
-
-module _ (board : Board) where
-  -- a line turns out as what it was read as
-  pub turns
-      : {r r' : Running} (line : List ℕ) (q : Line) → Reads line q → (o : OpOf) → q.op ≡ o
-      → ((x : RunningOn) → Stands r x → Turned (line_on board x (asks_if (name_of o) (command_of o (numbers_of q)))) r r')
-      → Turns board r line r'
-  turns {r} {r'} line q R o e f x S =
-      subst (λ (a : Option Asked). Turned (line_on board x a) r r')
-      (sym (R ∙ ap (λ (p : OpOf). asks_if (name_of p) (command_of p (numbers_of q))) e)) (f x S)

@@ -107,7 +107,7 @@ pub struct Running {
 }
 
 // A run between two lines: what it keeps, its words and loans, and the answer with the place behind what was printed. What is kept is lent
-// too, so that the places of all the others stay known where a call writes its counters.
+// as well: by value, a call that is given the counters could reach every other field, and a line took a tenth longer.
 #[derive(Drop)]
 pub struct Run<'a> {
     pub running: &'a mut Running,
@@ -139,7 +139,7 @@ fn enter(map: &mut [MemoryRegion; 8], count: usize, entry: MemoryRegion)
     }
 }
 
-// Nothing is done: a proof reads of a slice that its bytes are bytes, but not of a field that lends one.
+// Nothing is done: a proof knows of a slice that its bytes are below 256, but not of one that is lent by a field.
 fn are_bytes(records: &[u8])
     ensures { Bytes records.now }
 {}

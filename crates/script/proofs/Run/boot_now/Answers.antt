@@ -1,13 +1,8 @@
--- A bad line after a boot; before it, what `boot` leaves and answers.
-use mathlib.Core.Bool.{true}
-use Rattle.definition.specs.Script.{BootNow}
+-- Before a boot, what `boot` leaves and answers.
 use Rattle.definition.specs.Text.{bytes_of}
 use Rattle.script.specs.Running.{program_board}
-use Rattle.script.proofs.Turning.{does, turned_boot}
+use Rattle.script.proofs.Turning.{turned_boot}
 use Rattle.script.proofs.Run.boot_now.Goals as goal
-
-pub returns-then-self-clause-does : goal.returns-then-self-clause-does
-returns-then-self-clause-does c = does program_board BootNow (bytes_of "boot") true c.if-self.true c.bad.ensures.bad
 
 pub returns-clause-does : goal.returns-clause-does
 returns-clause-does c =

@@ -1,18 +1,10 @@
--- A bad line before a boot; after it, what the call leaves and answers. The loans are sound, so they are ready for it.
-use mathlib.Core.Bool.{false}
+-- The loans are sound, so they are ready for the call, and its line says what it leaves and answers.
 use lib.ListN.{get_or}
-use Rattle.definition.specs.Script.{Ask}
-use Rattle.lines.specs.Reading.{ask_name, call_of}
+use Rattle.lines.specs.Reading.{ask_name}
 use Rattle.script.specs.Running.{program_board}
 use Rattle.script.proofs.Reaching.{sure_leaves, sure_ready}
-use Rattle.script.proofs.Turning.{does, turned_call}
+use Rattle.script.proofs.Turning.{turned_call}
 use Rattle.script.proofs.Run.call_now.Goals as goal
-
-pub returns-then-not-self-clause-does : goal.returns-then-not-self-clause-does
-returns-then-not-self-clause-does c =
-    let a = c.args in
-    let x = Ask (call_of a.op (λ i. get_or a.n i 0)) in
-    does program_board x (ask_name a.op) false c.if-not-self.true c.bad.ensures.bad
 
 pub make-y-requires : goal.make-y-requires
 make-y-requires c =

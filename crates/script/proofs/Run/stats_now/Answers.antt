@@ -1,15 +1,8 @@
--- A bad line before a boot; after it, the report's text. The loans are sound, so the counters are small.
-use mathlib.Core.Bool.{false}
-use Rattle.definition.specs.Calls.{Stats}
-use Rattle.definition.specs.Script.{Ask}
-use Rattle.definition.specs.Text.{bytes_of}
+-- The loans are sound, so the counters are small; the line is the report's text.
 use Rattle.script.specs.Running.{program_board}
 use Rattle.script.proofs.Reaching.{sure_ready}
-use Rattle.script.proofs.Turning.{does, turned_stats}
+use Rattle.script.proofs.Turning.{turned_stats}
 use Rattle.script.proofs.Run.stats_now.Goals as goal
-
-pub returns-then-not-self-clause-does : goal.returns-then-not-self-clause-does
-returns-then-not-self-clause-does c = does program_board (Ask Stats) (bytes_of "stats") false c.if-not-self.true c.bad.ensures.bad
 
 pub stats-report-requires : goal.stats-report-requires
 stats-report-requires c =
