@@ -187,7 +187,8 @@ module _ (lent : Contents) (a : ℕ) (o : MayBe Seen) where
 
     -- the place, which lies in the loan
     pub seen_ends
-        : (len : ℕ) {r : Seen} → place_seen board rows o a len ≡ Ok r → board.page * r.spot.page + a % board.page + len ≤ length lent.memory.now
+        : (len : ℕ) {r : Seen} → place_seen board rows o a len ≡ Ok r
+        → board.page * r.spot.page + a % board.page + len ≤ length lent.memory.now
     seen_ends len {r} e =
         let p = place_found board rows a len o e in
         omega (arith, place_ends lent.table.1 a (page_there r p.0) len p.1, lent.room)

@@ -1,4 +1,5 @@
--- A table is sane in one way at most: no part of the torn sheet's conditions holds in two ways. A struct's ghost field asks that of its fact.
+-- A table is sane in one way at most, as no part of the torn sheet's conditions holds in two ways. A struct's ghost field asks that of
+-- its fact.
 use Rattle.std.specs.Prelude.{ℕ, ◌+◌, List, [], ◌∷◌, refl}
 use native.Mathlib.Nat.{ℕ_set}
 use native.Mathlib.Bridge.{le_prop}

@@ -65,5 +65,6 @@ returns-clause-writes c k q s H =
     let y = c.move_into in
     rw c.raw-2.ensures
     (pcopy_made H a.source.0 a.len _ (c.see.ensures s.allocator (whole_table H)) c.look-to.ensures
-    (both (goal.at.returns-clause-writes c).After-board_in-page) (world k a.lent.now.words.now y.new.lent.records.now y.new.lent.memory.now q)
+    (both (goal.at.returns-clause-writes c).After-board_in-page)
+    (world k a.lent.now.words.now y.new.lent.records.now y.new.lent.memory.now q)
     (λ e. y.ensures.moves k q s H a.source.0 (rw (c.place-from.ensures, c.raw.ensures, c.board_in-page.ensures.0) e)))

@@ -19,4 +19,5 @@ returns-in_err-seen-clause-writes c k q s H =
     c.in_err-seen.field-0.0 c.in_err-seen.was)
 
 pub returns-clause-writes : goal.returns-clause-writes
-returns-clause-writes c k q s H = rw (c.raw.ensures, c.fill.ensures, c.place-at.ensures) (fill_made H c.in_ok-seen.ensures c.mark.ensures.remarked c.args.byte)
+returns-clause-writes c k q s H =
+    rw (c.raw.ensures, c.fill.ensures, c.place-at.ensures) (fill_made H c.in_ok-seen.ensures c.mark.ensures.remarked c.args.byte)
