@@ -45,7 +45,8 @@ pub struct Seen {
     pub level: u32,
 }
 
-// The table of frames, to read, with what the torn test establishes of it.
+// The table of frames, to read, with what the torn test establishes of it. The bars keep of that only that it holds: a ghost field's fact
+// may have one proof at most.
 #[derive(Clone, Copy)]
 pub struct Table<'a> {
     pub words: &'a [u64],

@@ -37,7 +37,8 @@ used c =
 -- what the row of a turn lists, its region does
 lists
     : (c : After-lists_some) → (a : PhysicalFrameAllocator)
-    → Table (board_in c.args.self.now.words.now) (record_at c.args.self.now.records.now) (pages_in c.args.self.now.records.now) (rows_in c.args.self.now.words.now) a
+    → let t = c.args.self.now in
+    Table (board_in t.words.now) (record_at t.records.now) (pages_in t.records.now) (rows_in t.words.now) a
     → lists_in (rank c.args.level) (region_at a.regions c.loop-i.i) ≡ c.lists_some.result
 lists c a T =
     rw (c.lists_some.ensures, c.row_at-row.ensures)

@@ -25,7 +25,8 @@ returns-then-row-eq0 c a T =
 -- the row of a turn
 turn
     : (c : Else-row-eq0)
-    → Here (board_in c.args.self.now.words.now) (pages_in c.args.self.now.records.now) (rows_in c.args.self.now.words.now) c.loop-i.base c.loop-i.i
+    → let t = c.args.self.now in
+    Here (board_in t.words.now) (pages_in t.records.now) (rows_in t.words.now) c.loop-i.base c.loop-i.i
 turn c =
     ∥∥₁_elim c.args.self.now.sane (hlevel props)
     (λ S. here c.loop-i.invariant (fit_in _) S c.loop-i-test.true (rw c.row_at-row.ensures at c.if-row-eq0.false))
