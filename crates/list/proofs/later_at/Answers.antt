@@ -4,9 +4,6 @@ use borrow.Author.Tests.{eq-eqb, ne_eqb}
 use Rattle.list.specs.Linked.{upd_neighbour}
 use Rattle.list.proofs.later_at.Goals as goal
 
-pub set_later-requires : goal.set_later-requires
-set_later-requires c = rw c.in-Some.ensures.1 (c.requires (omega (arith, c.in-Some.ensures)))
-
 pub returns-in-Some : goal.returns-in-Some
 unfolding upd_neighbour
 returns-in-Some c =
