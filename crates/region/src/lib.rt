@@ -214,8 +214,7 @@ impl AllocationRegion<'_> {
     }
 
     // The same where the level has none. It stays out of line, so that the search of one level, with which most grants end, goes into the
-    // caller, and the region's numbers into registers: with a do_allocate that calls itself a grant of a listed frame takes half as long
-    // again.
+    // caller, and the region's numbers into registers: with a do_allocate that calls itself a grant of a listed frame takes twice as long.
     #[cycle(levels)]
     #[inline(never)]
     fn larger(&mut self, level: usize, try_zero: bool, only_zero: bool) -> Option<usize>
