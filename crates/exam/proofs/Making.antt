@@ -14,7 +14,9 @@ use mir.Val.{Fits}
 use lib.Dec.{leb}
 use lib.ListN.{drop, get_or, length, take}
 use Rattle.definition.specs.declared.Counters.{Counters}
+use Rattle.definition.specs.declared.Record.{Record}
 use Rattle.definition.specs.declared.Refusal.{Refusal}
+use Rattle.definition.specs.declared.Row.{Row}
 use Rattle.definition.specs.Board.{Board}
 use Rattle.definition.specs.Boot.{managed_pages, overlap, record_size}
 use Rattle.definition.specs.Contents.{frame_bytes}
@@ -39,13 +41,20 @@ use Rattle.allocator.specs.declared.Seen.{Seen}
 use Rattle.allocator.specs.Spots.{SeesPage, number_at}
 use Rattle.allocator.proofs.Turning.{sees_number}
 use Rattle.exam.specs.Making.{Made, Makes, Ready, Whole, world}
-use Rattle.exam.specs.Promise.{Answer, Leaves, Looks, bytes_if, refusal_in, reply, told}
+use Rattle.exam.specs.Promise.{Answer, HeldSeen, Leaves, Looks, bytes_if, refusal_in, reply, told}
 use Rattle.exam.proofs.Bounds.{idle_small, kernel_small, page_small}
 use Rattle.exam.proofs.Tests.{bytes_seen}
 
 -- what is known of a lent slice's bytes, as a number
 pub bytes_small : (bs : List ℕ) → ((i : ℕ) → Fits w8 (get_or bs i 0)) → (i : ℕ) → get_or bs i 0 < 256
 bytes_small bs fits i = omega (arith, fits i)
+
+-- ---- the frame that a look found
+
+pub looked_held
+    : {board : Board} {f : ℕ → Record} {n : ℕ} {rows : List Row} {a off len : ℕ} {r : Seen} → Looks board f n rows a off len (Ok r)
+    → HeldSeen board f rows r
+looked_held {r = r} L = (L.found r refl).held
 
 -- ---- the door
 

@@ -115,11 +115,6 @@ module _ (board : Board) where
   unfolding perform
   find_performed s a = refl
 
-pub found_held
-    : {board : Board} {f : ℕ → Record} {n : ℕ} {rows : List Row} {a : ℕ} {r : Seen} → Looks board f n rows a 0 0 (Ok r)
-    → HeldSeen board f rows r
-found_held {r = r} L = (L.found r refl).held
-
 module _ {board : Board} {w : World} {s : Store} (H : Whole board w s) {a : ℕ} {e : Refusal}
     (L : Looks board (record_at w.records) (pages_in w.records) w.rows a 0 0 (Err e))
   where

@@ -34,7 +34,7 @@ pub fn find(table: Table, pa: PhysAddr) -> Answer
 // ---- split
 
 // split_frame: a held frame becomes 512 held ones.
-#[tactic(auto, using(crate::proofs::Promised::found_held))]
+#[tactic(auto, using(exam::proofs::Making::looked_held))]
 pub fn split(words: &[u64], records: &mut [u8], pa: PhysAddr) -> Answer
     requires { TableIn words.now records.old }
     ensures { Marks (Split pa.0) words.now records.old records.new result }
@@ -66,7 +66,7 @@ pub fn release(counters: &mut Counters, words: &mut [u64], records: &mut [u8], s
 }
 
 // free_frame, tracker.rs 41.
-#[tactic(auto, using(crate::proofs::Promised::found_held))]
+#[tactic(auto, using(exam::proofs::Making::looked_held))]
 pub fn free(counters: &mut Counters, words: &mut [u64], records: &mut [u8], pa: PhysAddr) -> Answer
     requires table_in { TableIn words.old records.old }
     requires few { Few counters.old }

@@ -32,6 +32,7 @@ use Rattle.allocator.specs.Spots.{number_at}
 use Rattle.allocator.proofs.Turning.{stands_at}
 use Rattle.exam.specs.Making.{LooksIn, RoomIn, TableIn, Whole}
 use Rattle.exam.specs.Promise.{HeldSeen, bytes_if}
+use Rattle.exam.proofs.Making.{looked_held}
 
 -- ---- the frame
 
@@ -121,10 +122,6 @@ module _ {board : Board} where
 
 -- ---- a frame that was looked at, and nothing refused
 
-pub looked_held
-    : (ws rs : List ℕ) {a off len : ℕ} {r : Seen} → LooksIn ws rs a off len (Ok r) → HeldSeen (board_in ws) (record_at rs) (rows_in ws) r
-looked_held ws rs {r = r} L = (L.found r refl).held
-
 -- the range, and the whole frame, end within a memory that has room for every managed page
 module _ (ws rs : List ℕ) {a off len : ℕ} {r : Seen} (T : TableIn ws rs) (L : LooksIn ws rs a off len (Ok r))
     (m : List ℕ) (room : RoomIn ws m)
@@ -134,5 +131,5 @@ module _ (ws rs : List ℕ) {a off len : ℕ} {r : Seen} (T : TableIn ws rs) (L 
 
     pub looked_last : (board_in ws).page * r.spot.page + bytes_if (board_in ws) r ≤ length m
     looked_last =
-        let H = looked_held ws rs L in
+        let H = looked_held L in
         omega (arith, held_ends H T.1 0 (bytes_if (board_in ws) r) (omega (arith, held_size H)), room)

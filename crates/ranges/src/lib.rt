@@ -35,7 +35,7 @@ pub fn mark(words: &[u64], records: &mut [u8], seen: Seen, zeroed: bool)
 // ---- contents
 
 // Frame::zero, frame.rs 430.
-#[tactic(auto, using(crate::proofs::Held::looked_held, crate::proofs::Held::looked_ends, crate::proofs::Held::looked_last))]
+#[tactic(auto, using(exam::proofs::Making::looked_held, crate::proofs::Held::looked_ends, crate::proofs::Held::looked_last))]
 pub fn zero(lent: &mut Contents<'_>, pa: PhysAddr) -> Answer
     ensures same { Same lent.old lent.new }
     ensures writes { WritesIn (Zero pa.0) lent.old lent.new result }
@@ -52,7 +52,7 @@ pub fn zero(lent: &mut Contents<'_>, pa: PhysAddr) -> Answer
 }
 
 // Frame::set_not_zero, frame.rs 443.
-#[tactic(auto, using(crate::proofs::Held::looked_held))]
+#[tactic(auto, using(exam::proofs::Making::looked_held))]
 pub fn dirty(words: &[u64], records: &mut [u8], pa: PhysAddr) -> Answer
     requires { TableIn words.now records.old }
     ensures { Marks (Dirty pa.0) words.now records.old records.new result }
@@ -67,7 +67,7 @@ pub fn dirty(words: &[u64], records: &mut [u8], pa: PhysAddr) -> Answer
 }
 
 // 01: `len` bytes of a frame, from `offset` on, become `byte`.
-#[tactic(auto, using(crate::proofs::Held::looked_held, crate::proofs::Held::looked_ends))]
+#[tactic(auto, using(exam::proofs::Making::looked_held, crate::proofs::Held::looked_ends))]
 pub fn fill(lent: &mut Contents<'_>, pa: PhysAddr, offset: u64, len: u64, byte: u8) -> Answer
     ensures same { Same lent.old lent.new }
     ensures writes { WritesIn (Fill pa.0 offset len byte) lent.old lent.new result }
@@ -83,7 +83,7 @@ pub fn fill(lent: &mut Contents<'_>, pa: PhysAddr, offset: u64, len: u64, byte: 
 }
 
 // 01: the bytes of a frame, from `offset` on, become `bytes`.
-#[tactic(auto, using(crate::proofs::Held::looked_held, crate::proofs::Held::looked_ends))]
+#[tactic(auto, using(exam::proofs::Making::looked_held, crate::proofs::Held::looked_ends))]
 pub fn write(lent: &mut Contents<'_>, pa: PhysAddr, offset: u64, bytes: &[u8]) -> Answer
     ensures same { Same lent.old lent.new }
     ensures writes { WritesIn (Write pa.0 offset bytes.now) lent.old lent.new result }
