@@ -14,7 +14,6 @@ mod loans;
 use address::PhysAddr;
 use allocator::{Seen, Table};
 use definition::{Board, Refusal};
-
 pub use lending::Contents;
 pub use loans::Loans;
 
