@@ -1,9 +1,10 @@
--- What the calls that answer by bytes promise at the door, from what they promise of every store: `Reports` of the statistics, `Finds` and
--- `Lends` of a read.
+-- What the calls that answer by bytes promise at the door, from what they promise of every store: `Reports` of the statistics, `Finds`,
+-- `LendsIf` and `Lends` of a read.
 use Prim.Native.Nat.{ℕ, ◌≤◌}
-use mathlib.Core.List.{List}
+use mathlib.Core.List.{List, []}
 use mathlib.Core.Path.{◌≡◌, refl, sym, ap, ◌∙◌}
 use Rattle.std.specs.Prelude.{Result, Ok, Err, ⊤}
+use Rattle.std.proofs.Math.Option.{some}
 use native.Mathlib.Omega.{arith}
 use lib.ListN.{drop, take}
 use Rattle.definition.specs.declared.Counters.{Counters}
@@ -14,13 +15,14 @@ use Rattle.definition.specs.World.{World, decode}
 use Rattle.definition.specs.Torn.{call}
 use Rattle.words.specs.Words.{board_in}
 use Rattle.exam.specs.Making.{Tests, world}
-use Rattle.exam.specs.Promise.{refusal_in}
+use Rattle.exam.specs.Promise.{Answer, refusal_in, told}
 use Rattle.exam.proofs.Making.{sound_whole}
 use Rattle.copies.specs.Copies.{FindsIn}
+use Rattle.copies.proofs.Reading.{refused_bytes}
 use Rattle.counts.specs.declared.Report.{Report}
 use Rattle.counts.specs.Counting.{Reports as Reported}
 use Rattle.counts.proofs.Recounted.{stats_text}
-use Rattle.door.specs.Tested.{Finds, Lends, Reports}
+use Rattle.door.specs.Tested.{Finds, Lends, LendsIf, Reports}
 use Rattle.door.proofs.Testing.{leaves_passed, leaves_torn, passed}
 
 module _ {k : Counters} {ws rs m q : List ℕ} where
@@ -75,11 +77,23 @@ module _ {k : Counters} {ws rs m q : List ℕ} where
 
 -- ---- the part that is lent
 
-module _ {board : Board} {w : World} {c : Call} {n : ℕ} where
-  pub lends_part : {at : ℕ} → Finds board w c n (Ok at) → Lends board w c (Ok (take n (drop at w.memory)))
-  lends_part {at} F =
+told_err : (y : Answer) (r : Refusal) → some r ≡ refusal_in y → y ≡ Err r
+told_err (Ok a) r e = absurd (grind arith)
+told_err (Err t) r e = grind arith
+
+module _ {board : Board} {w : World} {c : Call} where
+  pub lends_part : {n at : ℕ} → Finds board w c n (Ok at) → LendsIf board w c (Ok (take n (drop at w.memory)))
+  lends_part {n} {at} F =
       record {
         world = F.world;
         refusal = ap refusal_in (sym F.answer);
         bytes = λ bs e. let same : take n (drop at w.memory) ≡ bs = grind arith in sym same ∙ F.bytes at refl;
       }
+
+  pub lends_all : {bs : List ℕ} → LendsIf board w c (Ok bs) → Lends board w c bs
+  lends_all {bs} L = record { world = L.world; bytes = L.bytes bs refl }
+
+  pub lends_none : {r : Refusal} → LendsIf board w c (Err r) → Lends board w c []
+  lends_none {r} L =
+      let y = (call board w c).answer in
+      record { world = L.world; bytes = sym (refused_bytes y r (told_err (told y) r L.refusal)) }

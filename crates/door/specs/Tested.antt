@@ -1,5 +1,5 @@
--- What the calls that answer by bytes promise at the door, beside `Leaves`: `Finds` and `Lends` of a read, whose answer is a part of the
--- lent memory, and `Reports` of the statistics.
+-- What the calls that answer by bytes promise at the door, beside `Leaves`: `Finds`, `LendsIf` and `Lends` of a read, whose answer is a
+-- part of the lent memory, and `Reports` of the statistics.
 use Rattle.std.specs.Prelude.{ℕ, ◌+◌, ◌≤◌, List, Result, Ok, Err, ◌≡◌, length, take, drop}
 use Rattle.std.proofs.Common.{Bor}
 use Rattle.definition.specs.declared.Refusal.{Refusal}
@@ -31,10 +31,15 @@ module _ (board : Board) where
     pub bytes : (at : ℕ) → x ≡ Ok at → take n (drop at w.memory) ≡ bytes_of (call board w c).answer
 
   -- the call leaves the world, and these are the bytes of its answer, or its refusal
-  pub record Lends (w : World) (c : Call) (x : Result (List ℕ) Refusal) : Type 0 where
+  pub record LendsIf (w : World) (c : Call) (x : Result (List ℕ) Refusal) : Type 0 where
     pub world : (call board w c).world ≡ w
     pub refusal : refusal_in x ≡ refusal_in (told (call board w c).answer)
     pub bytes : (bs : List ℕ) → x ≡ Ok bs → bs ≡ bytes_of (call board w c).answer
+
+  -- the call leaves the world, and bs are the bytes of its answer, none where it is refused
+  pub record Lends (w : World) (c : Call) (bs : List ℕ) : Type 0 where
+    pub world : (call board w c).world ≡ w
+    pub bytes : bs ≡ bytes_of (call board w c).answer
 
   -- the statistics leave the world as it is, and the report has the length and the bytes of `call`'s answer, or they are refused as it
   pub record Reports (w : World) (x : Result Report Refusal) : Type 0 where

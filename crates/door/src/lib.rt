@@ -10,7 +10,7 @@ ghost use Rattle.exam.specs.Promise.{Leaves};
 ghost use Rattle.exam.specs.Making.{world};
 ghost use Rattle.exam.specs.Lent.{world_lent};
 ghost use Rattle.lines.specs.Reading.{call_of};
-ghost use Rattle.door.specs.Tested.{Finds, Lends, Reports, lent};
+ghost use Rattle.door.specs.Tested.{Finds, Lends, LendsIf, Reports, lent};
 
 use address::PhysAddr;
 use allocator::Table;
@@ -172,11 +172,27 @@ pub fn read_place(loans: &Loans, pa: PhysAddr, offset: u64, len: u64) -> Result<
 
 // 01, "Added `read`": the part of the lent memory that starts at the frame's offset.
 #[tactic(auto, using(crate::proofs::Reporting::lends_part))]
-pub fn read<'a>(loans: &Loans<'a>, pa: PhysAddr, offset: u64, len: u64) -> Result<&'a [u8], Refusal>
-    ensures { Lends (board_in loans.now.words.now) (world_lent loans.now) (Read pa.0 offset len) (lent result) }
+pub fn try_read<'a>(
+    loans: &Loans<'a>,
+    pa: PhysAddr,
+    offset: u64,
+    len: u64,
+) -> Result<&'a [u8], Refusal>
+    ensures { LendsIf (board_in loans.now.words.now) (world_lent loans.now) (Read pa.0 offset len) (lent result) }
 {
     let at = read_place(loans, pa, offset, len)?;
     Ok(contents::part(loans.memory, at, len as usize))
+}
+
+// The same for callers that need not know the refusal: the empty part where there is one.
+#[tactic(auto, using(crate::proofs::Reporting::lends_all, crate::proofs::Reporting::lends_none))]
+pub fn read<'a>(loans: &Loans<'a>, pa: PhysAddr, offset: u64, len: u64) -> &'a [u8]
+    ensures { Lends (board_in loans.now.words.now) (world_lent loans.now) (Read pa.0 offset len) result.now }
+{
+    match try_read(loans, pa, offset, len) {
+        Ok(part) => part,
+        Err(_) => &[],
+    }
 }
 
 // The statistics.
