@@ -9,9 +9,6 @@ use Rattle.allocator.proofs.Arrays.{any_on, any_off, range_at, range_past}
 use Rattle.allocator.proofs.Listing.{counted_at}
 use Rattle.allocator.proofs.lists_some.Goals as goal
 
-pub loop-k-init : goal.loop-k-init
-loop-k-init c = rw c.index-k.ensures
-
 pub returns-then-row-k-ne0 : goal.returns-then-row-k-ne0
 returns-then-row-k-ne0 c =
     let l = c.loop-k in

@@ -26,9 +26,6 @@ pub loop-i-init : goal.loop-i-init
 loop-i-init c =
     record { rows = refl; rest = rows_beside_same; wide = refl; long = refl; gone = gone_none c.requires.1 (rank_below c.args.level) }
 
-pub pages_at-pages-requires : goal.pages_at-pages-requires
-pages_at-pages-requires c = (omega (arith, c.requires.0, c.loop-i.invariant.wide), omega arith)
-
 -- the pages of a turn's row, by the words that were given
 pages_are : (c : After-pages_at-pages) → c.pages_at-pages.result ≡ (row_at (rows_in c.args.words.now) c.loop-i.i).pages
 pages_are c = rw c.loop-i.invariant.rows at c.pages_at-pages.ensures

@@ -6,22 +6,6 @@ use Rattle.region.proofs.Lending.{both_lent}
 use Rattle.leaves.proofs.grant_all.Invariants.{Inv}
 use Rattle.leaves.proofs.grant_all.Goals as goal
 
-pub loop-i-init : goal.loop-i-init
-loop-i-init c =
-    let p = c.requires in
-    record {
-      used = p.sound_at.0;
-      sound = p.sound_at.1;
-      whole = p.whole_at;
-    }
-
-pub allocate-requires : goal.allocate-requires
-allocate-requires c =
-    let v = c.loop-i.invariant in record {
-      sound_in = (v.used, v.sound);
-      whole_in = v.whole;
-    }
-
 pub loop-i-preserved : goal.loop-i-preserved
 loop-i-preserved c =
     let d = c.allocate.ensures in

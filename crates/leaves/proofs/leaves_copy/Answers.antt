@@ -1,6 +1,5 @@
 -- Each turn copies within the bytes that the last left, which are as many.
-use mathlib.Core.Path.{◌≡◌, refl, sym}
-use native.Mathlib.Omega.{arith}
+use mathlib.Core.Path.{refl, sym}
 use native.Mathlib.Numerals.{add-one}
 use Rattle.std.proofs.lemmas.Bool.{leb-true}
 use Rattle.leaves.specs.Contents.{copied}
@@ -18,6 +17,3 @@ pub loop-preserved : goal.loop-preserved
 unfolding copied
 loop-preserved c =
     let v = c.loop.invariant in (v.0, v.1, rw (c.copy.ensures, v.2, add-one) refl)
-
-pub returns-clause-memory_after : goal.returns-clause-memory_after
-returns-clause-memory_after c = let t : c.loop.counter ≡ c.args.times = omega arith in rw t at c.loop.invariant.2

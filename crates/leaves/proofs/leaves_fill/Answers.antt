@@ -1,6 +1,5 @@
 -- Each turn fills the bytes that the last left, which are as many.
-use mathlib.Core.Path.{◌≡◌, refl, sym}
-use native.Mathlib.Omega.{arith}
+use mathlib.Core.Path.{refl, sym}
 use native.Mathlib.Numerals.{add-one}
 use Rattle.std.proofs.lemmas.Bool.{leb-true}
 use Rattle.leaves.specs.Contents.{filled}
@@ -17,6 +16,3 @@ loop-i-init c = (leb-true _ _ (sym c.if-not-lies.ensures), refl)
 pub loop-i-preserved : goal.loop-i-preserved
 unfolding filled
 loop-i-preserved c = (c.loop-i.invariant.0, rw (c.fill.ensures, c.loop-i.invariant.1, add-one) refl)
-
-pub returns-clause-memory_after : goal.returns-clause-memory_after
-returns-clause-memory_after c = let t : c.loop-i.i ≡ c.args.times = omega arith in rw t at c.loop-i.invariant.1

@@ -9,9 +9,6 @@ use Rattle.exam.proofs.Making.{looked_refused}
 use Rattle.ranges.proofs.Marking.{write_made}
 use Rattle.ranges.proofs.write.Goals as goal
 
-pub invariant_of-lent-clause-room : goal.invariant_of-lent-clause-room
-invariant_of-lent-clause-room c = rw c.write.auto.memory c.args.lent.now.room
-
 pub returns-in_err-seen-clause-writes : goal.returns-in_err-seen-clause-writes
 returns-in_err-seen-clause-writes c k q s H =
     let a = c.args in

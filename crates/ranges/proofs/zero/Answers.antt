@@ -7,9 +7,6 @@ use Rattle.exam.proofs.Making.{looked_refused}
 use Rattle.ranges.proofs.Marking.{zero_made}
 use Rattle.ranges.proofs.zero.Goals as goal
 
-pub invariant_of-lent-clause-room : goal.invariant_of-lent-clause-room
-invariant_of-lent-clause-room c = rw c.fill.auto.memory c.args.lent.now.room
-
 pub returns-in_err-frame-clause-writes : goal.returns-in_err-frame-clause-writes
 returns-in_err-frame-clause-writes c k q s H =
     let a = c.args in

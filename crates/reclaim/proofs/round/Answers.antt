@@ -59,9 +59,6 @@ frees_here x = rw x.board_in-board.ensures.0 at x.reclaim_up_to-freed.ensures.re
 words_here : (x : After-reclaim_up_to-freed) → Long x.reclaim_up_to-freed.new.words
 words_here x = omega (arith, x.requires.table_in.0, x.reclaim_up_to-freed.auto.words)
 
-pub should_reclaim-requires : goal.should_reclaim-requires
-should_reclaim-requires c = c.board_in-board.ensures.1
-
 pub returns-then-not-should_reclaim : goal.returns-then-not-should_reclaim
 returns-then-not-should_reclaim c =
     let y = c.end_pass in
@@ -74,13 +71,6 @@ returns-then-not-should_reclaim c =
           y.result
           (rw c.pass_in-before.ensures at y.ensures.ends_pass);
       beside = y.ensures.beside;
-    }
-
-pub reclaim_up_to-freed-requires : goal.reclaim_up_to-freed-requires
-reclaim_up_to-freed-requires c =
-    record {
-      table_in = c.requires.table_in;
-      words_in_bounds = (c.requires.pass_in.queued, omega (arith, c.requires.few.idle), c.board_in-board.ensures.1.frees_most);
     }
 
 pub overflow_add-pass : goal.overflow_add-pass
@@ -97,9 +87,6 @@ overflow_add-pass-2 c =
           c.requires.pass_in.queued
           (frees_here (goal.at.overflow_add-pass-2 c).After-reclaim_up_to-freed),
     )
-
-pub end_pass-requires-then-board-before : goal.end_pass-requires-then-board-before
-end_pass-requires-then-board-before c = words_here (goal.at.end_pass-requires-then-board-before c).After-reclaim_up_to-freed
 
 pub returns-then-board-before : goal.returns-then-board-before
 returns-then-board-before c =
@@ -124,9 +111,6 @@ returns-then-board-before c =
           (rw c.pass_in-before.ensures at y.ensures.ends_pass);
       beside = beside_then x.ensures.beside y.ensures.beside;
     }
-
-pub put_pass-requires : goal.put_pass-requires
-put_pass-requires c = words_here (goal.at.put_pass-requires c).After-reclaim_up_to-freed
 
 pub returns : goal.returns
 returns c =

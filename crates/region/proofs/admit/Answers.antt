@@ -15,10 +15,3 @@ push_back-requires c =
       out = rw (linked_pages L) c.requires.out;
       page_bound_2 = c.requires.page_bound;
     }
-
-pub returns : goal.returns
-returns c =
-    let d = c.store in
-    let l = c.level_word-word in
-    let m = c.free_marks-marks in
-    rw (d.ensures.records, l.ensures, m.ensures) at c.push_back.ensures

@@ -4,23 +4,9 @@ use mathlib.Core.Path.{sym}
 use native.Mathlib.Decide.{dec_le}
 use native.Mathlib.Omega.{arith}
 use Rattle.std.proofs.lemmas.Bool.Decides.{nat_tests}
-use Rattle.region.proofs.Addresses.{lookup_below, lookup_past, lookup_in, lookup_fits, number_few, page_some, tables_few}
+use Rattle.region.proofs.Addresses.{lookup_below, lookup_past, lookup_in, lookup_fits}
 use Rattle.region.proofs.get_frame.Goals as goal
 use Rattle.region.proofs.get_frame.Goals.{Else-not-contains, Then-not-contains}
-
-pub page_number-number-requires : goal.page_number-number-requires
-page_number-number-requires c = page_some c.requires.fit
-
-pub page_number-start-requires : goal.page_number-start-requires
-page_number-start-requires c = page_some c.requires.fit
-
-pub overflow_add-from : goal.overflow_add-from
-overflow_add-from c =
-    omega (arith, c.page_number-start.ensures, c.table_pages.ensures, number_few c.requires.fit c.args.row.start.0 (omega arith), tables_few c.requires.fit c.args.row.pages c.requires.pages_bound.0)
-
-pub overflow_add-start : goal.overflow_add-start
-overflow_add-start c =
-    omega (arith, c.page_number-start.ensures, number_few c.requires.fit c.args.row.start.0 (omega arith), c.requires.pages_bound.0)
 
 -- the page frame number is one that the region manages
 within

@@ -2,20 +2,13 @@
 use mathlib.Core.Path.{refl}
 use native.Mathlib.Omega.{arith}
 use Rattle.definition.specs.World.{record_at}
-use Rattle.region.proofs.Addresses.{number_few, page_some}
+use Rattle.region.proofs.Addresses.{number_few}
 use Rattle.region.proofs.Beginning.{count_is, begins_at, ends_low, blank_sound, blank, begun}
 use Rattle.region.proofs.new.Goals as goal
 
 pub clear-requires : goal.clear-requires
 clear-requires c =
     rw (count_is c.args.board c.args.start c.args.pages c.table_pages-tables.ensures) c.requires.pages_bound_2.1
-
-pub page_number-requires : goal.page_number-requires
-page_number-requires c = page_some c.requires.fit
-
-pub overflow_add-page_number : goal.overflow_add-page_number
-overflow_add-page_number c =
-    omega (arith, c.page_number.ensures, c.table_pages-tables.ensures, number_few c.requires.fit c.args.start.0 (omega arith), c.requires.pages_bound)
 
 pub organize-requires : goal.organize-requires
 organize-requires c =

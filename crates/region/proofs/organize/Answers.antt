@@ -1,12 +1,8 @@
 -- The loop has laid out the pages below `at`; the rest is laid out as the definition would from there.
-use mathlib.Core.Path.{refl}
 use native.Mathlib.Omega.{arith}
 use Rattle.level.proofs.Sizes.{size_positive}
-use Rattle.region.proofs.Laying.{best, laid_none, laid_asks, laid_step, laid_done}
+use Rattle.region.proofs.Laying.{best, laid_asks, laid_step, laid_done}
 use Rattle.region.proofs.organize.Goals as goal
-
-pub loop-at-init : goal.loop-at-init
-loop-at-init c = record { some = omega arith; same = refl; laid = laid_none _ _ c.requires.sound_row c.requires.count_value.0 c.requires.blank }
 
 pub push-r-requires : goal.push-r-requires
 push-r-requires c =

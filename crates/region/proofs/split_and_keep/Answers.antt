@@ -11,13 +11,9 @@ use Rattle.region.specs.Rep.{Inside, Splits, state_of}
 use Rattle.region.proofs.Laws.{stays}
 use Rattle.region.proofs.Splitting.{child_inside}
 use Rattle.region.proofs.Holding.{held_frame_lem, keep_same, keep_splits, keep_last, keep_whole, many_from, many_next}
-use Rattle.region.proofs.Freeing.{held_page}
 use Rattle.region.proofs.Keeping.{row_whole}
 use Rattle.region.proofs.split_and_keep.Goals as goal
 use Rattle.region.proofs.split_and_keep.Goals.{Else-old-eq0, In-loop-i}
-
-pub load-r-requires : goal.load-r-requires
-load-r-requires c = held_page c.requires.sound_row c.requires.held
 
 pub returns-then-old-eq0 : goal.returns-then-old-eq0
 returns-then-old-eq0 c =

@@ -1,18 +1,8 @@
 -- The page frame number of a page of the region, times the page size.
 use mathlib.Core.Path.{refl}
 use native.Mathlib.Omega.{arith}
-use Rattle.region.proofs.Addresses.{address_ends, from_is, number_ends, number_few, page_some, pages_few, tables_few}
+use Rattle.region.proofs.Addresses.{address_ends, from_is, number_ends, number_few, pages_few, tables_few}
 use Rattle.region.proofs.start_address.Goals as goal
-
-pub page_number-start-requires : goal.page_number-start-requires
-page_number-start-requires c = page_some c.requires.fit
-
-pub table_pages-requires : goal.table_pages-requires
-table_pages-requires c =
-    record {
-      fit = c.requires.fit;
-      pages_bound = omega (arith, pages_few c.requires.fit _ c.args.row.pages c.requires.pages_bound);
-    }
 
 pub overflow_add-from : goal.overflow_add-from
 overflow_add-from c =

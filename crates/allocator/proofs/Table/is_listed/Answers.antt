@@ -13,13 +13,10 @@ use Rattle.record.specs.Records.{pages_in}
 use Rattle.words.specs.Words.{board_in, rows_in}
 use Rattle.world.specs.Stands.{region_at}
 use Rattle.world.specs.Tables.{Table}
-use Rattle.allocator.proofs.Arrays.{onward_none, onward_row, onward_found, onward_end, row_used, row_last, row_eighth, region_stands}
+use Rattle.allocator.proofs.Arrays.{onward_row, onward_found, onward_end, row_used, row_last, row_eighth, region_stands}
 use Rattle.allocator.proofs.Listing.{lists_in, lists_same}
 use Rattle.allocator.proofs.Table.is_listed.Goals as goal
 use Rattle.allocator.proofs.Table.is_listed.Goals.{After-lists_some, Else-row-eq0}
-
-pub loop-i-init : goal.loop-i-init
-loop-i-init c = onward_none
 
 pub returns-then-row-eq0 : goal.returns-then-row-eq0
 unfolding is_listed

@@ -36,9 +36,6 @@ granted c =
     grants c.args.try_zero c.args.only_zero c.requires.sound_in.1 c.requires.whole_in (rank_below c.args.level)
     (rw c.index.ensures at (c.do_allocate.ensures.seeks_by c.args.board c.requires.sound_in c.requires.whole_in)).0 c.in_ok-page.was
 
-pub do_allocate-requires : goal.do_allocate-requires
-do_allocate-requires c = (c.args.board, c.requires.sound_in, c.requires.whole_in)
-
 pub returns-in_err-page : goal.returns-in_err-page
 returns-in_err-page c =
     let d = c.do_allocate.ensures in
