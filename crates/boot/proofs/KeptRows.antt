@@ -12,11 +12,7 @@ use lib.Seq.{append_snoc, take-append_seam, drop-append_seam, set-append_seam, t
 use Rattle.std.specs.Prelude.{Option, Some, None}
 use Rattle.std.proofs.lemmas.Option.{same_Some}
 use Rattle.std.specs.List.{list_any}
-use mir.Val.{Val}
-use denote.Laws.{Is}
-use denote.Array.{Array}
 use Rattle.definition.specs.declared.MemoryRegion.{MemoryRegion}
-use Rattle.definition.specs.contracts.MemoryRegion as M
 use Rattle.definition.specs.declared.MemoryRegionKind.TheVariants.{UsableRam}
 use Rattle.definition.specs.declared.Row.{Row}
 use Rattle.definition.specs.Board.{Board}
@@ -42,10 +38,6 @@ neither false b e = (refl, e)
 -- a map of at most eight entries is in the array, all of it
 pub mapped_all : (map : List MemoryRegion) (count : ℕ) (ms : List MemoryRegion) → Mapped map count ms → count ≤ 8 → take count map ≡ ms
 mapped_all map count ms M h = sym M.front ∙ take_all 8 ms (omega (arith, M.long))
-
--- the array has eight
-pub map_eight : (map : List MemoryRegion) (vs : List Val) → Is (Array M.the_row 8) map vs → length map ≡ 8
-map_eight map vs p = p.1.0.1
 
 -- what a place past the end reads as
 abbrev pub no_entry : MemoryRegion

@@ -29,6 +29,13 @@ use exam::{Answer, Reply};
 
 // ---- the entries of a map
 
+// The first eight entries of a map, and how many it has, which may be more.
+#[derive(Clone, Copy)]
+pub struct Gathered {
+    pub map: [MemoryRegion; 8],
+    pub count: usize,
+}
+
 fn is_usable(kind: MemoryRegionKind) -> bool
     ensures { result ≡ is_usable kind }
 {
@@ -116,21 +123,20 @@ fn admit_rows(board: Board, rows: &[Row], records: usize, memory: usize) -> Resu
     Ok(())
 }
 
-// 1 to 5: the rows that a map of `count` entries keeps, of which the first eight are given; of a longer one none is read.
+// 1 to 5: the rows that a map keeps; of one that is longer than eight entries none is read.
 pub fn admit_map(
     board: Board,
-    map: [MemoryRegion; 8],
-    count: usize,
+    map: &Gathered,
     records: usize,
     memory: usize,
 ) -> Result<Kept, Refusal>
     requires { Fit board }
-    ensures { Admits board map count records memory result }
+    ensures { Admits board map.now.map map.now.count records memory result }
 {
-    if 8 < count {
+    if 8 < map.count {
         return Err(Refusal::LongMap);
     }
-    let entries = &map[..count];
+    let entries = &map.map[..map.count];
     if any_far(entries) {
         return Err(Refusal::FarAddress);
     }
@@ -173,26 +179,25 @@ pub fn started(pages: usize) -> Counters
     }
 }
 
-// init, frame.rs 707: the store that a map of `count` entries makes, of which `map` has the first eight. The memory's bytes stay. Nothing
-// of the words is read, so that the board is the caller's to give.
+// init, frame.rs 707: the store that a map makes. The memory's bytes stay. Nothing of the words is read, so that the board is the caller's
+// to give.
 pub fn boot(
     board: Board,
     counters: &mut Counters,
     words: &mut [u64],
-    map: [MemoryRegion; 8],
-    count: usize,
+    map: &Gathered,
     records: &mut [u8],
     memory: &[u8],
     queue: &[u64],
 ) -> Answer
     requires fit { Fit board }
     requires long { Long words.old }
-    ensures boots_all { BootsAll board map count
+    ensures boots_all { BootsAll board map.now.map map.now.count
         (world_of (state_with counters.old words.old) records.old memory.now queue.now)
         (world_of (state_with counters.new words.new) records.new memory.now queue.now) result }
     ensures boots_over { BootsOver words.old words.new result }
 {
-    let Kept { mut rows, used } = admit_map(board, map, count, records.len(), memory.len())?;
+    let Kept { mut rows, used } = admit_map(board, map, records.len(), memory.len())?;
     let in_use = &mut rows[..used];
     let pages = audit::total_pages(board, in_use);
     let managed = audit::managed_pages(board, in_use);

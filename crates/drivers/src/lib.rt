@@ -11,6 +11,7 @@ ghost use Rattle.exam.specs.Making.{world};
 ghost use Rattle.drivers.specs.Driving.{Drives, address_in, booted_world, grant_and_free, held, on_frame, plain, to_second, turn, turns};
 
 use address::PhysAddr;
+use boot::Gathered;
 use definition::{Counters, FrameAllocFlags, MemoryRegion, MemoryRegionKind};
 use exam::{Answer, Contents, Loans};
 
@@ -32,15 +33,18 @@ fn booted(
         length: 0,
         kind: MemoryRegionKind::Reserved,
     };
-    let mut map = [unused; 8];
-    map[0] = MemoryRegion {
+    let mut map = Gathered {
+        map: [unused; 8],
+        count: 1,
+    };
+    map.map[0] = MemoryRegion {
         start: PhysAddr::new(start),
         length: bytes,
         kind: MemoryRegionKind::UsableRam,
     };
     let board = definition::standard();
     let mut counters = boot::started(0);
-    let _ = boot::boot(board, &mut counters, words, map, 1, records, memory, queue);
+    let _ = boot::boot(board, &mut counters, words, &map, records, memory, queue);
     counters
 }
 

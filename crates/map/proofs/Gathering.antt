@@ -10,7 +10,7 @@ use lib.Dec.{ltb}
 use lib.ListN.{length, get_or, take, set, replicate, length-append, length-set, get_or-eq_default}
 use lib.Seq.{ext_get_or, get_or-set_other, get_or-set_same, get_or-take, length-take-le, take-nil}
 use Rattle.definition.specs.declared.MemoryRegion.{MemoryRegion}
-use Rattle.map.specs.declared.Gathered.{Gathered}
+use Rattle.boot.specs.declared.Gathered.{Gathered}
 use Rattle.map.specs.Lending.{no_region, gathered}
 
 -- ---- a list with unused entries behind it

@@ -10,7 +10,7 @@ use lib.Dec.{ltb}
 use lib.ListN.{length, get_or, take, set, replicate, length-set, length-take, get_or-eq_default, get_or-replicate}
 use lib.Seq.{ext_get_or, get_or-set_other, get_or-take, take-suc-set}
 use Rattle.definition.specs.declared.MemoryRegion.{MemoryRegion}
-use Rattle.map.specs.declared.Gathered.{Gathered}
+use Rattle.boot.specs.declared.Gathered.{Gathered}
 use Rattle.map.specs.Lending.{no_region, gathered}
 use Rattle.map.proofs.Gathering.{gathered_at, gathered_long}
 

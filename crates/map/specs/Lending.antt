@@ -2,7 +2,7 @@
 use Rattle.std.specs.Prelude.{List, ◌++◌, length, take, replicate}
 use Rattle.definition.specs.declared.MemoryRegion.{MemoryRegion}
 use Rattle.definition.specs.declared.MemoryRegionKind.TheVariants.{Reserved}
-use Rattle.map.specs.declared.Gathered.{Gathered}
+use Rattle.boot.specs.declared.Gathered.{Gathered}
 
 abbrev pub no_region : MemoryRegion
 no_region = record { start = record { 0 = 0 }; length = 0; kind = Reserved }

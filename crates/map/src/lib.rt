@@ -11,15 +11,9 @@ ghost use Rattle.boot.specs.Booting.{Boots, BootsOver};
 ghost use Rattle.map.specs.Lending.{no_region, gathered};
 
 use address::PhysAddr;
+pub use boot::Gathered;
 use definition::{Board, Counters, MemoryRegion, MemoryRegionKind};
 use exam::Answer;
-
-// The first eight entries of a map, and how many it has.
-#[derive(Clone, Copy)]
-pub struct Gathered {
-    pub map: [MemoryRegion; 8],
-    pub count: usize,
-}
 
 // Of `count` entries `entry` reads the one at a place, wherever it stands. Past the eighth and past the last nothing is read.
 pub fn gather<F: Fn(usize) -> MemoryRegion>(count: usize, entry: F) -> Gathered
@@ -57,7 +51,5 @@ pub fn boot_map(
         × BootsOver words.old words.new result }
 {
     let g = gather(map.len(), |i| map[i]);
-    boot::boot(
-        board, counters, words, g.map, g.count, records, memory, queue,
-    )
+    boot::boot(board, counters, words, &g, records, memory, queue)
 }

@@ -9,8 +9,8 @@ use Rattle.script.specs.Running.{Running}
 abbrev pub running_of : Run → Running
 running_of r =
     record {
-      map = r.running.now.map;
-      count = r.running.now.count;
+      map = r.running.now.gathered.map;
+      count = r.running.now.gathered.count;
       booted = r.running.now.booted;
       state = state_with r.running.now.counters r.words.now;
       loans = record { records = r.records.now; memory = r.memory.now; queue = r.queue.now };

@@ -26,6 +26,7 @@ ghost use Rattle.script.specs.Running.{
 };
 
 use address::PhysAddr;
+use boot::Gathered;
 use definition::{Counters, MemoryRegion, MemoryRegionKind, Refusal};
 use exam::Answer;
 use lines::{Ask, Op};
@@ -96,12 +97,11 @@ fn put_line(out: &mut [u8], at: usize, op: Op, y: Answer) -> usize
 
 // ---- what is kept
 
-// What is kept from line to line beside the loans and the words: the first eight entries of the map and how many were read, whether a boot
-// was accepted, and the store's counters.
+// What is kept from line to line beside the loans and the words: what was read of the map, whether a boot was accepted, and the store's
+// counters.
 #[derive(Clone, Copy)]
 pub struct Running {
-    pub map: [MemoryRegion; 8],
-    pub count: usize,
+    pub gathered: Gathered,
     pub booted: bool,
     pub counters: Counters,
 }
@@ -161,7 +161,7 @@ impl<'a> Run<'a> {
 
     // An entry more of the map, which prints nothing.
     fn region(&mut self, n: [u64; 5])
-        requires { (self.old.at + 512 ≤ length self.old.answer.now) × (self.old.running.now.count + 1 < 2 ^ 64) }
+        requires { (self.old.at + 512 ≤ length self.old.answer.now) × (self.old.running.now.gathered.count + 1 < 2 ^ 64) }
         ensures same { Same self.old self.new }
         ensures does { Does program_board (AddRegion (entry_of (λ i. get_or n i 0))) (name_of (Op.Region))
             (running_of self.old) (running_of self.new) }
@@ -175,9 +175,9 @@ impl<'a> Run<'a> {
             length: n[1] as usize,
             kind: MemoryRegionKind::from(n[2]),
         };
-        let running = &mut *self.running;
-        enter(&mut running.map, running.count, entry);
-        running.count += 1;
+        let gathered = &mut self.running.gathered;
+        enter(&mut gathered.map, gathered.count, entry);
+        gathered.count += 1;
     }
 
     fn boot_now(&mut self)
@@ -197,8 +197,7 @@ impl<'a> Run<'a> {
             board,
             &mut running.counters,
             self.words,
-            running.map,
-            running.count,
+            &running.gathered,
             self.records,
             memory,
             queue,
@@ -253,7 +252,7 @@ impl<'a> Run<'a> {
     // One line: read, done and answered.
     fn take_turn(&mut self, line: &[u8])
         requires sure { Sure program_board (running_of self.old) }
-        requires at_in_bounds { (self.old.at + 512 ≤ length self.old.answer.now) × (self.old.running.now.count + 1 < 2 ^ 64) }
+        requires at_in_bounds { (self.old.at + 512 ≤ length self.old.answer.now) × (self.old.running.now.gathered.count + 1 < 2 ^ 64) }
         ensures same { Same self.old self.new }
         ensures turns { Turns program_board (running_of self.old) line.now (running_of self.new) }
         ensures bounded { Bounded (running_of self.old) (running_of self.new) }
@@ -305,8 +304,10 @@ pub fn jilakkor_run(
     }
     let mut words = [0u64; words::STATE_WORDS];
     let mut running = Running {
-        map: no_map(),
-        count: 0,
+        gathered: Gathered {
+            map: no_map(),
+            count: 0,
+        },
         booted: false,
         counters: boot::started(0),
     };

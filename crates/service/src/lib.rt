@@ -27,7 +27,8 @@ ghost use Rattle.service.specs.Serving.{
 };
 
 use address::PhysAddr;
-use definition::{Counters, FrameAllocFlags, MemoryRegion, Refusal};
+use boot::Gathered;
+use definition::{Counters, FrameAllocFlags, Refusal};
 use exam::{Answer, Loans, Reply};
 use lines::Ask;
 
@@ -365,65 +366,54 @@ fn is_roomy(words: &[u64], answer: &[u64]) -> bool
 }
 
 // Refusals 1 to 5 where the words or the answer are too short.
-fn short_boot(map: [MemoryRegion; 8], count: usize, records: usize, memory: usize) -> Refusal
-    ensures { ShortBoots map count records memory result }
+fn short_boot(map: &Gathered, records: usize, memory: usize) -> Refusal
+    ensures { ShortBoots map.now.map map.now.count records memory result }
 {
-    match boot::admit_map(definition::standard(), map, count, records, memory) {
+    match boot::admit_map(definition::standard(), map, records, memory) {
         Ok(_) => Refusal::ShortLoan,
         Err(refusal) => refusal,
     }
 }
 
-// A map of `count` entries, of which `map` has the first eight. A boot reads nothing of the words and of the counters.
+// A boot reads nothing of the words and of the counters.
 pub fn serve_boot_with(
     counters: &mut Counters,
-    map: [MemoryRegion; 8],
-    count: usize,
+    map: &Gathered,
     words: &mut [u64],
     records: &mut [u8],
     memory: &[u8],
     queue: &[u64],
     answer: &mut [u64],
 ) -> Told
-    ensures { BootsWith map count counters.old
+    ensures { BootsWith map.now.map map.now.count counters.old
         (loans_of words.old records.old memory.now queue.now answer.old) counters.new
         (loans_of words.new records.new memory.now queue.now answer.new) (code result) }
 {
     if !is_roomy(words, answer) {
-        return Err(short_boot(map, count, records.len(), memory.len()));
+        return Err(short_boot(map, records.len(), memory.len()));
     }
     let board = definition::standard();
-    let y = boot::boot(board, counters, words, map, count, records, memory, queue);
+    let y = boot::boot(board, counters, words, map, records, memory, queue);
     tell(answer, y)
 }
 
 pub fn serve_boot(
-    map: [MemoryRegion; 8],
-    count: usize,
+    map: &Gathered,
     words: &mut [u64],
     records: &mut [u8],
     memory: &[u8],
     queue: &[u64],
     answer: &mut [u64],
 ) -> Told
-    ensures { Boots map count
+    ensures { Boots map.now.map map.now.count
         (loans_of words.old records.old memory.now queue.now answer.old)
         (loans_of words.new records.new memory.now queue.now answer.new) (code result) }
 {
     if words.len() < words::STATE_WORDS {
-        return Err(short_boot(map, count, records.len(), memory.len()));
+        return Err(short_boot(map, records.len(), memory.len()));
     }
     let mut counters = words::counters_in(words);
-    let told = serve_boot_with(
-        &mut counters,
-        map,
-        count,
-        words,
-        records,
-        memory,
-        queue,
-        answer,
-    );
+    let told = serve_boot_with(&mut counters, map, words, records, memory, queue, answer);
     words::put_counters(words, counters);
     told
 }

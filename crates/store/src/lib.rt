@@ -556,7 +556,7 @@ pub extern "C" fn jilakkor_boot(
         (loans_of words.new records.new memory.now queue.now answer.new) result }
 {
     let g = map::gather(map.len(), |i| region_of(map[i]));
-    code(service::serve_boot(g.map, g.count, words, records, memory, queue, answer))
+    code(service::serve_boot(&g, words, records, memory, queue, answer))
 }
 
 // ---- the lent counters
@@ -652,9 +652,7 @@ fn boot_numbers(
         return Err(Refusal::BadLine);
     }
     let g = map::gather(n.len() / 3, |i| region_of(entry_in(n, i)));
-    service::serve_boot_with(
-        counters, g.map, g.count, words, records, memory, queue, answer,
-    )
+    service::serve_boot_with(counters, &g, words, records, memory, queue, answer)
 }
 
 fn call(

@@ -13,10 +13,10 @@ use Rattle.boot.proofs.KeptRows.{all_booted, kept_front}
 use Rattle.boot.proofs.admit_map.Goals as goal
 use Rattle.boot.proofs.admit_map.Goals.{Else-any_far}
 
-pub returns-then-count-gt8 : goal.returns-then-count-gt8
-returns-then-count-gt8 c =
+pub returns-then-map-gt8 : goal.returns-then-map-gt8
+returns-then-map-gt8 c =
     record {
-      refusal = λ ms M. given_long M c.args.board c.args.records c.args.memory c.if-count-gt8.true;
+      refusal = λ ms M. given_long M c.args.board c.args.records c.args.memory c.if-map-gt8.true;
       kept = λ k e. absurd (let n : ◌≡◌ {A = ℕ} 0 1 = cc in omega arith);
     }
 
@@ -28,13 +28,13 @@ returns-then-any_far c =
       kept = λ k e. absurd (let n : ◌≡◌ {A = ℕ} 0 1 = cc in omega arith);
     }
 
-near : (c : Else-any_far) → any ends_far (take c.args.count c.args.map) ≡ false
+near : (c : Else-any_far) → any ends_far (take c.args.map.now.count c.args.map.now.map) ≡ false
 near c = sym c.any_far.ensures ∙ c.if-any_far.false
 
 pub admit_rows-requires-clause-booted : goal.admit_rows-requires-clause-booted
 admit_rows-requires-clause-booted c =
     let n = near (goal.at.admit_rows-requires-clause-booted c).Else-any_far in
-    let ms = take c.args.count c.args.map in
+    let ms = take c.args.map.now.count c.args.map.now.map in
     let k = c.kept_rows-kept in
     rw (kept_front c.requires ms n k.result k.ensures.keeps) (all_booted c.requires ms n)
 

@@ -10,7 +10,6 @@ use Rattle.record.specs.Records.{pages_in}
 use Rattle.audit.proofs.Used.{used_front}
 use Rattle.exam.specs.Promise.{state_with, world_of}
 use Rattle.boot.specs.Booting.{Mapped, Ready, eight}
-use Rattle.boot.proofs.KeptRows.{map_eight}
 use Rattle.boot.proofs.Refusing.{accepted_admitted, accepted_kept, accepted_ready, accepted_sheet, given_kept, given_near}
 use Rattle.boot.proofs.Leaving.{boots_done, boots_refused}
 use Rattle.boot.proofs.Writing.{boots_written, over_done, over_refused, written_laid, written_many, written_narrow, written_rows}
@@ -29,22 +28,22 @@ returns-in_err-rows c =
     }
 
 -- the array has eight
-long : (c : Start) → length c.args.map ≡ 8
-long c = map_eight c.args.map _ c.well_formed.1.1.1.0
+long : (c : Start) → length c.args.map.now.map ≡ 8
+long c = omega arith
 
 -- the rows that are kept
 ready : (c : In_ok-rows) → let k = c.in_ok-rows.field-0 in
     Ready c.args.board (take k.used k.rows) (pages_in c.args.records.now)
 ready c =
     let a = c.args in
-    accepted_ready c.requires.fit a.map a.count _ _ (long (goal.at.In_ok-rows c).Start) c.in_ok-rows.ensures c.in_ok-rows.field-0 refl
+    accepted_ready c.requires.fit _ _ _ _ (long (goal.at.In_ok-rows c).Start) c.in_ok-rows.ensures c.in_ok-rows.field-0 refl
 
 in_use : (c : In_ok-rows) → let k = c.in_ok-rows.field-0 in
     take k.used k.rows ≡ used_rows k.rows
 in_use c =
     let a = c.args in
     let k = c.in_ok-rows.field-0 in
-    let R = accepted_kept c.requires.fit a.map a.count _ _ (long (goal.at.In_ok-rows c).Start) c.in_ok-rows.ensures k refl in
+    let R = accepted_kept c.requires.fit _ _ _ _ (long (goal.at.In_ok-rows c).Start) c.in_ok-rows.ensures k refl in
     rw R.many (used_front k.rows)
 
 pub total_pages-pages-requires-clause-booted : goal.total_pages-pages-requires-clause-booted
@@ -69,16 +68,16 @@ returns-clause-boots_all c ms e f =
     let used = in_use (goal.at.returns-clause-boots_all c).In_ok-rows in
     let xs = c.lay_out.new.rows in
     let Y = c.lay_out.ensures in
-    let Y8 = written_laid c.requires.fit a.map a.count _ _ l E k refl xs Y in
-    let M : Mapped a.map a.count ms = record { long = e; front = f } in
-    rw (c.started.ensures, c.put_kept.ensures, written_rows c.requires.fit a.map a.count _ _ l E k refl xs Y)
-    (boots_written a.words.now (eight xs) c.requires.long (written_narrow c.requires.fit a.map a.count _ _ l E k refl xs Y) _
-    (written_many c.requires.fit a.map a.count _ _ l E k refl xs Y) Y8.unused c.total_pages-pages.result c.lay_out.new.records
+    let Y8 = written_laid c.requires.fit _ _ _ _ l E k refl xs Y in
+    let M : Mapped a.map.now.map a.map.now.count ms = record { long = e; front = f } in
+    rw (c.started.ensures, c.put_kept.ensures, written_rows c.requires.fit _ _ _ _ l E k refl xs Y)
+    (boots_written a.words.now (eight xs) c.requires.long (written_narrow c.requires.fit _ _ _ _ l E k refl xs Y) _
+    (written_many c.requires.fit _ _ _ _ l E k refl xs Y) Y8.unused c.total_pages-pages.result c.lay_out.new.records
     a.memory.now a.queue.now
     (boots_done (world_of (state_with a.counters.now a.words.now) a.records.now a.memory.now a.queue.now) k.rows (eight xs)
     c.lay_out.new.records
     c.total_pages-pages.result
-    (accepted_admitted c.requires.fit a.map a.count _ _ l E k refl)
+    (accepted_admitted c.requires.fit _ _ _ _ l E k refl)
     Y8
     c.lay_out.auto.records
     (λ i. search rules)
@@ -90,7 +89,7 @@ returns-clause-boots_all c ms e f =
     (given_kept M K.few k K.keeps)
     c.managed_pages-managed.result
     (rw used at c.managed_pages-managed.ensures.0)
-    (accepted_sheet c.requires.fit a.map a.count _ _ l E k refl ms M)))
+    (accepted_sheet c.requires.fit _ _ _ _ l E k refl ms M)))
 
 pub returns-clause-boots_over : goal.returns-clause-boots_over
 returns-clause-boots_over c =
@@ -100,7 +99,7 @@ returns-clause-boots_over c =
     let l = long (goal.at.returns-clause-boots_over c).Start in
     let xs = c.lay_out.new.rows in
     let Y = c.lay_out.ensures in
-    rw (c.put_kept.ensures, written_rows c.requires.fit a.map a.count _ _ l E k refl xs Y)
-    (over_done a.words.now (eight xs) c.requires.long (written_narrow c.requires.fit a.map a.count _ _ l E k refl xs Y) _
-    (written_many c.requires.fit a.map a.count _ _ l E k refl xs Y)
-    (written_laid c.requires.fit a.map a.count _ _ l E k refl xs Y).unused _)
+    rw (c.put_kept.ensures, written_rows c.requires.fit _ _ _ _ l E k refl xs Y)
+    (over_done a.words.now (eight xs) c.requires.long (written_narrow c.requires.fit _ _ _ _ l E k refl xs Y) _
+    (written_many c.requires.fit _ _ _ _ l E k refl xs Y)
+    (written_laid c.requires.fit _ _ _ _ l E k refl xs Y).unused _)

@@ -3,7 +3,7 @@ use mathlib.Core.Path.{refl, sym, ap, ◌∙◌}
 use lib.ListN.{take}
 use Rattle.std.proofs.Common.{rules}
 use Rattle.std.proofs.lemmas.List.{get_or_read}
-use Rattle.map.specs.declared.Gathered.{Gathered}
+use Rattle.boot.specs.declared.Gathered.{Gathered}
 use Rattle.map.specs.Lending.{no_region}
 use Rattle.map.proofs.Gathering.{gathered_front}
 use Rattle.map.proofs.boot_map.Goals as goal

@@ -6,7 +6,7 @@ use Prim.Native.Nat.{◌%◌}
 use borrow.Author.Tests.{eq-eqb, ne_eqb}
 use lib.ListN.{length, take}
 use Rattle.std.proofs.Common.{rules}
-use Rattle.map.specs.declared.Gathered.{Gathered}
+use Rattle.boot.specs.declared.Gathered.{Gathered}
 use Rattle.store.specs.Lending.{region_of, entry_in, entries_of}
 use Rattle.map.proofs.Gathering.{gathered_front}
 use Rattle.store.proofs.Gathering.{number_at, numbers_long}

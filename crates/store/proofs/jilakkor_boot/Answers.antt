@@ -4,7 +4,7 @@ use mathlib.Core.Path.{◌≡◌, sym, ap, ◌∙◌}
 use lib.ListN.{get_or, take, length-map}
 use Rattle.std.proofs.Common.{rules}
 use Rattle.std.proofs.lemmas.List.{get_or_read}
-use Rattle.map.specs.declared.Gathered.{Gathered}
+use Rattle.boot.specs.declared.Gathered.{Gathered}
 use Rattle.map.proofs.Gathering.{gathered_front}
 use Rattle.store.specs.Lending.{no_entry, region_of}
 use Rattle.store.proofs.Gathering.{entry_at}
