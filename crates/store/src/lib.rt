@@ -531,13 +531,15 @@ pub struct Entry {
     pub kind: u64,
 }
 
-fn region_of(entry: Entry) -> MemoryRegion
-    ensures { result ≡ region_of entry }
-{
-    MemoryRegion {
-        start: PhysAddr(entry.start),
-        length: entry.length as usize,
-        kind: MemoryRegionKind::from(entry.kind),
+impl From<Entry> for MemoryRegion {
+    ghost from_gives = { λ entry region. region ≡ region_of entry };
+
+    fn from(entry: Entry) -> MemoryRegion {
+        MemoryRegion {
+            start: PhysAddr(entry.start),
+            length: entry.length as usize,
+            kind: MemoryRegionKind::from(entry.kind),
+        }
     }
 }
 
@@ -555,7 +557,7 @@ pub extern "C" fn jilakkor_boot(
         (loans_of words.old records.old memory.now queue.now answer.old)
         (loans_of words.new records.new memory.now queue.now answer.new) result }
 {
-    let g = map::gather(map.len(), |i| region_of(map[i]));
+    let g = map::gather(map.len(), |i| MemoryRegion::from(map[i]));
     code(service::serve_boot(&g, words, records, memory, queue, answer))
 }
 
@@ -651,7 +653,7 @@ fn boot_numbers(
     if n.len() % 3 != 0 {
         return Err(Refusal::BadLine);
     }
-    let g = map::gather(n.len() / 3, |i| region_of(entry_in(n, i)));
+    let g = map::gather(n.len() / 3, |i| MemoryRegion::from(entry_in(n, i)));
     service::serve_boot_with(counters, &g, words, records, memory, queue, answer)
 }
 
