@@ -4,7 +4,7 @@
 ghost use Rattle.std.specs.Prelude.{◌≡◌, length};
 ghost use Rattle.program.specs.declared.InputError.TheVariants.{Failed};
 ghost use Rattle.program.specs.Once.{RanOnce, Below};
-ghost use Rattle.program.specs.Inputs.{Holds};
+ghost use Rattle.program.specs.Inputs.{Holds, Zeros};
 
 use std::error::Error;
 use std::io::Read;
@@ -71,7 +71,9 @@ pub fn run_once(script: &[u8], answer: &mut [u8]) -> Option<usize>
 
 // Zeros to read into or to write over. It is a function of its own so that a proof takes the length from its type: one that sees the
 // zeros themselves counts them.
-pub fn room_of<const N: usize>() -> [u8; N] {
+pub fn room_of<const N: usize>() -> [u8; N]
+    ensures { Zeros N result }
+{
     [0; N]
 }
 
