@@ -7,6 +7,7 @@ ghost use Rattle.std.specs.Prelude.{◌≡◌, length, replicate};
 ghost use Rattle.definition.specs.Calls.{Alloc, Find, Zero, Fill, Copy};
 ghost use Rattle.words.specs.Words.{board_in, Long, state_words};
 ghost use Rattle.exam.specs.Promise.{state_with, world_of, Leaves};
+ghost use Rattle.exam.specs.Lent.{world_lent};
 ghost use Rattle.exam.specs.Making.{world};
 ghost use Rattle.drivers.specs.Driving.{Drives, address_in, booted_world, grant_and_free, held, on_frame, plain, to_second, turn, turns};
 
@@ -128,6 +129,20 @@ pub extern "C" fn drivers_grants(
     times
 }
 
+// The finds of `drivers_finds`. The loans are made once and not at each turn, so that what a turn reads is known to be as before.
+fn find_all(loans: &Loans, address: u64, times: usize) -> usize
+    ensures { let l = loans.now in
+        Drives (turns (turn (Find address)) times 0 (world_lent l)) l.records.now l.memory.now result }
+{
+    let pa = PhysAddr::new(address);
+    for i in 0..times {
+        if door::find(loans, pa).is_err() {
+            return i;
+        }
+    }
+    times
+}
+
 // Finds the page of an address, up to `times` times.
 #[unsafe(no_mangle)]
 pub extern "C" fn drivers_finds(
@@ -146,20 +161,14 @@ pub extern "C" fn drivers_finds(
 {
     let mut words = [0u64; words::STATE_WORDS];
     let counters = booted(&mut words, records, memory, queue, start, bytes);
-    let pa = PhysAddr::new(address);
-    for i in 0..times {
-        let loans = Loans {
-            counters,
-            words: &words,
-            records,
-            memory,
-            queue,
-        };
-        if door::find(&loans, pa).is_err() {
-            return i;
-        }
-    }
-    times
+    let loans = Loans {
+        counters,
+        words: &words,
+        records,
+        memory,
+        queue,
+    };
+    find_all(&loans, address, times)
 }
 
 // ---- calls on contents, each with the torn test before it, as the library makes them
