@@ -129,7 +129,7 @@ pub extern "C" fn drivers_grants(
     times
 }
 
-// The finds of `drivers_finds`. The loans are made once and not at each turn, so that what a turn reads is known to be as before.
+// The finds of `drivers_finds`, on loans that are made once and not at each turn.
 fn find_all(loans: &Loans, address: u64, times: usize) -> usize
     ensures { let l = loans.now in
         Drives (turns (turn (Find address)) times 0 (world_lent l)) l.records.now l.memory.now result }
