@@ -3,4 +3,4 @@ use Rattle.std.proofs.lemmas.List.{get_or-replicate}
 use Rattle.program.proofs.room_of.Goals as goal
 
 pub returns : goal.returns
-returns _ c = record { zero = λ i h. get_or-replicate _ i 0 1 h; }
+returns _ c = record { zero = λ i h. get_or-replicate _ i 0 1 h }
