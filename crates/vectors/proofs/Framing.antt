@@ -18,7 +18,8 @@ use Rattle.record.specs.Records.{with_bytes}
 use Rattle.text.specs.Writing.{Wrote}
 use Rattle.vectors.specs.declared.Heading.{Heading}
 use Rattle.vectors.specs.declared.Places.{Places}
-use Rattle.vectors.specs.Framing.{headed, part, case_at, Spelt, Heads, Frames}
+use Rattle.vectors.specs.declared.Tally.{Tally}
+use Rattle.vectors.specs.Framing.{headed, tallied, part, case_at, Spelt, Heads, Frames}
 
 pub spelt : {out text out' : List ℕ} {r : ℕ} → Wrote out 0 text out' r → r ≤ length out → Spelt text out' r
 unfolding with_bytes
@@ -33,6 +34,11 @@ spelt {out} {text} {out'} {r} w h =
 
 pub as_headed : (name : List ℕ) (n : ℕ) → (name ++ digits_of n) ++ bytes_of "\n" ≡ headed name n
 as_headed name n = append_assoc name (digits_of n) (bytes_of "\n")
+
+pub as_tallied : (t : Tally)
+    → ((digits_of t.scripts ++ (bytes_of " scripts, " ++ digits_of t.lines)) ++ (bytes_of " lines, " ++ digits_of t.differ)) ++ bytes_of " differ\n"
+    ≡ tallied t
+as_tallied t = simp append_assoc
 
 -- ---- parts of the file
 

@@ -1,3 +1,2 @@
 pub mod Framing
-pub mod Printed
 pub mod Counting

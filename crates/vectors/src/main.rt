@@ -9,7 +9,7 @@ ghost use Rattle.std.specs.Io.KnownBytes.{Appends};
 ghost use Rattle.definition.specs.Basics.{bit};
 ghost use Rattle.definition.specs.Script.{room, same_bytes};
 ghost use Rattle.program.specs.Once.{printed};
-ghost use Rattle.vectors.specs.Framing.{headed, told, Spelt, Heads, Frames, Seen, Replayed, counted as counted_def};
+ghost use Rattle.vectors.specs.Framing.{headed, tallied, told, Spelt, Heads, Frames, Seen, Replayed, counted as counted_def};
 
 use anyhow::{Context, Result};
 use program::InputError;
@@ -40,7 +40,9 @@ fn number_at(file: &[u8], at: usize) -> u64
     ensures { result < 1000000000 }
 {
     let mut v: u64 = 0;
-    for b in file.iter().skip(at) {
+    // By the place: an iterator would step to `at` over all that lies before it.
+    for i in at..file.len() {
+        let b = file[i];
         if !b.is_ascii_digit() || v >= 100000000 {
             break;
         }
@@ -156,25 +158,15 @@ struct Tally {
     differ: u64,
 }
 
-impl fmt::Display for Tally {
-    ghost output = { λ t. Some (decimal t.scripts
-        ++ (codes " scripts, " ++ (decimal t.lines ++ (codes " lines, " ++ (decimal t.differ ++ codes " differ"))))) };
-
-    fn fmt<W: fmt::Write>(&self, f: &mut fmt::Formatter<W>) -> fmt::Result {
-        write!(
-            f,
-            "{} scripts, {} lines, {} differ",
-            self.scripts, self.lines, self.differ
-        )
-    }
-}
-
-// A line of a name and a number.
-#[tactic(auto, using(crate::proofs::Printed::decimal_digits), unfolding(definition::specs::Text::bytes_of))]
-fn say<W: Write>(out: &mut W, name: &str, n: u64) -> io::Result<()>
+// A line of a name and a number, in one write: `writeln!` would make one of each part, and a writer that fails between two would be left
+// with a piece of the line.
+fn say<W: Write>(out: &mut W, name: &[u8], n: u64) -> io::Result<()>
+    requires { length name.now ≤ 40 }
     ensures { OnOk result (Appends (W.contents out.old) (W.contents out.new) (headed name.now n)) }
 {
-    writeln!(out, "{name}{n}")
+    let mut line = [0u8; 64];
+    let k = put_heading(&mut line, name, n);
+    out.write_all(&line[..k])
 }
 
 // Where a replay says what it finds: a writer, and standard error for where that can't be written.
@@ -200,7 +192,7 @@ impl<P: Eprint, W: Write> Console<'_, P, W> {
             return before;
         }
         if before < 10 {
-            if let Err(error) = say(self.out, "differs at script ", script) {
+            if let Err(error) = say(self.out, b"differs at script ", script) {
                 self.complain(&error);
             }
         }
@@ -261,13 +253,32 @@ fn replay<P: Eprint, W: Write>(
 
 // ---- the program
 
-#[tactic(auto, using(crate::proofs::Printed::spelling), unfolding(definition::specs::Text::bytes_of))]
+fn put_tally(line: &mut [u8], t: Tally) -> usize
+    requires { 128 ≤ length line.old }
+    ensures { Spelt (tallied t) line.new result }
+{
+    let k = text::put_number(line, 0, t.scripts);
+    let k = text::put_named(line, k, b" scripts, ", t.lines);
+    let k = text::put_named(line, k, b" lines, ", t.differ);
+    text::put_text(line, k, b" differ\n")
+}
+
+// The count, in one write, as `say` writes a line.
+fn report_count<W: Write>(out: &mut W, t: Tally) -> io::Result<()>
+    ensures { OnOk result (Appends (W.contents out.old) (W.contents out.new) (tallied t)) }
+{
+    let mut line = [0u8; 128];
+    let k = put_tally(&mut line, t);
+    out.write_all(&line[..k])
+}
+
+#[tactic(auto, unfolding(definition::specs::Text::bytes_of))]
 fn report<W: Write>(out: &mut W, replayed: Result<Tally, BadFraming>) -> io::Result<()>
     ensures { OnOk result (Appends (W.contents out.old) (W.contents out.new) (told replayed)) }
 {
     match replayed {
-        Ok(t) => writeln!(out, "{t}"),
-        Err(e) => writeln!(out, "{e}"),
+        Ok(t) => report_count(out, t),
+        Err(e) => say(out, b"bad framing at byte ", e.at as u64),
     }
 }
 

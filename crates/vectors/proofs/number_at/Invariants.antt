@@ -2,5 +2,5 @@
 use Rattle.std.proofs.Common.{◌<◌}
 use Rattle.vectors.proofs.number_at.Given as goal
 
-abbrev pub invariant-loop-b : goal.invariant-loop-b
-invariant-loop-b l = l.v < 1000000000
+abbrev pub invariant-loop-i : goal.invariant-loop-i
+invariant-loop-i l = l.v < 1000000000
