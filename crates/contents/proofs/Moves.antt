@@ -1,15 +1,15 @@
--- `with_bytes` as what is left of a slice that was cut in two, with one side written in the other, and of one that had `copy_within`.
+-- `with_bytes` as what is left of a slice that was cut in two, with one side written in the other.
 use Prim.Native.Nat.{ℕ, ◌+◌, ◌-◌, ◌≤◌}
 use mathlib.Core.List.{List, ◌++◌, append_assoc}
 use mathlib.Core.Path.{◌≡◌, refl, sym, ap, ◌∙◌}
 use native.Mathlib.Omega.{arith}
 use native.Mathlib.Nat.{zero-add}
 use lib.ListN.{length, take, drop, length-take, length-drop}
-use lib.Seq.{paste, take-add, length-take-le, take-take, drop-append-le, drop-drop}
+use lib.Seq.{take-add, length-take-le, take-take, drop-append-le, drop-drop}
 use Rattle.std.proofs.lemmas.List.{take-append-drop, drop-take}
 use Rattle.record.specs.Records.{with_bytes}
 
-part_length : (m : List ℕ) (from n : ℕ) → from + n ≤ length m → length (take n (drop from m)) ≡ n
+pub part_length : (m : List ℕ) (from n : ℕ) → from + n ≤ length m → length (take n (drop from m)) ≡ n
 part_length m from n h = simp (length-take, length-drop) (omega arith)
 
 -- bytes written where they are
@@ -42,9 +42,3 @@ module _ (m : List ℕ) (to from n : ℕ) where
       let x : take n (drop from (take to m)) ≡ xs =
       (rw r at (ap (take n) (drop-take from (to - from) m))) ∙ take-take n (to - from) (drop from m) (omega arith) in
       rw (q, x, e, zero-add n, drop-drop n to m, append_assoc (take to m) xs (drop (to + n) m)) refl
-
-  pub within_written : from + n ≤ length m → paste m to (drop from m) (from + n - from) ≡ with_bytes m to (take n (drop from m))
-  unfolding with_bytes
-  within_written h =
-      let q : from + n - from ≡ n = omega arith in
-      rw (q, part_length m from n h) refl
