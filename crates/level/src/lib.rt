@@ -31,6 +31,13 @@ impl Level {
 
     pub const HUGE_PAGES: usize = 262144;
 
+    // Its alignment is its size: in pages that of its page frame number, in bytes that of its address.
+    pub const SMALL_ALIGN: usize = Level::SMALL_PAGES;
+
+    pub const LARGE_ALIGN: usize = Level::LARGE_PAGES;
+
+    pub const HUGE_ALIGN: usize = Level::HUGE_PAGES;
+
     // A level's number, which stands in a record.
     pub fn index(self) -> usize
         ensures { result ≡ rank self }
@@ -60,11 +67,15 @@ impl Level {
         }
     }
 
-    // Its alignment is its size: in pages that of its page frame number, in bytes that of its address.
+    // The alignment of its page frame number.
     pub fn align(self) -> usize
         ensures { result ≡ pages_of (rank self) }
     {
-        self.pages()
+        match self {
+            Level::Small => Level::SMALL_ALIGN,
+            Level::Large => Level::LARGE_ALIGN,
+            Level::Huge => Level::HUGE_ALIGN,
+        }
     }
 
     // The bytes of a frame.
