@@ -172,12 +172,12 @@ pub fn read_place(loans: &Loans, pa: PhysAddr, offset: u64, len: u64) -> Result<
 
 // 01, "Added `read`": the part of the lent memory that starts at the frame's offset.
 #[tactic(auto, using(crate::proofs::Reporting::lends_part))]
-pub fn try_read<'a>(
-    loans: &Loans<'a>,
+pub fn try_read<'m>(
+    loans: &Loans<'_, 'm>,
     pa: PhysAddr,
     offset: u64,
     len: u64,
-) -> Result<&'a [u8], Refusal>
+) -> Result<&'m [u8], Refusal>
     ensures { LendsIf (board_in loans.now.words.now) (world_lent loans.now) (Read pa.0 offset len) (lent result) }
 {
     let at = read_place(loans, pa, offset, len)?;
@@ -186,12 +186,12 @@ pub fn try_read<'a>(
 
 // The same for callers that need not know the refusal: the empty part where there is one.
 #[tactic(auto, using(crate::proofs::Reporting::lends_all, crate::proofs::Reporting::lends_none))]
-pub fn read<'a>(loans: &Loans<'a>, pa: PhysAddr, offset: u64, len: u64) -> &'a [u8]
+pub fn read<'m>(loans: &Loans<'_, 'm>, pa: PhysAddr, offset: u64, len: u64) -> &'m [u8]
     ensures { Lends (board_in loans.now.words.now) (world_lent loans.now) (Read pa.0 offset len) result.now }
 {
     match try_read(loans, pa, offset, len) {
         Ok(part) => part,
-        Err(_) => &[],
+        Err(_) => contents::part(loans.memory, 0, 0),
     }
 }
 
