@@ -181,10 +181,9 @@ impl<'a> Region<'a> {
 
     // "each list walks front to back in its count, both ways, over unheld frames of its region, level and mark". From both ends at once:
     // where the nodes are scattered, each step waits for memory, and the two chains of steps wait side by side. It comes after the scan: as
-    // no page then has a mark bit but those named, marks and level are compared as one number. It stays out of line: else the test of an
-    // empty list goes out of line with it.
+    // no page then has a mark bit but those named, marks and level are compared as one number.
     #[tactic(auto, using(crate::proofs::Marks::page_within))]
-    #[inline(never)]
+    #[inline(always)]
     fn walk(&self, k: usize, links: Links) -> bool
         requires list { k < 6 }
         requires marked { Marked (record_at self.now.records.now) self.now.base self.now.past }
@@ -227,6 +226,24 @@ impl<'a> Region<'a> {
     }
 }
 
+// The walk out of line: else the test of an empty list goes out of line with it. It is lent a slice and not a region, so that all that an
+// audit reads it reads through what it was lent: of audits in a loop that writes none of it the compiler makes one.
+#[inline(never)]
+fn walk_of(records: &[u8], from: usize, base: usize, past: usize, k: usize, links: Links) -> bool
+    requires list { k < 6 }
+    requires base_le_past { (base ≤ past) × (past ≤ pages_in records.now) × (from + (past - base) < 2 ^ 64) }
+    requires marked { Marked (record_at records.now) base past }
+    ensures { result ≡ walks_at (record_at records.now) base past k links.count 0 links.front links.back }
+{
+    let region = Region {
+        records,
+        from,
+        base,
+        past,
+    };
+    region.walk(k, links)
+}
+
 // The lists of a row in use, and its region, no page of which has a mark bit but those named.
 #[derive(Clone, Copy)]
 struct Lists<'a> {
@@ -245,7 +262,16 @@ impl<'a> Lists<'a> {
             result ≡ list_at (record_at r.records.now) r.base r.past (row_of (rows_in self.now.words.now) self.now.i).lists k }
     {
         let links = words::list_at(self.words, self.i, k);
-        links == EMPTY || self.region.walk(k, links)
+        let region = *self.region;
+        links == EMPTY
+            || walk_of(
+                region.records,
+                region.from,
+                region.base,
+                region.past,
+                k,
+                links,
+            )
     }
 
     // Whether both lists of a level walk. Where both are empty, they are told together.
