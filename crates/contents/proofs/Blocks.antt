@@ -1,12 +1,12 @@
 -- Laws of `with_bytes` where a part of a list is moved within it block by block: to a lower place from its front, to a higher place from
 -- its end; and that a block put at the front of another list is read there.
-use Prim.Native.Nat.{ℕ, zero, suc, ◌+◌, ◌-◌, ◌≤◌}
-use mathlib.Core.List.{List, [], ◌∷◌, ◌++◌, append_assoc}
+use Prim.Native.Nat.{ℕ, ◌+◌, ◌-◌, ◌≤◌}
+use mathlib.Core.List.{List, ◌++◌, append_assoc}
 use mathlib.Core.Path.{◌≡◌, refl, sym, ap, ◌∙◌}
 use native.Mathlib.Omega.{arith}
-use native.Mathlib.Nat.{zero-add, suc-add}
 use lib.ListN.{length, take, drop, length-append, length-take}
-use lib.Seq.{take-nil, take_at, drop_at, drop-drop, take-take, take-add, take-append-le, length-take-le}
+use lib.Seq.{take_at, drop_at, drop-drop, take-take, take-add, take-append-le, length-take-le}
+use Rattle.std.proofs.lemmas.List.{drop-take}
 use Rattle.record.specs.Records.{with_bytes}
 use Rattle.record.proofs.Bytes.{with_then}
 use Rattle.contents.proofs.Moves.{part_length}
@@ -67,16 +67,11 @@ with_before : (bs : List ℕ) (at : ℕ) (xs ys : List ℕ) → at + length xs +
 with_before bs at xs ys h =
     glue (with_bytes bs (at + length xs) ys) bs at xs ys (with_front bs (at + length xs) ys h at (omega arith)) (behind bs (at + length xs) ys h)
 
-cut : (f k : ℕ) (m : List ℕ) → drop f (take (f + k) m) ≡ take k (drop f m)
-cut zero k m = rw (zero-add k) refl
-cut (suc f) k [] = rw (suc-add f k, take-nil k) refl
-cut (suc f) k (x ∷ m) = rw (suc-add f k) (cut f k m)
-
 -- a part depends on what lies up to its end
 part_same : (m m' : List ℕ) (n f k : ℕ) → take n m ≡ take n m' → f + k ≤ n → take k (drop f m) ≡ take k (drop f m')
 part_same m m' n f k e h =
     let t : take (f + k) m ≡ take (f + k) m' = sym (take-take (f + k) n m h) ∙ ap (take (f + k)) e ∙ take-take (f + k) n m' h in
-    sym (cut f k m) ∙ ap (drop f) t ∙ cut f k m'
+    sym (drop-take f k m) ∙ ap (drop f) t ∙ drop-take f k m'
 
 -- ---- a part of the list itself, moved block by block
 
